@@ -79,7 +79,7 @@ use Rattle.call_state.specs.declared.told.Told.{Told}
 use Rattle.call_state.specs.declared.told.Told.TheVariants as told
 use Rattle.call_state.specs.Told.{IsCounted}
 use Rattle.call_state.specs.Asked.{HoldsTicket, Submitted, queued_by, request_of}
-use Rattle.call_state.specs.Calls.{Cancels, IsGrantOf, IsHeld, IsHeldAt, IsNotOf, IsUnderWay, KeepsOtherTickets, cancelled, is_ended, CallValue}
+use Rattle.call_state.specs.Calls.{CancelsAwaited, IsGrantOf, IsHeld, IsHeldAt, IsNotOf, IsUnderWay, KeepsOtherTickets, cancelled, is_ended, CallValue}
 use Rattle.call_state.specs.Runners.{Meaning}
 use Rattle.call_state.specs.Keeping.{IsDropped, KeepsHeld, KeepsGrants, StaysOpen}
 
@@ -297,7 +297,7 @@ granted_ticket (Some (Waiting expected sent wanted)) h u e counted = cc
 granted_ticket (Some (Answered expected r)) h u e counted = cc
 granted_ticket None h u e counted = cc
 
-ticket_apart : (core : Core) (ticket id : ℕ) (handle : List ℕ) (users : ℕ) → IsTrue (is_ticket (at core ticket))
+pub ticket_apart : (core : Core) (ticket id : ℕ) (handle : List ℕ) (users : ℕ) → IsTrue (is_ticket (at core ticket))
     → at core id ≡ Some (Granted handle users) → id ≢ ticket
 ticket_apart core ticket id handle users counted here same =
     granted_ticket (at core ticket) handle users (ap (λ (q : ℕ). at core q) (sym same) ∙ here) counted
@@ -456,16 +456,16 @@ ended_idle (Asked other) over ticket same = cc
 ended_idle (Came t) over ticket same = cc
 
 -- a poll of a ticket, and then what keeps others apart
-pub polled_others : (old mid new : Core) (ticket : ℕ) (before after : Stage) → before ≡ Asked ticket → mid ≡ after_poll old ticket
-    → KeepsOtherTickets mid new Ended after → KeepsOtherTickets old new before after
-polled_others old mid new ticket before after is core k other kind apart held =
+pub polled_others : (old mid new : Core) (ticket : ℕ) (before between after : Stage) → before ≡ Asked ticket → mid ≡ after_poll old ticket
+    → ((n : ℕ) → IsNotOf between n) → KeepsOtherTickets mid new between after → KeepsOtherTickets old new before after
+polled_others old mid new ticket before between after is core none k other kind apart held =
     let elsewhere : other ≢ ticket = λ same. apart (is ∙ ap Asked (sym same)) in
     let here : HoldsTicket mid other kind = subst (λ (x : Core). HoldsTicket x other kind) (sym core) (polled_on old ticket other kind elsewhere held) in
-    k other kind (λ same. cc) here
+    k other kind (none other) here
 
 -- a cancel leaves every grant but the one that came
 pub cancels_by : (old new : Core) (stage : Stage) → ((ticket : ℕ) → stage ≡ Asked ticket → IsTrue (is_ticket (at old ticket)))
-    → ((t : Told) → stage ≡ Came t → IsCounted old t) → new ≡ cancelled old stage → Cancels old new stage
+    → ((t : Told) → stage ≡ Came t → IsCounted old t) → new ≡ cancelled old stage → CancelsAwaited old new stage
 cancels_by old new stage asked counted is =
     record {
       core = is;

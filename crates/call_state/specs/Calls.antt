@@ -1,14 +1,17 @@
 -- The state of a call under way, whatever the call, and what a start and a poll make of it by the call's plan.
-use Rattle.std.specs.Prelude.{◌≡◌, ◌⊎◌, ℕ, Bool, true, false, List, [], Option, Some, None, Result, Ok, Err}
+use Rattle.std.specs.Prelude.{◌≡◌, ◌≢◌, ◌⊎◌, ℕ, Bool, true, false, List, [], Option, Some, None, Result, Ok, Err}
 use Rattle.sftp_model.specs.Answers.{allows}
 use Rattle.sftp_model.specs.declared.answers.Expected.{Expected}
 use Rattle.sftp_model.specs.declared.error.Error.{Error}
 use Rattle.sftp_model.specs.declared.error.Error.TheVariants as error
+use Rattle.sftp_model.specs.declared.reply.Reply.{Reply}
+use Rattle.sftp_model.specs.declared.reply.Reply.TheVariants as reply
 use Rattle.sftp_model.specs.declared.slot.Move.{Move}
 use Rattle.sftp_model.specs.declared.slot.Move.TheVariants.{Ask, Done, Wait}
 use Rattle.plan_model.specs.Moves.{Answers, Own, Plan}
 use Rattle.sftp_core.specs.declared.place.Place.TheVariants.{Granted}
 use Rattle.sftp_core.specs.Core.{Core, abandoned, after_poll, at, released, reply_in}
+use Rattle.sftp_core.specs.Grant.{GrantValue}
 use Rattle.call_state.specs.declared.asking.Asking.{Asking}
 use Rattle.call_state.specs.declared.poll.Poll.{Poll}
 use Rattle.call_state.specs.declared.poll.Poll.TheVariants as poll
@@ -19,7 +22,7 @@ use Rattle.call_state.specs.declared.told.Told.TheVariants as told
 use Rattle.call_state.specs.Asked.{HoldsTicket, IsReady, Submitted}
 use Rattle.call_state.specs.Keeping.{KeepsHeld, KeepsGrants, StaysOpen}
 use Rattle.call_state.specs.Runners.{GoesBehind, MayAsk, Meaning}
-use Rattle.call_state.specs.Told.{IsCounted, IsFormed, reply_of}
+use Rattle.call_state.specs.Told.{IsCounted, IsFormed, grant_in, reply_of}
 
 -- ---- a state
 
@@ -71,8 +74,8 @@ TellsAt s core m (Asked ticket) answers = answers (s.place m) ≡ reply_in (at c
 TellsAt s core m (Came t) answers = answers (s.place m) ≡ Some (reply_of t)
 TellsAt s core m other answers = Unit {0}
 
-abbrev pub Tells : {W M V : Type 0} → Meaning W M V → Core → CallValue M → Answers → Type 0
-Tells s core call answers = TellsAt s core call.runner call.stage answers
+abbrev pub TellsReply : {W M V : Type 0} → Meaning W M V → Core → CallValue M → Answers → Type 0
+TellsReply s core call answers = TellsAt s core call.runner call.stage answers
 
 -- ---- a start and a poll
 
@@ -82,7 +85,7 @@ polled_core core (Asked ticket) = after_poll core ticket
 polled_core core other = core
 
 -- the plan waits for a reply that is missing, and nothing changed
-pub record Waits {W M V : Type 0} (s : Meaning W M V) (plan : Plan) (answers : Answers) (old new : Core)
+pub record WaitsForReply {W M V : Type 0} (s : Meaning W M V) (plan : Plan) (answers : Answers) (old new : Core)
     (p q : CallValue M) (result : Poll (Result V Error)) : Type 0 where
   pub pending : result ≡ poll.Pending
   pub waits : plan [] answers ≡ Wait (s.place p.runner)
@@ -108,20 +111,20 @@ IsUnfinished (Done o site) = ⊥
 
 -- What came of a move of the plan: the request that it asks, or the value with which it ends. After want of memory the
 -- call may be polled again, and goes on with the same move.
-abbrev pub Went : {W M V : Type 0} → Meaning W M V → W → Plan → Answers → Core → Core → CallValue M
+abbrev pub MovesByPlan : {W M V : Type 0} → Meaning W M V → W → Plan → Answers → Core → Core → CallValue M
     → Poll (Result V Error) → Type 0
-Went s w plan answers old new q poll.Pending = AsksAndAwaits s w plan answers old new q
-Went s w plan answers old new q (poll.Ready (Err error.OutOfMemory)) = IsLeft s w plan answers q × (new ≡ old)
-Went s w plan answers old new q (poll.Ready (Err (error.BackgroundTaskFailure fault))) = (old.fault ≡ Some fault)
-    × (is_ended q.stage ≡ true) × IsUnfinished (plan [] answers)
-Went s w plan answers old new q (poll.Ready value) = (plan [] answers ≡ s.ended w q.runner value)
+MovesByPlan s w plan answers old new q poll.Pending = AsksAndAwaits s w plan answers old new q
+MovesByPlan s w plan answers old new q (poll.Ready (Err error.OutOfMemory)) = IsLeft s w plan answers q × (new ≡ old)
+MovesByPlan s w plan answers old new q (poll.Ready (Err (error.BackgroundTaskFailure fault))) = (old.fault ≡ Some fault)
+    × (is_ended q.stage ≡ true) × IsUnfinished (plan [] answers) × (new ≡ old)
+MovesByPlan s w plan answers old new q (poll.Ready value) = (plan [] answers ≡ s.ended w q.runner value)
     × (is_ended q.stage ≡ true) × (new ≡ old)
 
 -- what a poll answered, by the next move of the plan
 abbrev pub Polled : {W M V : Type 0} → Meaning W M V → W → Plan → Answers → Core → Core → CallValue M → CallValue M
     → Poll (Result V Error) → Type 0
-Polled s w plan answers old new p q result = Waits s plan answers old new p q result
-    ⊎ Went s w plan answers (polled_core old p.stage) new q result
+Polled s w plan answers old new p q result = WaitsForReply s plan answers old new p q result
+    ⊎ MovesByPlan s w plan answers (polled_core old p.stage) new q result
 
 -- What a start answered, by the first move of the plan: a call that awaits its request or has its value, or a refusal,
 -- of which the core stays as it was.
@@ -134,10 +137,50 @@ Started s w refused plan answers old new (Err (error.BackgroundTaskFailure fault
     × (new ≡ old) × IsUnfinished (plan [] answers)
 Started s w refused plan answers old new (Err e) = (plan [] answers ≡ refused e) × (new ≡ old)
 
--- what a core holds for the value that a poll gave, if it gave one
+-- the core counts one user of the grant, if there is one
+abbrev pub CountsGrant : Core → Option GrantValue → Type 0
+CountsGrant core None = Unit {0}
+CountsGrant core (Some g) = at core g.id ≡ Some (Granted g.handle 1)
+
+-- so it does of the grant of the value that a poll gave, if it gave one
 abbrev pub HoldsReady : {W M V : Type 0} → Meaning W M V → Core → Poll (Result V Error) → Type 0
-HoldsReady s core (poll.Ready (Ok value)) = s.holds core value
+HoldsReady s core (poll.Ready (Ok value)) = CountsGrant core (s.grant value)
 HoldsReady s core other = Unit {0}
+
+-- ---- the grant of a call
+
+-- the grant that the reply to a ticket brings: it has the ticket's number and the handle of the HANDLE
+abbrev pub grant_by : ℕ → Option Reply → Option GrantValue
+grant_by ticket (Some (reply.Handle handle)) = Some (record { id = ticket; handle = handle })
+grant_by ticket other = None
+
+-- the grant that came for a call: by the reply to its ticket, or told to the call
+abbrev pub grant_brought : Core → Stage → Option GrantValue
+grant_brought core (Asked ticket) = grant_by ticket (reply_in (at core ticket))
+grant_brought core (Came t) = grant_in t
+grant_brought core other = None
+
+-- where it is once the call was polled: the value's, or the call has it still
+abbrev pub grant_after : {W M V : Type 0} → Meaning W M V → Core → Stage → Poll (Result V Error) → Option GrantValue
+grant_after s core stage (poll.Ready (Ok value)) = s.grant value
+grant_after s core stage other = grant_brought core stage
+
+-- the call has this grant, which no file has yet
+abbrev pub IsGrantOf : Stage → ℕ → Type 0
+IsGrantOf (Came (told.Granted g)) id = g.id ≡ id
+IsGrantOf other id = ⊥
+
+-- the number is none of the call's: not of the ticket that it awaits, nor of the grant that it has
+abbrev pub IsNoneOfCall : Stage → ℕ → Type 0
+IsNoneOfCall (Asked ticket) id = id ≢ ticket
+IsNoneOfCall (Came (told.Granted g)) id = id ≢ g.id
+IsNoneOfCall other id = Unit {0}
+
+-- each grant stays but one that the call had
+abbrev pub KeepsGrantsOfOthers : Core → Core → Stage → Type 0
+KeepsGrantsOfOthers old new stage = (id : ℕ) (handle : List ℕ) (users : ℕ) → (IsGrantOf stage id → ⊥)
+    → at old id ≡ Some (Granted handle users)
+    → at new id ≡ Some (Granted handle users)
 
 -- ---- what a call of each function needs and did
 
@@ -196,27 +239,30 @@ KeepsOtherTickets old new before after = (ticket : ℕ) (kind : Expected) → Is
     → HoldsTicket old ticket kind
     → HoldsTicket new ticket kind × IsNotOf after ticket
 
--- what going on with a runner leaves, whatever the plan
-pub record LeavesCall {W M V : Type 0} (s : Meaning W M V) (old new : Core) (q : CallValue M)
+-- what going on from a stage with a runner leaves, whatever the plan
+pub record LeavesCall {W M V : Type 0} (s : Meaning W M V) (old new : Core) (before : Stage) (q : CallValue M)
     (result : Poll (Result V Error)) : Type 0 where
   pub held : IsHeld s new q
   pub over : IsOver q.stage result
   pub awaits : AwaitsReply new q.stage result
   pub holds : HoldsReady s new result
+  pub brings : grant_after s new q.stage result ≡ grant_brought old before
   pub keeps : KeepsHeld old new
-  pub others : KeepsOtherTickets old new Ended q.stage
+  pub others : KeepsOtherTickets old new before q.stage
 
 -- A poll did the next move of each plan that the call is what is left of, whatever its replies to come. The call may be
--- polled on or given up, and awaits a reply where it has no answer; its runner stays what it was, the core holds what
--- belongs to the value, every grant stays, what others await, and the session open.
+-- polled on or given up, and awaits a reply where it has no answer; its runner stays what it was. The grant that came by
+-- the reply to its ticket is the value's, or the call has it still, and the core counts it. Every grant stays, what
+-- others await, and the session open.
 pub record Stepped {W M V : Type 0} (s : Meaning W M V) (old new : Core) (p q : CallValue M)
     (result : Poll (Result V Error)) : Type 0 where
-  pub polled : (w : W) (plan : Plan) (answers : Answers) → IsLeft s w plan answers p → Tells s old p answers
+  pub polled : (w : W) (plan : Plan) (answers : Answers) → IsLeft s w plan answers p → TellsReply s old p answers
       → Polled s w plan answers old new p q result
   pub held : IsHeld s new q
   pub over : IsOver q.stage result
   pub awaits : AwaitsReply new q.stage result
   pub holds : HoldsReady s new result
+  pub brings : grant_after s new q.stage result ≡ grant_brought old p.stage
   pub grants : KeepsGrants old new
   pub others : KeepsOtherTickets old new p.stage q.stage
   pub stays : s.stays p.runner q.runner
@@ -234,16 +280,10 @@ cancelled core (Asked ticket) = abandoned core ticket
 cancelled core (Came t) = dropped core t
 cancelled core other = core
 
--- the grant that came, and that no file has yet
-abbrev pub IsGrantOf : Stage → ℕ → Type 0
-IsGrantOf (Came (told.Granted g)) id = g.id ≡ id
-IsGrantOf other id = ⊥
-
 -- what a cancel did; every other grant stays, what others await, and the session open
-pub record Cancels (old new : Core) (stage : Stage) : Type 0 where
+pub record CancelsAwaited (old new : Core) (stage : Stage) : Type 0 where
   pub core : new ≡ cancelled old stage
-  pub grants : (id : ℕ) (handle : List ℕ) (users : ℕ) → (IsGrantOf stage id → ⊥)
-      → at old id ≡ Some (Granted handle users) → at new id ≡ Some (Granted handle users)
+  pub grants : KeepsGrantsOfOthers old new stage
   pub opened : StaysOpen old new
   pub others : (ticket : ℕ) (kind : Expected) → IsNotOf stage ticket → HoldsTicket old ticket kind
       → HoldsTicket new ticket kind

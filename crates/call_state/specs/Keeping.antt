@@ -22,6 +22,15 @@ pub record KeepsHeld (old new : Core) : Type 0 where
   pub holds : (ticket : ℕ) (kind : Expected) → HoldsTicket old ticket kind → HoldsTicket new ticket kind
   pub grants : KeepsGrants old new
 
+-- What others have in a core stays: each grant and each ticket under a number of theirs, which is theirs still, and the
+-- session open.
+pub record SparesOthers (old new : Core) (IsTheirs StaysTheirs : ℕ → Type 0) : Type 0 where
+  pub grants : (id : ℕ) (handle : List ℕ) (users : ℕ) → IsTheirs id → at old id ≡ Some (Granted handle users)
+      → (at new id ≡ Some (Granted handle users)) × StaysTheirs id
+  pub tickets : (ticket : ℕ) (kind : Expected) → IsTheirs ticket → HoldsTicket old ticket kind
+      → HoldsTicket new ticket kind × StaysTheirs ticket
+  pub opened : StaysOpen old new
+
 -- the reply to this request counts for nothing
 abbrev pub IsDropped : Option Place → Expected → Type 0
 IsDropped (Some (Waiting kind sent wanted)) expected = (kind ≡ expected) × (wanted ≡ false)

@@ -1,5 +1,5 @@
 -- How a runner goes on, by what is left of its call's plan.
-use Rattle.std.specs.Prelude.{◌≡◌, ℕ, Bool, true, false, [], ◌∷◌, Result, Ok, Err}
+use Rattle.std.specs.Prelude.{◌≡◌, ℕ, Bool, true, false, [], ◌∷◌, Option, None, Result, Ok, Err}
 use Rattle.sftp_model.specs.Answers.{expected_of}
 use Rattle.sftp_model.specs.declared.answers.Expected.{Expected}
 use Rattle.sftp_model.specs.declared.error.Error.{Error}
@@ -8,11 +8,14 @@ use Rattle.sftp_model.specs.declared.slot.Move.{Move}
 use Rattle.sftp_model.specs.declared.slot.Move.TheVariants.{Ask}
 use Rattle.plan_model.specs.Moves.{Answers, Own, Plan}
 use Rattle.sftp_model.specs.Frames.{is_too_long}
-use Rattle.sftp_core.specs.Core.{Core, is_call}
+use Rattle.sftp_core.specs.Core.{is_call}
+use Rattle.sftp_core.specs.Grant.{GrantValue}
 use Rattle.call_state.specs.declared.asking.Asking.{Asking}
 use Rattle.call_state.specs.declared.runner.Then.{Then}
 use Rattle.call_state.specs.declared.runner.Then.TheVariants as then
 use Rattle.call_state.specs.Asked.{request_of}
+use Rattle.call_state.specs.Told.{grant_in}
+use Rattle.call_state.specs.declared.told.Told.{Told}
 
 -- What the runners of one kind mean, in a world of what they don't hold themselves.
 pub record Meaning (W M V : Type 0) : Type 1 where
@@ -35,8 +38,8 @@ pub record Meaning (W M V : Type 0) : Type 1 where
   pub first : W → M → Move
   -- whether it may ask a further request
   pub again : Bool
-  -- what a core holds for a value
-  pub holds : Core → V → Type 0
+  -- the grant that a value has
+  pub grant : V → Option GrantValue
 
 -- a plan asks this, and the runner goes on with it behind the reply
 pub record GoesBehind {W M V : Type 0} (s : Meaning W M V) (w : W) (plan : Plan) (answers : Answers) (asking : Asking)
@@ -70,7 +73,9 @@ IsStep s m next (then.Done value) = s.stays m next × IsOwn value
 IsStep s m next (then.Ask asking) = s.stays m next × MayAsk s asking next × (s.again ≡ true)
 IsStep s m next (then.Short told) = next ≡ m
 
--- what a core holds for the value that was given, if one was
-abbrev pub HoldsValue : {W M V : Type 0} → Meaning W M V → Core → Then V → Type 0
-HoldsValue s core (then.Done (Ok value)) = s.holds core value
-HoldsValue s core other = Unit {0}
+-- a value that is given has the grant that was told, and nothing else that is done comes behind a grant
+abbrev pub HandsGrantOn : {W M V : Type 0} → Meaning W M V → Told → Then V → Type 0
+HandsGrantOn s t (then.Done (Ok value)) = s.grant value ≡ grant_in t
+HandsGrantOn s t (then.Done (Err e)) = grant_in t ≡ None
+HandsGrantOn s t (then.Ask asking) = grant_in t ≡ None
+HandsGrantOn s t (then.Short told) = Unit {0}

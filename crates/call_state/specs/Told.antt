@@ -1,10 +1,11 @@
 -- What came of an awaited reply.
-use Rattle.std.specs.Prelude.{◌≡◌, ℕ, true, false, Some, None}
+use Rattle.std.specs.Prelude.{◌≡◌, ℕ, true, false, Option, Some, None}
 use Rattle.sftp_model.specs.Answers.{allows, is_handle}
 use Rattle.sftp_model.specs.declared.answers.Expected.{Expected}
 use Rattle.sftp_model.specs.declared.reply.Reply.{Reply}
 use Rattle.sftp_model.specs.declared.reply.Reply.TheVariants as reply
 use Rattle.sftp_core.specs.Core.{Core, at, reply_in}
+use Rattle.sftp_core.specs.Grant.{GrantValue}
 use Rattle.sftp_core.specs.Table.{expected_at}
 use Rattle.sftp_core.specs.declared.place.Place.TheVariants as places
 use Rattle.call_state.specs.declared.runner.Then.{Then}
@@ -18,6 +19,11 @@ use Rattle.call_state.specs.declared.told.Untold.TheVariants as untold
 abbrev pub reply_of : Told → Reply
 reply_of (told.Reply r) = r
 reply_of (told.Granted g) = reply.Handle g.handle
+
+-- the grant that came, if one did
+abbrev pub grant_in : Told → Option GrantValue
+grant_in (told.Reply r) = None
+grant_in (told.Granted g) = Some g
 
 -- a HANDLE comes as a grant
 abbrev pub IsFormed : Told → Type 0

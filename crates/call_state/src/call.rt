@@ -1,11 +1,13 @@
 //! The state of a call under way, whatever the call.
-ghost use Rattle.std.specs.Prelude.{◌≡◌, Some, IfOk};
+ghost use Rattle.std.specs.Prelude.{◌≡◌, Some, None, IfOk};
 ghost use Rattle.sftp_model.specs.declared.error.Error.{Error as ErrorValue};
 ghost use Rattle.sftp_model.specs.declared.slot.Move.{Move};
 ghost use Rattle.plan_model.specs.Moves.{Answers, Own, Plan};
+ghost use Rattle.call_state.specs.declared.stage.Stage.{Stage as StageValue};
 ghost use Rattle.call_state.specs.declared.stage.Stage.TheVariants as stage;
 ghost use Rattle.call_state.specs.Asked.{IsReady};
-ghost use Rattle.call_state.specs.Calls.{BeginsCall, Cancels, IsHeld, LeavesCall, MayGoOn, MayPoll, MaySend, Started, Stepped, Went, is_ended, ticket_of};
+ghost use Rattle.call_state.specs.Calls.{BeginsCall, CancelsAwaited, IsHeld, LeavesCall, MayGoOn, MayPoll, MaySend, Started, Stepped, MovesByPlan};
+ghost use Rattle.call_state.specs.Calls.{grant_brought, is_ended, ticket_of};
 ghost use Rattle.call_state.specs.Keeping.{KeepsHeld};
 ghost use Rattle.call_state.specs.Runners.{GoesBehind, MayAsk};
 ghost use Rattle.call_state.specs.Told.{reply_of};
@@ -23,12 +25,12 @@ use std::mem;
 /// A call under way: what it awaits, and how it goes on. It isn't droppable: `cancel` spends it, once it has answered
 /// too, and `let_go` where its core was given up.
 #[must_use]
-pub struct Call<M> {
+pub struct PendingCall<M> {
     stage: Stage,
     runner: M,
 }
 
-impl<M> Model for Call<M> {
+impl<M> Model for PendingCall<M> {
     ghost use Rattle.call_state.specs.Calls.{CallValue};
 
     ghost Value = { CallValue M };
@@ -36,14 +38,15 @@ impl<M> Model for Call<M> {
     ghost view = { λ c. record { stage = c.stage; runner = c.runner } };
 }
 
-impl<M: PlanRunner> Call<M> {
+impl<M: PlanRunner> PendingCall<M> {
     /// Submits a request of the call, and awaits its reply.
     fn send(&mut self, core: &mut Core, asking: Asking) -> Poll<Result<M::Value, Error>>
         requires { MaySend M.meaning core.old self.old asking }
         ensures went { (w : M.World) (plan : Plan) (answers : Answers)
             → GoesBehind M.meaning w plan answers asking self.old.runner
-            → Went M.meaning w plan answers core.old core.new self.new result }
-        ensures leaves { LeavesCall M.meaning core.old core.new self.new result }
+            → MovesByPlan M.meaning w plan answers core.old core.new self.new result }
+        ensures leaves { (before : StageValue) → grant_brought core.old before ≡ None
+            → LeavesCall M.meaning core.old core.new before self.new result }
         ensures runner { self.new.runner ≡ self.old.runner }
     {
         match submit(core, asking) {
@@ -67,8 +70,8 @@ impl<M: PlanRunner> Call<M> {
         ensures went { (w : M.World) (plan : Plan) (answers : Answers) → M.meaning.known self.old.runner answers
             → answers (M.meaning.place self.old.runner) ≡ Some (reply_of told)
             → ((later : Own) → plan later answers ≡ M.meaning.left w self.old.runner later answers)
-            → Went M.meaning w plan answers core.old core.new self.new result }
-        ensures leaves { LeavesCall M.meaning core.old core.new self.new result }
+            → MovesByPlan M.meaning w plan answers core.old core.new self.new result }
+        ensures leaves { LeavesCall M.meaning core.old core.new (stage.Came told) self.new result }
         ensures stays { M.meaning.stays self.old.runner self.new.runner }
     {
         match self.runner.on(told) {
@@ -110,7 +113,7 @@ impl<M: PlanRunner> Call<M> {
     }
 
     /// Submits the first request of a call. Refused by a kept fault or for want of memory, the core is as before.
-    pub fn ask(core: &mut Core, asking: Asking, runner: M) -> Result<Call<M>, Error>
+    pub fn ask(core: &mut Core, asking: Asking, runner: M) -> Result<PendingCall<M>, Error>
         requires ready { IsReady core.old }
         requires asks { MayAsk M.meaning asking runner }
         ensures started { (w : M.World) (refused : ErrorValue → Move) (plan : Plan) (answers : Answers)
@@ -120,7 +123,7 @@ impl<M: PlanRunner> Call<M> {
         ensures keeps { KeepsHeld core.old core.new }
     {
         match submit(core, asking) {
-            Ok(ticket) => Ok(Call {
+            Ok(ticket) => Ok(PendingCall {
                 stage: Stage::Asked(ticket),
                 runner,
             }),
@@ -132,7 +135,7 @@ impl<M: PlanRunner> Call<M> {
 /// A runner that works on nothing of its caller.
 pub trait Alone: PlanRunner {}
 
-impl<M: Alone> Call<M> {
+impl<M: Alone> PendingCall<M> {
     /// Polls what the call awaits, and goes on with it. `Pending` exactly where the reply was not taken and no fault is
     /// kept, or where a further request was submitted.
     ///
@@ -146,39 +149,39 @@ impl<M: Alone> Call<M> {
     }
 }
 
-impl<M: PlanRunner> Call<M> {
+impl<M: PlanRunner> PendingCall<M> {
     /// Gives the call up: its request stays under way, its reply is dropped, and a handle that came or comes is closed.
     pub fn cancel(self, core: &mut Core)
         requires { IsHeld M.meaning core.old self }
-        ensures { Cancels core.old core.new self.stage }
+        ensures { CancelsAwaited core.old core.new self.stage }
     {
-        let Call { stage, runner: _ } = self;
+        let PendingCall { stage, runner: _ } = self;
         stage.cancel(core);
     }
 
     /// Lets the call go where its core was given up.
     pub fn let_go(self, core: Ended) {
-        let Call { stage, runner: _ } = self;
+        let PendingCall { stage, runner: _ } = self;
         stage.let_go(core);
     }
 }
 
-impl<M> Call<M> {
+impl<M> PendingCall<M> {
     /// A call that needs no request: its first poll gives the value.
-    pub fn ready(runner: M) -> Call<M>
+    pub fn ready(runner: M) -> PendingCall<M>
         ensures { result ≡ record { stage = stage.Ready; runner = runner } }
     {
-        Call {
+        PendingCall {
             stage: Stage::Ready,
             runner,
         }
     }
 
     /// A call that awaits a ticket that is out.
-    pub fn awaiting(ticket: Ticket, runner: M) -> Call<M>
+    pub fn awaiting(ticket: Ticket, runner: M) -> PendingCall<M>
         ensures { result ≡ record { stage = stage.Asked ticket; runner = runner } }
     {
-        Call {
+        PendingCall {
             stage: Stage::Asked(ticket),
             runner,
         }

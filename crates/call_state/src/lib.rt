@@ -11,7 +11,7 @@ mod stage;
 mod told;
 
 pub use asking::Asking;
-pub use call::{Alone, Call};
+pub use call::{Alone, PendingCall};
 pub use laws::{calls_keep_what_is_held, cancelled_opens_are_closed, others_keep_what_they_hold};
 pub use poll::Poll;
 pub use runner::{PlanRunner, Then};

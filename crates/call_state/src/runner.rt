@@ -3,9 +3,8 @@ ghost use Rattle.std.specs.Prelude.{◌≡◌, [], true, Some, None, Ok, IfSome,
 ghost use Rattle.sftp_model.specs.Answers.{allows};
 ghost use Rattle.sftp_model.specs.declared.slot.Move.TheVariants.{Wait};
 ghost use Rattle.plan_model.specs.Moves.{Answers, Own};
-ghost use Rattle.sftp_core.specs.Core.{Core as CoreValue};
-ghost use Rattle.call_state.specs.Runners.{Follows, HoldsValue, IsStep, Meaning};
-ghost use Rattle.call_state.specs.Told.{IsBack, IsCounted, IsFormed, reply_of};
+ghost use Rattle.call_state.specs.Runners.{Follows, HandsGrantOn, IsStep, Meaning};
+ghost use Rattle.call_state.specs.Told.{IsBack, IsFormed, reply_of};
 
 use crate::asking::Asking;
 use crate::told::Told;
@@ -39,7 +38,7 @@ pub trait PlanRunner: Sized + Drop {
         ensures ends { IfSome result (λ value. (w : World) → meaning.ready self.old
             → meaning.first w self.old ≡ meaning.ended w self.new (Ok value)) }
         ensures stays { meaning.stays self.old self.new }
-        ensures holds { IfSome result (λ value. (core : CoreValue) → meaning.holds core value) };
+        ensures grantless { IfSome result (λ value. meaning.grant value ≡ None) };
 
     /// Goes on with a reply that its request allows: it does the next move of what is left of the plan.
     fn on(&mut self, told: Told) -> Then<Self::Value>
@@ -49,7 +48,7 @@ pub trait PlanRunner: Sized + Drop {
             → answers (meaning.place self.old) ≡ Some (reply_of told)
             → Follows meaning w self.old self.new answers result }
         ensures step { IsStep meaning self.old self.new result }
-        ensures holds { (core : CoreValue) → IsCounted core told → HoldsValue meaning core result }
+        ensures gives { HandsGrantOn meaning told result }
         ensures back { IsBack told result };
 
     /// Where no reply came, the plan waits for it.

@@ -4,7 +4,7 @@ ghost use Rattle.sftp_core.specs.Core.{abandoned, at, is_ticket, released};
 ghost use Rattle.sftp_core.specs.declared.place.Place.TheVariants.{Granted};
 ghost use Rattle.call_state.specs.declared.stage.Stage.TheVariants.{Asked, Came};
 ghost use Rattle.call_state.specs.declared.told.Told.{Told as ToldValue};
-ghost use Rattle.call_state.specs.Calls.{Cancels, is_ended, ticket_of};
+ghost use Rattle.call_state.specs.Calls.{CancelsAwaited, is_ended, ticket_of};
 ghost use Rattle.call_state.specs.Told.{IsCounted};
 
 use crate::asking::Asking;
@@ -72,7 +72,7 @@ impl Stage {
     pub(crate) fn cancel(self, core: &mut Core)
         requires ticket { (ticket : ℕ) → self ≡ Asked ticket → IsTrue (is_ticket (at core.old ticket)) }
         requires counted { (told : ToldValue) → self ≡ Came told → IsCounted core.old told }
-        ensures { Cancels core.old core.new self }
+        ensures { CancelsAwaited core.old core.new self }
     {
         match self {
             Stage::Ended => {}

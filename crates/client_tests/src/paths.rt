@@ -12,7 +12,7 @@ mod reading;
 mod writing;
 
 use bytes::Bytes;
-use call_state::{Alone, Call};
+use call_state::{Alone, PendingCall};
 pub(crate) use listing::unasked;
 use sftp_core::Core;
 use sftp_file::Poll;
@@ -143,7 +143,7 @@ pub(crate) fn takes(core: &mut Core, body: &[u8]) -> bool
 pub(crate) fn answer<M: Alone>(
     rt: &impl Abort,
     core: &mut Core,
-    call: Call<M>,
+    call: PendingCall<M>,
     frame: &[u8],
     reply: &[u8],
 ) -> Poll<Result<M::Value, Error>>

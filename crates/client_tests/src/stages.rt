@@ -11,7 +11,7 @@ ghost use Rattle.call_state.specs.Keeping.{KeepsHeld};
 use crate::paths::{
     DONE, PLAIN, Seen, error_seen, from_x, greeted, may_ask, poll_seen, sends, takes,
 };
-use call_state::{Alone, Call};
+use call_state::{Alone, PendingCall};
 use sftp_core::Core;
 use sftp_file::{AttrsCall, File, Poll, StartOpen};
 use sftp_fs::{Dir, Fs};
@@ -62,7 +62,11 @@ fn come(core: &mut Core, event: Event)
 }
 
 /// Sends the request of a call and polls it before its reply, and once more behind what comes then; it is given up at last.
-fn polled<M: Alone>(core: &mut Core, call: Call<M>, event: Event) -> Poll<Result<M::Value, Error>>
+fn polled<M: Alone>(
+    core: &mut Core,
+    call: PendingCall<M>,
+    event: Event,
+) -> Poll<Result<M::Value, Error>>
     requires call { IsUnderWay M.PlanRunner.meaning core.old call }
     requires once { M.PlanRunner.meaning.again ≡ false }
     ensures { HoldsReady M.PlanRunner.meaning core.new result }

@@ -16,7 +16,7 @@ mod write_all;
 use crate::buffered::opened;
 use crate::paths::{Seen, answer, error_seen, greeted, may_ask, poll_seen, sends, takes};
 use bytes::Bytes;
-use call_state::Call;
+use call_state::PendingCall;
 use sftp_core::Core;
 use sftp_file::{File, OnFile, Poll, PollFile, StatusCall};
 use sftp_meta::{MetaDataBuilder, Permissions};
@@ -62,7 +62,7 @@ struct Row {
 /// Polls a call on a file, sends its request, takes a reply, and polls once more; and whether the request was the row's.
 fn answer_on<M: OnFile>(
     core: &mut Core,
-    call: Call<M>,
+    call: PendingCall<M>,
     file: &mut File,
     row: &Row,
 ) -> (bool, Poll<Result<M::Value, Error>>)

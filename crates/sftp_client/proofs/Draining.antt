@@ -7,7 +7,7 @@ use Rattle.sftp_core.specs.Core.{Core, awaited_of, handed_out, unanswered_of}
 use Rattle.sftp_core.specs.Info.{info_of}
 use Rattle.sftp_core.specs.declared.handshake.Handshake.{Handshake}
 use Rattle.sftp_link.specs.Views.{LinkView}
-use Rattle.sftp_client.specs.Sessions.{Flushes, SftpValue, TakesOrKept, TakesFrame}
+use Rattle.sftp_client.specs.Sessions.{FlushesQueue, SftpValue, TakesOrKept, TakesFrame}
 use Rattle.sftp_client.specs.Rounds.{Drains, HasRounds, RoundStops}
 use Rattle.sftp_client.proofs.Lowering.{all_awaited, hand_out_leaves, hand_out_waits, still_due, take_lowers, take_stays_open}
 
@@ -23,7 +23,7 @@ pub record DrainsOn {L S : Type 0} (state : L → LinkView S) (old new : SftpVal
 
 -- the link doesn't fail in rounds that go well
 pub drains_first : {L S : Type 0} (state : L → LinkView S) (old new : SftpValue L) (u : Unit {0}) → IsSome (info_of old.core.phase)
-    → Flushes state old new (Ok u) → DrainsOn state old new
+    → FlushesQueue state old new (Ok u) → DrainsOn state old new
 drains_first state old new u opened flushed =
     let sends = flushed.1 in record {
       rounds = record { first = new; count = 0; unfailed = flushed.0; sends = sends; rounds = refl };
@@ -50,7 +50,7 @@ takes_one state old mid new false d some takes =
 
 -- a round
 pub drains_next : {L S : Type 0} (state : L → LinkView S) (old mid took new : SftpValue L) (u : Unit {0}) → DrainsOn state old mid
-    → TakesFrame state mid took → Flushes state took new (Ok u) → DrainsOn state old new
+    → TakesFrame state mid took → FlushesQueue state took new (Ok u) → DrainsOn state old new
 drains_next state old mid took new u d takes flushed =
     let sends = flushed.1 in
     let opened = take_stays_open mid.core took.core (reply_at takes.body) takes.told d.opened takes.taken in
@@ -72,7 +72,7 @@ drains_next state old mid took new u d takes flushed =
 
 -- and less is due after it
 pub drains_less : {L S : Type 0} (state : L → LinkView S) (old mid took new : SftpValue L) (u : Unit {0}) → DrainsOn state old mid
-    → TakesFrame state mid took → Flushes state took new (Ok u) → still_due new.core < still_due mid.core
+    → TakesFrame state mid took → FlushesQueue state took new (Ok u) → still_due new.core < still_due mid.core
 drains_less state old mid took new u d takes flushed =
     let less = take_lowers mid.core took.core (reply_at takes.body) takes.told d.opened takes.right takes.taken in
     let same : still_due new.core ≡ still_due (handed_out took.core) = ap (λ (s : SftpValue _). still_due s.core) flushed.1.left in

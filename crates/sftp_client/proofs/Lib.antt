@@ -5,5 +5,7 @@ pub mod Draining
 pub mod Taking
 pub mod Opening
 pub mod Waiting
+pub mod Moving
 pub mod Listing
 pub mod WholeWaiting
+pub mod WriteWaiting

@@ -11,11 +11,12 @@ use Rattle.sftp_model.specs.declared.request.Request.TheVariants as request
 use Rattle.sftp_core.specs.Core.{Core, at, reply_in}
 use Rattle.sftp_core.specs.Info.{info_of}
 use Rattle.sftp_link.specs.Views.{LinkView}
-use Rattle.call_state.specs.Keeping.{KeepsHeld, KeepsGrants}
+use Rattle.call_state.specs.Keeping.{KeepsHeld, KeepsGrants, SparesOthers}
+use Rattle.call_state.proofs.Sparing.{spares_both, spares_kept, spares_then}
 use Rattle.call_state.specs.declared.asking.Asking.TheVariants.{Whole}
 use Rattle.call_state.specs.declared.poll.Poll.TheVariants.{Pending, Ready}
 use Rattle.call_state.proofs.Keeping.{grant_kept, grants_both, keeps_same, submitted_missing}
-use Rattle.sftp_fs.specs.Listings.{AsksReaddir, Given, GivesAt, HearsOf, IsAwaiting, IsListing, ListingValue, entry_told}
+use Rattle.sftp_fs.specs.Listings.{AsksReaddir, Given, GivesAt, HearsOf, IsAwaiting, IsListing, IsNoneAsked, ListingValue, entry_told}
 use Rattle.sftp_client.specs.Listed.{AwaitsEntry, HasListed, ListedIn, MayWaitFor, given_by}
 use Rattle.sftp_client.specs.Sessions.{SftpValue, with_core}
 use Rattle.sftp_client.specs.Waits.{ArePollRounds, RoundFails, SendsAndTakes}
@@ -35,33 +36,50 @@ pub record ListsOn {L S : Type 0} (state : L → LinkView S) (count : ℕ) (old 
   pub rounds : ArePollRounds AwaitsEntry state count old new p q
   pub may : MayWaitFor new.core q
   pub grants : KeepsGrants old.core new.core
+  pub spares : SparesOthers old.core new.core (IsNoneAsked p.asked) (IsNoneAsked q.asked)
   pub unfaulted : (state new.link).faults ≡ (state old.link).faults
 
 pub lists_first : {L S : Type 0} (state : L → LinkView S) (old : SftpValue L) (p : ListingValue) → MayWaitFor old.core p
     → ListsOn state 0 old old p p
 lists_first state old p may =
-    record { rounds = (refl, refl); may = may; grants = (keeps_same old.core).grants; unfaulted = refl }
+    record {
+      rounds = (refl, refl);
+      may = may;
+      grants = (keeps_same old.core).grants;
+      spares = spares_kept old.core old.core (IsNoneAsked p.asked) (keeps_same old.core);
+      unfaulted = refl;
+    }
 
 -- what a poll leaves to the listing and to the session
-pub record EntryLeaves {L : Type 0} (old new : SftpValue L) (q : ListingValue) : Type 0 where
+pub record EntryLeaves {L : Type 0} (old new : SftpValue L) (p q : ListingValue) : Type 0 where
   pub may : MayWaitFor new.core q
   pub grants : KeepsGrants old.core new.core
+  pub spares : SparesOthers old.core new.core (IsNoneAsked p.asked) (IsNoneAsked q.asked)
   pub link : new.link ≡ old.link
 
 entry_leaves : {L : Type 0} (old new : SftpValue L) (p q : ListingValue) (given : Given) → MayWaitFor old.core p
-    → ListedIn old new p q given → EntryLeaves old new q
+    → ListedIn old new p q given → EntryLeaves old new p q
 entry_leaves old new p q given may (inl h) =
     record {
       may = record { opened = h.0.grants.opened may.opened; listing = h.0.listing };
       grants = h.0.grants;
+      spares = h.0.spares;
       link = ap (λ (x : SftpValue _). x.link) h.1;
     }
 entry_leaves old new p q given may (inr h) =
     record {
       may = subst (λ (x : SftpValue _). MayWaitFor x.core q) (sym h.1.1.0) (subst (λ x. MayWaitFor old.core x) (sym h.1.1.1) may);
       grants = subst (λ (x : SftpValue _). KeepsGrants old.core x.core) (sym h.1.1.0) (keeps_same old.core).grants;
+      spares = subst (λ (x : SftpValue _). SparesOthers old.core x.core (IsNoneAsked p.asked) (IsNoneAsked q.asked)) (sym h.1.1.0)
+          (subst (λ (x : ListingValue). SparesOthers old.core old.core (IsNoneAsked p.asked) (IsNoneAsked x.asked)) (sym h.1.1.1)
+          (spares_kept old.core old.core (IsNoneAsked p.asked) (keeps_same old.core)));
       link = ap (λ (x : SftpValue _). x.link) h.1.1.0;
     }
+
+entries_spare : (old mid new : Core) (p m q : ListingValue) → SparesOthers old mid (IsNoneAsked p.asked) (IsNoneAsked m.asked)
+    → SparesOthers mid new (IsNoneAsked m.asked) (IsNoneAsked q.asked) → SparesOthers old new (IsNoneAsked p.asked) (IsNoneAsked q.asked)
+entries_spare old mid new p m q first last =
+    spares_both old mid new (IsNoneAsked p.asked) (IsNoneAsked m.asked) (IsNoneAsked q.asked) first last
 
 -- ---- a listing that gave nothing yet awaits a reply that is missing
 
@@ -134,6 +152,8 @@ lists_next state count old mid polled new p m q w waits round =
         listing = listing_still polled.core new.core q stays left.may.listing;
       };
       grants = grants_both old.core polled.core new.core (grants_both old.core mid.core polled.core w.grants left.grants) stays.grants;
+      spares = spares_then old.core polled.core new.core (IsNoneAsked p.asked) (IsNoneAsked q.asked)
+          (entries_spare old.core mid.core polled.core p m q w.spares left.spares) stays;
       unfaulted = round_unfaulted state polled new round ∙ (ap (λ l. (state l).faults) left.link ∙ w.unfaulted);
     })
 
@@ -151,6 +171,7 @@ lists_end state count old mid new p m q result w listed =
       stops = inl listed;
       held = left.may.listing;
       grants = grants_both old.core mid.core new.core w.grants left.grants;
+      spares = entries_spare old.core mid.core new.core p m q w.spares left.spares;
       unfaulted = where_ok result (ap (λ l. (state l).faults) left.link ∙ w.unfaulted);
     }
 
@@ -166,6 +187,7 @@ lists_out state count old new p q w all =
       stops = inr (inr (all, (refl, (refl, refl))));
       held = w.may.listing;
       grants = w.grants;
+      spares = w.spares;
       unfaulted = tt;
     }
 
@@ -184,6 +206,8 @@ lists_stop state count old mid polled new p m q e w waits fails =
       stops = inr (inl (polled, (e, (waits, (fails, refl)))));
       held = listing_still polled.core new.core q stays left.may.listing;
       grants = grants_both old.core polled.core new.core (grants_both old.core mid.core polled.core w.grants left.grants) stays.grants;
+      spares = spares_then old.core polled.core new.core (IsNoneAsked p.asked) (IsNoneAsked q.asked)
+          (entries_spare old.core mid.core polled.core p m q w.spares left.spares) stays;
       unfaulted = tt;
     }
 

@@ -1,7 +1,14 @@
 -- A frame that comes and is taken.
-use Rattle.std.proofs.Common.{◌≡◌, ◌<◌, ℕ, List, [], ◌++◌, ap, sym, ◌∙◌, subst, inl, inr}
-use Rattle.std.specs.Prelude.{true, Result, Ok, Err, None, Some}
+use Rattle.std.proofs.Common.{◌≡◌, ◌==◌, ◌<◌, ◌≤◌, ◌+◌, ℕ, List, [], ◌++◌, length, arith, refl, ap, sym, ◌∙◌, subst, inl, inr}
+use Rattle.std.specs.Prelude.{Bool, true, false, Option, Result, Ok, Err, None, Some, nat_lt, if◌then◌else◌}
+use Rattle.std.proofs.lemmas.Bool.Decides.{nat_tests}
 use Rattle.std.proofs.lemmas.List.{append-nil}
+use Rattle.ssh_encoding.specs.Writing.{string}
+use Rattle.sftp_model.specs.Numbers.{MAX_BODY_LEN}
+use Rattle.sftp_model.specs.declared.frame_error.FormatKind.TheVariants as kinds
+use Rattle.sftp_wire.specs.FrameReader.{fault_of_len, len_of, told_len}
+use Rattle.sftp_wire.proofs.Lengths.{length-string}
+use Rattle.session_exchange.specs.Reading.{IsFramePrefix}
 use Rattle.sftp_link.specs.Log.{SentOn}
 use Rattle.sftp_link.specs.Told.{Told, GotAll, SentAll}
 use Rattle.sftp_link.specs.Views.{LinkView}
@@ -39,17 +46,42 @@ alone state old mid got none log =
     told_as (GotAll got) (Exchanged old.unsent got) (state old.link).log (state mid.link).log log
     (λ p q g. subst (λ (w : List ℕ). Exchanged w got p q) (sym none) (p, sent_nothing p, g))
 
+-- ---- the length of a frame
+
+within_by : (a b : Bool) → (if a then Some kinds.Length else if b then Some kinds.Overflow else None) ≡ None → b ≡ false
+within_by true b e = absurd cc
+within_by false true e = absurd cc
+within_by false false e = refl
+
+told_within : (len : ℕ) → fault_of_len (Some len) ≡ None → len ≤ MAX_BODY_LEN
+told_within len e =
+    let within : nat_lt MAX_BODY_LEN len ≡ false = within_by (len == 0) (nat_lt MAX_BODY_LEN len) e in grind (arith, nat_tests, within)
+
+-- the body of a frame is as long as its length tells, which is one that a frame may have
+short_body : (bytes body : List ℕ) → IsFramePrefix bytes → bytes ≡ string body → length body ≤ MAX_BODY_LEN
+short_body bytes body prefix is =
+    let len : length bytes ≡ 4 + length body = ap length is ∙ length-string body in
+    let four : nat_lt (length bytes) 4 ≡ false = grind (arith, nat_tests, len) in
+    let there : len_of bytes ≡ Some (told_len bytes) = rw four refl in
+    let told : told_len bytes ≤ MAX_BODY_LEN =
+    told_within (told_len bytes) (ap (λ (o : Option ℕ). fault_of_len o) (sym there) ∙ prefix.unfaulted) in
+    let whole : length bytes ≤ 4 + told_len bytes = prefix.within (omega (arith, len)) in
+    omega (arith, len, told, whole)
+
 taken_here : {L S : Type 0} (state : L → LinkView S) (old mid new : SftpValue L) (u : Unit {0}) → old.unsent ≡ []
     → PullsFrame state old mid (Ok u) → TakesHere mid new → TakesFrame state old new
 taken_here state old mid new u none pulled here =
     let core : mid.core ≡ old.core = ap (λ (s : SftpValue _). s.core) pulled.left in
     let unsent : mid.unsent ≡ [] = ap (λ (s : SftpValue _). s.unsent) pulled.left ∙ none in
     let link : mid.link ≡ new.link = sym (ap (λ (s : SftpValue _). s.link) here.left) in
+    let frame : bytes_of old.coming ++ pulled.pulls.got ≡ string here.body =
+    sym (ap (λ (c : Coming). c.whole) pulled.pulls.comes.1) ∙ here.frame in
     record {
       got = pulled.pulls.got;
       body = here.body;
       told = here.told;
-      frame = sym (ap (λ (c : Coming). c.whole) pulled.pulls.comes.1) ∙ here.frame;
+      frame = frame;
+      short = short_body (bytes_of old.coming ++ pulled.pulls.got) here.body pulled.pulls.comes.0.1 frame;
       log = subst (λ l. Told (Exchanged old.unsent pulled.pulls.got) (state old.link).log (state l).log) link
           (alone state old mid pulled.pulls.got none pulled.pulls.log);
       right = subst (λ (c : Core). take_refusal c (reply_at here.body) ≡ None) core here.right;
@@ -64,12 +96,15 @@ refused_here state old mid new e u none pulled here =
     let core : mid.core ≡ old.core = ap (λ (s : SftpValue _). s.core) pulled.left in
     let unsent : mid.unsent ≡ [] = ap (λ (s : SftpValue _). s.unsent) pulled.left ∙ none in
     let link : mid.link ≡ new.link = sym (ap (λ (s : SftpValue _). s.link) here.left) in
+    let frame : bytes_of old.coming ++ pulled.pulls.got ≡ string here.body =
+    sym (ap (λ (c : Coming). c.whole) pulled.pulls.comes.1) ∙ here.frame in
     record {
       got = pulled.pulls.got;
       body = here.body;
       refusal = here.refusal;
       fault = here.fault;
-      frame = sym (ap (λ (c : Coming). c.whole) pulled.pulls.comes.1) ∙ here.frame;
+      frame = frame;
+      short = short_body (bytes_of old.coming ++ pulled.pulls.got) here.body pulled.pulls.comes.0.1 frame;
       log = subst (λ l. Told (Exchanged old.unsent pulled.pulls.got) (state old.link).log (state l).log) link
           (alone state old mid pulled.pulls.got none pulled.pulls.log);
       is = here.is;
@@ -130,6 +165,7 @@ taken_after state old mid new sends taken =
       body = taken.body;
       told = taken.told;
       frame = ap (λ (c : Coming). bytes_of c ++ taken.got) (sym coming) ∙ taken.frame;
+      short = taken.short;
       log = after_sent state old mid new taken.got sends taken.log;
       right = subst (λ (c : Core). take_refusal c (reply_at taken.body) ≡ None) core taken.right;
       taken = subst (λ (c : Core). TakenFrom (reply_at taken.body) taken.told c new.core) core taken.taken;
@@ -161,6 +197,7 @@ refused_after state old mid new e sends refused =
       refusal = refused.refusal;
       fault = refused.fault;
       frame = ap (λ (c : Coming). bytes_of c ++ refused.got) (sym coming) ∙ refused.frame;
+      short = refused.short;
       log = after_sent state old mid new refused.got sends refused.log;
       is = refused.is;
       first = subst (λ (c : Core). take_refusal c (reply_at refused.body) ≡ Some refused.refusal) core refused.first;

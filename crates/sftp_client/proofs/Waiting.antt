@@ -8,24 +8,23 @@ use Rattle.sftp_model.specs.declared.error.Fault.{Fault}
 use Rattle.sftp_core.specs.Core.{Core, at, awaited_of, failed_with, handed_out, is_ticket, reply_in}
 use Rattle.sftp_core.specs.Info.{info_of}
 use Rattle.sftp_link.specs.Views.{LinkView}
-use Rattle.call_state.specs.Calls.{CallValue, Cancels, HoldsReady, IsHeld, IsHeldAt, IsUnderWay, KeepsOtherTickets, Stepped, cancelled, is_ended}
-use Rattle.call_state.specs.Keeping.{KeepsHeld, KeepsGrants}
+use Rattle.call_state.specs.Calls.{CallValue, CancelsAwaited, CountsGrant, HoldsReady, IsHeld, IsHeldAt, IsNoneOfCall, IsUnderWay, KeepsOtherTickets, Stepped, cancelled, is_ended}
+use Rattle.call_state.specs.Keeping.{KeepsHeld, KeepsGrants, SparesOthers}
+use Rattle.call_state.proofs.Sparing.{cancelled_spares, spares_both, spares_kept, spares_then, stepped_spares}
 use Rattle.call_state.specs.Runners.{Meaning}
 use Rattle.call_state.specs.declared.poll.Poll.{Poll}
 use Rattle.call_state.specs.declared.stage.Stage.{Stage}
 use Rattle.call_state.specs.declared.stage.Stage.TheVariants.{Ended, Ready, Unsent, Asked, Came}
 use Rattle.call_state.specs.declared.poll.Poll.TheVariants as poll
 use Rattle.call_state.proofs.Keeping.{grants_both, keeps_both, keeps_failed, keeps_handed_out, keeps_same, keeps_taken, keeps_unchanged, still_under_way}
-use Rattle.sftp_model.specs.declared.slot.FileAt.{FileAt}
 use Rattle.sftp_core.specs.Table.{asks_handle, count, is_waiting}
 use Rattle.sftp_core.specs.declared.place.Place.{Place}
 use Rattle.sftp_core.specs.declared.place.Place.TheVariants.{Answered, Granted, Waiting}
 use Rattle.sftp_core.proofs.Tables.{count-remove}
 use Rattle.sftp_client.proofs.Lowering.{all_awaited}
 use Rattle.sftp_file.proofs.Steps.{cancelled_keeps}
-use Rattle.sftp_file.specs.Files.{FileValue, IsMoved, file_at, file_in}
 use Rattle.sftp_client.specs.Sessions.{
-  Flushes,
+  FlushesQueue,
   FlushesUnfailed,
   IsKept,
   SendStops,
@@ -43,14 +42,11 @@ use Rattle.sftp_client.specs.Sessions.{
 use Rattle.sftp_client.specs.Waits.{
   ArePollRounds,
   HasFinished,
-  HasFinishedOn,
   HasWaited,
-  HasWaitedOn,
   MayWait,
   PolledIn,
   RoundFails,
   SendsAndTakes,
-  WaitEnds,
   WaitStops,
   WaitsIn,
 }
@@ -99,7 +95,7 @@ kept_same old new (error.UnsupportedExtension extension) h = absurd h
 kept_same old new (error.IOError kind) h = absurd h
 
 flush_stays : {L S : Type 0} (state : L → LinkView S) (old new : SftpValue L) (result : Result (Unit {0}) Error)
-    → Flushes state old new result → KeepsHeld old.core new.core
+    → FlushesQueue state old new result → KeepsHeld old.core new.core
 flush_stays state old new (Ok u) h = unfailed_flush state old new (Ok u) h.1
 flush_stays state old new (Err e) (inl h) = keeps_unchanged old.core new.core (kept_same old new e h)
 flush_stays state old new (Err e) (inr h) = unfailed_flush state old new (Err e) h.1
@@ -189,12 +185,20 @@ pub record WaitsOn {W M V L S : Type 0} (s : Meaning W M V) (state : L → LinkV
   pub may : MayWait s new.core q
   pub grants : KeepsGrants old.core new.core
   pub others : KeepsOtherTickets old.core new.core p.stage q.stage
+  pub spares : SparesOthers old.core new.core (IsNoneOfCall p.stage) (IsNoneOfCall q.stage)
   pub unfaulted : (state new.link).faults ≡ (state old.link).faults
 
 pub waits_first : {W M V L S : Type 0} (s : Meaning W M V) (state : L → LinkView S) (old : SftpValue L) (p : CallValue M)
     → MayWait s old.core p → WaitsOn s state 0 old old p p
 waits_first s state old p may =
-    record { rounds = (refl, refl); may = may; grants = (keeps_same old.core).grants; others = λ ticket kind apart h. (h, apart); unfaulted = refl }
+    record {
+      rounds = (refl, refl);
+      may = may;
+      grants = (keeps_same old.core).grants;
+      others = λ ticket kind apart h. (h, apart);
+      spares = spares_kept old.core old.core (IsNoneOfCall p.stage) (keeps_same old.core);
+      unfaulted = refl;
+    }
 
 -- what a poll leaves to the call and to the session
 pub record PollLeaves {W M V L : Type 0} (s : Meaning W M V) (old new : SftpValue L) (p q : CallValue M)
@@ -203,6 +207,7 @@ pub record PollLeaves {W M V L : Type 0} (s : Meaning W M V) (old new : SftpValu
   pub holds : HoldsReady s new.core result
   pub grants : KeepsGrants old.core new.core
   pub others : KeepsOtherTickets old.core new.core p.stage q.stage
+  pub spares : SparesOthers old.core new.core (IsNoneOfCall p.stage) (IsNoneOfCall q.stage)
   pub opened : IsSome (info_of new.core.phase)
   pub link : new.link ≡ old.link
 
@@ -218,6 +223,7 @@ poll_leaves s old new p q result may (inl h) =
       holds = h.0.holds;
       grants = h.0.grants;
       others = h.0.others;
+      spares = stepped_spares s old.core new.core p q result h.0;
       opened = h.0.grants.opened may.opened;
       link = ap (λ (x : SftpValue _). x.link) h.1;
     }
@@ -228,6 +234,9 @@ poll_leaves s old new p q result may (inr h) =
       grants = subst (λ (x : SftpValue _). KeepsGrants old.core x.core) (sym h.1.1.0) (keeps_same old.core).grants;
       others = subst (λ (x : SftpValue _). KeepsOtherTickets old.core x.core p.stage q.stage) (sym h.1.1.0)
           (subst (λ x. KeepsOtherTickets old.core old.core p.stage x.stage) (sym h.1.1.1) (λ ticket kind apart here. (here, apart)));
+      spares = subst (λ (x : SftpValue _). SparesOthers old.core x.core (IsNoneOfCall p.stage) (IsNoneOfCall q.stage)) (sym h.1.1.0)
+          (subst (λ x. SparesOthers old.core old.core (IsNoneOfCall p.stage) (IsNoneOfCall x.stage)) (sym h.1.1.1)
+          (spares_kept old.core old.core (IsNoneOfCall p.stage) (keeps_same old.core)));
       opened = subst (λ (x : SftpValue _). IsSome (info_of x.core.phase)) (sym h.1.1.0) may.opened;
       link = ap (λ (x : SftpValue _). x.link) h.1.1.0;
     }
@@ -285,6 +294,9 @@ waits_next s state count old mid polled new p m q w pending round =
       grants = grants_both old.core polled.core new.core (grants_both old.core mid.core polled.core w.grants left.grants) stays.grants;
       others = others_kept old.core polled.core new.core p.stage q.stage
           (others_both old.core mid.core polled.core p.stage m.stage q.stage w.others left.others) stays;
+      spares = spares_then old.core polled.core new.core (IsNoneOfCall p.stage) (IsNoneOfCall q.stage)
+          (spares_both old.core mid.core polled.core (IsNoneOfCall p.stage) (IsNoneOfCall m.stage) (IsNoneOfCall q.stage) w.spares left.spares)
+          stays;
       unfaulted = round_unfaulted state polled new round ∙ (ap (λ l. (state l).faults) left.link ∙ w.unfaulted);
     })
 
@@ -308,6 +320,7 @@ waits_end s state count old mid new p m q result w polled =
       holds = left.holds;
       grants = grants_both old.core mid.core new.core w.grants left.grants;
       others = others_both old.core mid.core new.core p.stage m.stage q.stage w.others left.others;
+      spares = spares_both old.core mid.core new.core (IsNoneOfCall p.stage) (IsNoneOfCall m.stage) (IsNoneOfCall q.stage) w.spares left.spares;
       unfaulted = where_ok result (ap (λ l. (state l).faults) left.link ∙ w.unfaulted);
     }
 
@@ -326,6 +339,7 @@ waits_out s state count old new p q w all =
       holds = tt;
       grants = w.grants;
       others = w.others;
+      spares = w.spares;
       unfaulted = tt;
     }
 
@@ -348,6 +362,9 @@ waits_stop s state count old mid polled new p m q e w pending fails =
       grants = grants_both old.core polled.core new.core (grants_both old.core mid.core polled.core w.grants left.grants) stays.grants;
       others = others_kept old.core polled.core new.core p.stage q.stage
           (others_both old.core mid.core polled.core p.stage m.stage q.stage w.others left.others) stays;
+      spares = spares_then old.core polled.core new.core (IsNoneOfCall p.stage) (IsNoneOfCall q.stage)
+          (spares_both old.core mid.core polled.core (IsNoneOfCall p.stage) (IsNoneOfCall m.stage) (IsNoneOfCall q.stage) w.spares left.spares)
+          stays;
       unfaulted = tt;
     }
 
@@ -375,19 +392,24 @@ nothing_left core (Unsent asking) over = absurd cc
 nothing_left core (Asked ticket) over = absurd cc
 nothing_left core (Came t) over = absurd cc
 
-given_up : {W M V L S : Type 0} (s : Meaning W M V) (state : L → LinkView S) (old mid : SftpValue L) (new : Core)
-    (p last : CallValue M) (result : Result V Error) → HasWaited s state old mid p last result → Cancels mid.core new last.stage
+pub given_up : {W M V L S : Type 0} (s : Meaning W M V) (state : L → LinkView S) (old mid : SftpValue L) (new : Core)
+    (p last : CallValue M) (result : Result V Error) → HasWaited s state old mid p last result → CancelsAwaited mid.core new last.stage
     → HoldsReady s new (poll.Ready result) × OnOk result (KeepsGrants old.core new)
 given_up s state old mid new p last (Err e) w cancels = (tt, tt)
 given_up s state old mid new p last (Ok value) w cancels =
     let over = ended_by s state w.count w.mid mid w.call last value w.ends in
     let same : new ≡ mid.core = cancels.core ∙ nothing_left mid.core last.stage over in
-    let P : Core → Type 0 = λ (c : Core). s.holds c value × KeepsGrants old.core c in
+    let P : Core → Type 0 = λ (c : Core). CountsGrant c (s.grant value) × KeepsGrants old.core c in
     subst P (sym same) (w.holds, w.grants)
+
+pub finish_spares : (old mid new : Core) (before last : Stage) → SparesOthers old mid (IsNoneOfCall before) (IsNoneOfCall last)
+    → CancelsAwaited mid new last → SparesOthers old new (IsNoneOfCall before) (λ id. Unit {0})
+finish_spares old mid new before last spares cancels =
+    spares_both old mid new (IsNoneOfCall before) (IsNoneOfCall last) (λ id. Unit {0}) spares (cancelled_spares mid new last cancels)
 
 pub finished : {W M V L S : Type 0} (s : Meaning W M V) (state : L → LinkView S) (old mid inside new : SftpValue L)
     (p last : CallValue M) (result : Result V Error) → HasWaited s state old mid p last result → inside ≡ mid
-    → Cancels inside.core new.core last.stage → new ≡ with_core inside new.core → HasFinished s state old new p result
+    → CancelsAwaited inside.core new.core last.stage → new ≡ with_core inside new.core → HasFinished s state old new p result
 finished s state old mid inside new p last result w same cancels left =
     let waited = subst (λ (x : SftpValue _). HasWaited s state old x p last result) (sym same) w in
     let up = given_up s state old inside new.core p last result waited cancels in
@@ -400,86 +422,7 @@ finished s state old mid inside new p last result w same cancels left =
       holds = up.0;
       grants = up.1;
       others = λ ticket kind apart h. let on = waited.others ticket kind apart h in cancels.others ticket kind on.1 on.0;
-    }
-
--- ---- a call that moves a file
-
--- nothing but the offset of the file changes
-abbrev pub MovesOnly : FileAt → FileAt → Type 0
-MovesOnly before after = after ≡ record before { offset = after.offset }
-
-moves_both : (a b c : FileAt) → MovesOnly a b → MovesOnly b c → MovesOnly a c
-moves_both a b c x y = y ∙ (λ i. record (x i) { offset = c.offset })
-
--- what stays of a runner keeps its file but for the offset
-abbrev pub KeepsFile : {W M V : Type 0} → Meaning W M V → (M → FileAt) → Type 0
-KeepsFile {M = M} s at = (m next : M) → s.stays m next → MovesOnly (at m) (at next)
-
-poll_moves : {W M V L : Type 0} (s : Meaning W M V) (at : M → FileAt) → KeepsFile s at → (old new : SftpValue L) (p q : CallValue M)
-    (result : Poll (Result V Error)) → PolledIn s old new p q result → MovesOnly (at p.runner) (at q.runner)
-poll_moves s at keeps old new p q result (inl h) = keeps p.runner q.runner h.0.stays
-poll_moves s at keeps old new p q result (inr h) = subst (λ x. MovesOnly (at p.runner) (at x.runner)) (sym h.1.1.1) refl
-
-rounds_move : {W M V L S : Type 0} (s : Meaning W M V) (at : M → FileAt) → KeepsFile s at → (state : L → LinkView S) (n : ℕ)
-    (old new : SftpValue L) (p q : CallValue M) → ArePollRounds (WaitsIn s) state n old new p q → MovesOnly (at p.runner) (at q.runner)
-rounds_move s at keeps state zero old new p q h = subst (λ x. MovesOnly (at p.runner) (at x.runner)) (sym h.1) refl
-rounds_move s at keeps state (suc n) old new p q h =
-    moves_both (at p.runner) (at h.1.0.runner) (at q.runner) (rounds_move s at keeps state n old h.0 p h.1.0 h.1.1.0)
-    (poll_moves s at keeps h.0 h.1.1.1.mid h.1.0 q poll.Pending h.1.1.1.waits)
-
-ends_move : {W M V L S : Type 0} (s : Meaning W M V) (at : M → FileAt) → KeepsFile s at → (state : L → LinkView S)
-    (old new : SftpValue L) (p q : CallValue M) (result : Result V Error) → WaitEnds s state old new p q result
-    → MovesOnly (at p.runner) (at q.runner)
-ends_move s at keeps state old new p q result (inl h) = poll_moves s at keeps old new p q (poll.Ready result) h
-ends_move s at keeps state old new p q result (inr h) = poll_moves s at keeps old h.0 p q poll.Pending h.1.1.0
-
-stops_move : {W M V L S : Type 0} (s : Meaning W M V) (at : M → FileAt) → KeepsFile s at → (state : L → LinkView S) (count : ℕ)
-    (old new : SftpValue L) (p q : CallValue M) (result : Result V Error) → WaitStops s state count old new p q result
-    → MovesOnly (at p.runner) (at q.runner)
-stops_move s at keeps state count old new p q result (inl h) = ends_move s at keeps state old new p q result h
-stops_move s at keeps state count old new p q result (inr h) = subst (λ x. MovesOnly (at p.runner) (at x.runner)) (sym h.1.1.1) refl
-
--- where the file of a place stands after the call was run
-pub moved_at : {W M V L S : Type 0} (s : Meaning W M V) (at : M → FileAt) → KeepsFile s at → (place : ℕ) (state : L → LinkView S)
-    (old new : SftpValue L) (p q : CallValue M) (before after : FileValue) (result : Result V Error)
-    → at p.runner ≡ file_in place before → after ≡ record before { offset = (at q.runner).offset }
-    → HasWaited s state old new p q result → (at q.runner ≡ file_in place after) × (after ≡ record before { offset = after.offset })
-moved_at s at keeps place state old new p q before after result stands is w =
-    let only = moves_both (at p.runner) (at w.call.runner) (at q.runner) (rounds_move s at keeps state w.count old w.mid p w.call w.rounds)
-    (stops_move s at keeps state w.count w.mid new w.call q result w.ends)
-    in (
-      only ∙ ((λ i. record (stands i) { offset = (at q.runner).offset }) ∙ sym (ap (file_in place) is)),
-      is ∙ (λ i. record before { offset = (sym (ap (λ (f : FileValue). f.offset) is)) i }),
-    )
-
-pub moved_by : {W M V L S : Type 0} (s : Meaning W M V) (at : M → FileAt) → KeepsFile s at → (state : L → LinkView S)
-    (old new : SftpValue L) (p q : CallValue M) (before after : FileValue) (result : Result V Error)
-    → at p.runner ≡ file_at before → after ≡ record before { offset = (at q.runner).offset }
-    → HasWaited s state old new p q result → IsMoved before after (at q.runner)
-moved_by s at keeps state old new p q before after result stands is w =
-    let moved = moved_at s at keeps 0 state old new p q before after result stands is w in record { stands = moved.0; rest = moved.1 }
-
--- where it stands once the call was given up, too
-pub finished_on : {W M V L S : Type 0} (s : Meaning W M V) (at : M → FileAt) (state : L → LinkView S)
-    (old mid inside new : SftpValue L) (p last : CallValue M) (before after : FileValue) (result : Result V Error)
-    → HasWaitedOn s at state old mid p last before after result → inside ≡ mid
-    → Cancels inside.core new.core last.stage → new ≡ with_core inside new.core
-    → HasFinishedOn s at state old new p before after result
-finished_on s at state old mid inside new p last before after result w same cancels left =
-    let waited = subst (λ (x : SftpValue _). HasWaited s state old x p last result) (sym same) w.waited in
-    let up = given_up s state old inside new.core p last result waited cancels in
-    record {
-      finished = record {
-        mid = inside;
-        last = last;
-        waited = waited;
-        given_up = cancels;
-        left = left;
-        holds = up.0;
-        grants = up.1;
-        others = λ ticket kind apart h. let on = waited.others ticket kind apart h in cancels.others ticket kind on.1 on.0;
-      };
-      moved = w.moved;
+      spares = finish_spares old.core inside.core new.core p.stage last.stage waited.spares cancels;
     }
 
 -- ---- the grants of others

@@ -7,18 +7,18 @@ use Rattle.sftp_model.specs.declared.error.Error.TheVariants as error
 use Rattle.sftp_core.specs.Core.{Core, kept_of}
 use Rattle.sftp_core.specs.Info.{info_of}
 use Rattle.sftp_link.specs.Views.{LinkView}
-use Rattle.call_state.specs.Keeping.{KeepsHeld, KeepsGrants}
+use Rattle.call_state.specs.Keeping.{SparesOthers}
+use Rattle.call_state.proofs.Keeping.{keeps_same}
+use Rattle.call_state.proofs.Sparing.{spares_both, spares_kept, spares_then}
 use Rattle.call_state.specs.declared.poll.Poll.{Poll}
 use Rattle.call_state.specs.declared.poll.Poll.TheVariants as poll
-use Rattle.call_state.specs.Calls.{CallValue, Cancels}
+use Rattle.call_state.specs.Calls.{CallValue, CancelsAwaited}
 use Rattle.call_state.specs.Runners.{Meaning}
 use Rattle.sftp_file.specs.Copies.{CopyValue, StandsAt, copying}
 use Rattle.sftp_file.specs.Files.{FileValue, IsMoved}
 use Rattle.sftp_file.specs.Gathers.{GivesBytes, ReadAllValue, reading_all}
 use Rattle.sftp_file.specs.declared.gathering.ReadAllError.{ReadAllError}
-use Rattle.sftp_whole.specs.WholeReads.{CancelsRead, FsReadValue, IsReadHeld, KeepsForOthers, ReadAnswer, is_over}
-use Rattle.sftp_whole.specs.declared.fs_read.Whole.{Whole}
-use Rattle.sftp_whole.specs.declared.fs_read.Whole.TheVariants as whole
+use Rattle.sftp_whole.specs.WholeReads.{CancelsRead, FsReadValue, IsNoneOfRead, IsReadHeld, ReadAnswer, is_over}
 use Rattle.sftp_whole.proofs.FsReadLaws.{read_still}
 use Rattle.sftp_client.specs.Sessions.{SftpValue, with_core}
 use Rattle.sftp_client.specs.Waits.{HasFinished, HasWaited, RoundFails, SendsAndTakes}
@@ -37,21 +37,26 @@ use Rattle.sftp_client.specs.WholeWaits.{
 use Rattle.sftp_client.proofs.Waiting.{fail_stays, finished, round_stays, round_unfaulted, where_ok}
 
 -- what a poll leaves
-record ReadLeaves {L : Type 0} (old new : SftpValue L) (q : FsReadValue) : Type 0 where
+record ReadLeaves {L : Type 0} (old new : SftpValue L) (p q : FsReadValue) : Type 0 where
   held : IsReadHeld new.core q.stage
+  spares : SparesOthers old.core new.core (IsNoneOfRead p.stage) (IsNoneOfRead q.stage)
   link : new.link ≡ old.link
 
 read_leaves : {L : Type 0} (old new : SftpValue L) (p q : FsReadValue) (result : ReadAnswer) → MayWaitRead old.core p
-    → ReadIn old new p q result → ReadLeaves old new q
+    → ReadIn old new p q result → ReadLeaves old new p q
 read_leaves old new p q result may (inl h) =
     record {
       held = h.0.held;
+      spares = h.0.spares;
       link = ap (λ (x : SftpValue _). x.link) h.1;
     }
 read_leaves old new p q result may (inr h) =
     record {
       held = subst (λ (x : SftpValue _). IsReadHeld x.core q.stage) (sym h.1.1.0)
           (subst (λ (x : FsReadValue). IsReadHeld old.core x.stage) (sym h.1.1.1) may.held);
+      spares = subst (λ (x : SftpValue _). SparesOthers old.core x.core (IsNoneOfRead p.stage) (IsNoneOfRead q.stage)) (sym h.1.1.0)
+          (subst (λ (x : FsReadValue). SparesOthers old.core old.core (IsNoneOfRead p.stage) (IsNoneOfRead x.stage)) (sym h.1.1.1)
+          (spares_kept old.core old.core (IsNoneOfRead p.stage) (keeps_same old.core)));
       link = ap (λ (x : SftpValue _). x.link) h.1.1.0;
     }
 
@@ -60,26 +65,33 @@ pending_reads : {L : Type 0} (old new : SftpValue L) (p q : FsReadValue) → Rea
 pending_reads old new p q (inl h) = h.0.over
 pending_reads old new p q (inr h) = absurd cc
 
-keeps_grants : (old new : Core) (p q : Whole) → is_over q ≡ false → KeepsForOthers old new p q → KeepsGrants old new
-keeps_grants old new p whole.Ended on h = absurd cc
-keeps_grants old new p (whole.Opening call facts) on h = h
-keeps_grants old new p (whole.Open grant reads tickets) on h = h
-
 -- and the session open
 pending_open : {L : Type 0} (old new : SftpValue L) (p q : FsReadValue) → MayWaitRead old.core p → ReadIn old new p q poll.Pending
     → IsSome (info_of new.core.phase)
-pending_open old new p q may (inl h) = (keeps_grants old.core new.core p.stage q.stage h.0.over h.0.grants).opened may.opened
+pending_open old new p q may (inl h) = h.0.spares.opened may.opened
 pending_open old new p q may (inr h) = absurd cc
 
 -- what holds between two rounds
 pub record ReadsOn {L S : Type 0} (state : L → LinkView S) (count : ℕ) (old new : SftpValue L) (p q : FsReadValue) : Type 0 where
   pub rounds : AreReadRounds state count old new p q
   pub may : MayWaitRead new.core q
+  pub spares : SparesOthers old.core new.core (IsNoneOfRead p.stage) (IsNoneOfRead q.stage)
   pub unfaulted : (state new.link).faults ≡ (state old.link).faults
 
 pub reads_first : {L S : Type 0} (state : L → LinkView S) (old : SftpValue L) (p : FsReadValue) → MayWaitRead old.core p
     → ReadsOn state 0 old old p p
-reads_first state old p may = record { rounds = (refl, refl); may = may; unfaulted = refl }
+reads_first state old p may =
+    record {
+      rounds = (refl, refl);
+      may = may;
+      spares = spares_kept old.core old.core (IsNoneOfRead p.stage) (keeps_same old.core);
+      unfaulted = refl;
+    }
+
+reads_spare : (old mid new : Core) (p m q : FsReadValue) → SparesOthers old mid (IsNoneOfRead p.stage) (IsNoneOfRead m.stage)
+    → SparesOthers mid new (IsNoneOfRead m.stage) (IsNoneOfRead q.stage) → SparesOthers old new (IsNoneOfRead p.stage) (IsNoneOfRead q.stage)
+reads_spare old mid new p m q first last =
+    spares_both old mid new (IsNoneOfRead p.stage) (IsNoneOfRead m.stage) (IsNoneOfRead q.stage) first last
 
 -- a round, or none
 pub reads_next : {L S : Type 0} (state : L → LinkView S) (count : ℕ) (old mid polled new : SftpValue L) (p m q : FsReadValue)
@@ -93,6 +105,8 @@ reads_next state count old mid polled new p m q w waits (inl same) =
       rounds = (mid, (m, (w.rounds, record { mid = polled; reads = waits; round = inl same })));
       may = subst (λ (x : SftpValue _). MayWaitRead x.core q) (sym same.0)
           (record { opened = opened; over = pending_reads mid polled m q waits; held = left.held });
+      spares = subst (λ (x : SftpValue _). SparesOthers old.core x.core (IsNoneOfRead p.stage) (IsNoneOfRead q.stage)) (sym same.0)
+          (reads_spare old.core mid.core polled.core p m q w.spares left.spares);
       unfaulted = ap (λ (x : SftpValue _). (state x.link).faults) same.0 ∙ (ap (λ l. (state l).faults) left.link ∙ w.unfaulted);
     })
 reads_next state count old mid polled new p m q w waits (inr round) =
@@ -107,6 +121,8 @@ reads_next state count old mid polled new p m q w waits (inr round) =
         over = pending_reads mid polled m q waits;
         held = read_still polled.core new.core q.stage stays left.held;
       };
+      spares = spares_then old.core polled.core new.core (IsNoneOfRead p.stage) (IsNoneOfRead q.stage)
+          (reads_spare old.core mid.core polled.core p m q w.spares left.spares) stays;
       unfaulted = round_unfaulted state polled new round ∙ (ap (λ l. (state l).faults) left.link ∙ w.unfaulted);
     })
 
@@ -123,6 +139,7 @@ reads_end state count old mid new p m q result w polled =
       rounds = w.rounds;
       stops = inl polled;
       held = left.held;
+      spares = reads_spare old.core mid.core new.core p m q w.spares left.spares;
       unfaulted = where_ok result (ap (λ l. (state l).faults) left.link ∙ w.unfaulted);
     }
 
@@ -137,6 +154,7 @@ reads_out state count old new p q w all =
       rounds = w.rounds;
       stops = inr (inr (all, (refl, (refl, refl))));
       held = w.may.held;
+      spares = w.spares;
       unfaulted = tt;
     }
 
@@ -154,6 +172,8 @@ reads_stop state count old mid polled new p m q e w waits fails =
       rounds = w.rounds;
       stops = inr (inl (polled, (e, (waits, (fails, refl)))));
       held = read_still polled.core new.core q.stage stays left.held;
+      spares = spares_then old.core polled.core new.core (IsNoneOfRead p.stage) (IsNoneOfRead q.stage)
+          (reads_spare old.core mid.core polled.core p m q w.spares left.spares) stays;
       unfaulted = tt;
     }
 
@@ -170,18 +190,21 @@ pub finished_read : {L S : Type 0} (state : L → LinkView S) (old mid inside ne
     (result : Result Filled Error) → HasWaitedRead state old mid p last result → inside ≡ mid
     → CancelsRead inside.core new.core last.stage → new ≡ with_core inside new.core → HasFinishedRead state old new p result
 finished_read state old mid inside new p last result w same cancels left =
+    let waited = subst (λ (x : SftpValue _). HasWaitedRead state old x p last result) (sym same) w in
     record {
       mid = inside;
       last = last;
-      waited = subst (λ (x : SftpValue _). HasWaitedRead state old x p last result) (sym same) w;
+      waited = waited;
       given_up = cancels;
       left = left;
+      spares = spares_both old.core inside.core new.core (IsNoneOfRead p.stage) (IsNoneOfRead last.stage) (λ id. Unit {0}) waited.spares
+          cancels.spares;
     }
 
 -- a call that was given up once it was run, and how it was then
 pub finished_last : {W M V L S : Type 0} (s : Meaning W M V) (state : L → LinkView S) (old mid inside new : SftpValue L)
     (p last : CallValue M) (result : Result V Error) → HasWaited s state old mid p last result → inside ≡ mid
-    → Cancels inside.core new.core last.stage → new ≡ with_core inside new.core
+    → CancelsAwaited inside.core new.core last.stage → new ≡ with_core inside new.core
     → (h : HasFinished s state old new p result) × (h.last ≡ last)
 finished_last s state old mid inside new p last result w same cancels left =
     let f = finished s state old mid inside new p last result w same cancels left in (
@@ -194,13 +217,14 @@ finished_last s state old mid inside new p last result w same cancels left =
         holds = f.holds;
         grants = f.grants;
         others = f.others;
+        spares = f.spares;
       },
       refl,
     )
 
 pub finished_copy : {L S : Type 0} (state : L → LinkView S) (old mid inside new : SftpValue L) (p last : CallValue CopyValue)
     (f f' g g' : FileValue) (result : Result (Unit {0}) Error) → HasWaitedCopy state old mid p last f f' g g' result → inside ≡ mid
-    → Cancels inside.core new.core last.stage → new ≡ with_core inside new.core → HasCopied state old new p f f' g g' result
+    → CancelsAwaited inside.core new.core last.stage → new ≡ with_core inside new.core → HasCopied state old new p f f' g g' result
 finished_copy state old mid inside new p last f f' g g' result w same cancels left =
     let h = finished_last copying state old mid inside new p last result w.waited same cancels left in
     record {
@@ -211,7 +235,7 @@ finished_copy state old mid inside new p last f f' g g' result w same cancels le
 
 pub finished_bytes : {L S : Type 0} (state : L → LinkView S) (old mid inside new : SftpValue L) (p last : CallValue ReadAllValue)
     (before after : FileValue) (answer : Result (Unit {0}) Error) (result : Result Filled ReadAllError) (got : List ℕ)
-    → HasWaited reading_all state old mid p last answer → inside ≡ mid → Cancels inside.core new.core last.stage
+    → HasWaited reading_all state old mid p last answer → inside ≡ mid → CancelsAwaited inside.core new.core last.stage
     → new ≡ with_core inside new.core → got ≡ last.runner.before ++ last.runner.got → GivesBytes got answer result
     → IsMoved before after last.runner.file → HasReadBytes state old new p before after result
 finished_bytes state old mid inside new p last before after answer result got w same cancels left bytes gives moved =

@@ -7,4 +7,5 @@ pub mod Opening
 pub mod SessionRows
 pub mod Listed
 pub mod WholeWaits
+pub mod WriteWaits
 pub mod WaitRows

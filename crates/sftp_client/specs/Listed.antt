@@ -6,9 +6,9 @@ use Rattle.sftp_model.specs.declared.reply.NameEntry.{NameEntry}
 use Rattle.sftp_core.specs.Core.{Core, kept_of}
 use Rattle.sftp_core.specs.Info.{MAX_IDS, info_of}
 use Rattle.sftp_link.specs.Views.{LinkView}
-use Rattle.call_state.specs.Keeping.{KeepsGrants}
+use Rattle.call_state.specs.Keeping.{KeepsGrants, SparesOthers}
 use Rattle.call_state.specs.declared.poll.Poll.TheVariants.{Pending, Ready}
-use Rattle.sftp_fs.specs.Listings.{Given, IsListing, ListingValue, Lists}
+use Rattle.sftp_fs.specs.Listings.{Given, IsListing, IsNoneAsked, ListingValue, PollsEntries}
 use Rattle.sftp_client.specs.Sessions.{SftpValue, with_core}
 use Rattle.sftp_client.specs.Waits.{ArePollRounds, RoundFails}
 
@@ -19,7 +19,7 @@ pub record MayWaitFor (core : Core) (p : ListingValue) : Type 0 where
 
 -- A poll of a listing changed nothing of the session but its core; or all ids were in use, and nothing changed.
 abbrev pub ListedIn : {L : Type 0} → SftpValue L → SftpValue L → ListingValue → ListingValue → Given → Type 0
-ListedIn old new p q given = (Lists old.core new.core p q given × (new ≡ with_core old new.core))
+ListedIn old new p q given = (PollsEntries old.core new.core p q given × (new ≡ with_core old new.core))
     ⊎ ((MAX_IDS ≤ kept_of old.core) × ((given ≡ Ready (Some (Err error.OutOfMemory))) × ((new ≡ old) × (q ≡ p))))
 
 -- nothing was given yet
@@ -43,7 +43,8 @@ ListingStops {L = L} state count old new p q result = ListedIn old new p q (give
     ⊎ ((count ≡ 2 ^ 64 - 1) × ((result ≡ Err error.OutOfMemory) × ((new ≡ old) × (q ≡ p)))))
 
 -- A listing was polled, and round after round what was queued was sent and a frame taken, until it gave something or a
--- round went wrong. It may be waited for on, or closed; each grant stays, and the session open.
+-- round went wrong. It may be waited for on, or closed; each grant stays, what others await is theirs still, and the
+-- session stays open.
 pub record HasListed {L S : Type 0} (state : L → LinkView S) (old new : SftpValue L) (p q : ListingValue)
     (result : Result (Option NameEntry) Error) : Type 0 where
   pub count : ℕ
@@ -53,4 +54,5 @@ pub record HasListed {L S : Type 0} (state : L → LinkView S) (old new : SftpVa
   pub stops : ListingStops state count mid new listing q result
   pub held : IsListing new.core q
   pub grants : KeepsGrants old.core new.core
+  pub spares : SparesOthers old.core new.core (IsNoneAsked p.asked) (IsNoneAsked q.asked)
   pub unfaulted : OnOk result ((state new.link).faults ≡ (state old.link).faults)

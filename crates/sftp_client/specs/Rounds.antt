@@ -9,7 +9,7 @@ use Rattle.sftp_core.specs.declared.info.Info.{Info}
 use Rattle.sftp_link.specs.Views.{LinkView}
 use Rattle.sftp_client.specs.Incoming.{nothing_came}
 use Rattle.sftp_client.specs.Sessions.{
-  Flushes,
+  FlushesQueue,
   FlushesUnfailed,
   IsUnfaulted,
   SendsAll,
@@ -71,9 +71,9 @@ abbrev pub HandsBack : {L : Type 0} → (SftpValue L → Type 0) → L → Type 
 HandsBack {L = L} Stopped link = (last : SftpValue L) × (Stopped last × (last.link ≡ link))
 
 -- it is open; or there was no memory for a core, or the opening stopped, and the link is handed back
-abbrev pub Opens : {L S : Type 0} → (L → LinkView S) → L → SftpOptions → Result (SftpValue L) (Error × L) → Type 0
-Opens state link options (Ok sftp) = IsOpened state (starting options link) sftp
-Opens state link options (Err p) = ((p.0 ≡ error.OutOfMemory) × (p.1 ≡ link))
+abbrev pub OpensSftp : {L S : Type 0} → (L → LinkView S) → L → SftpOptions → Result (SftpValue L) (Error × L) → Type 0
+OpensSftp state link options (Ok sftp) = IsOpened state (starting options link) sftp
+OpensSftp state link options (Err p) = ((p.0 ≡ error.OutOfMemory) × (p.1 ≡ link))
     ⊎ HandsBack (λ last. OpenEnds state (starting options link) last (Err p.0)) p.1
 
 -- ---- the end
@@ -100,12 +100,12 @@ pub record HasRounds {L S : Type 0} (state : L → LinkView S) (old new : SftpVa
 -- a round stopped as its frame was taken, or as what was queued was sent
 abbrev pub RoundStops : {L S : Type 0} → (L → LinkView S) → SftpValue L → SftpValue L → Error → Type 0
 RoundStops {L = L} state old new e = TakesOrKept state old new (Err e)
-    ⊎ ((mid : SftpValue L) × (TakesFrame state old mid × Flushes state mid new (Err e)))
+    ⊎ ((mid : SftpValue L) × (TakesFrame state old mid × FlushesQueue state mid new (Err e)))
 
 -- no request is unanswered and all was sent; or it stopped before the rounds, or in one of them
 abbrev pub Drains : {L S : Type 0} → (L → LinkView S) → SftpValue L → SftpValue L → Result (Unit {0}) Error → Type 0
 Drains state old new (Ok u) = HasRounds state old new × ((unanswered_of new.core ≡ 0) × (new.unsent ≡ []))
-Drains {L = L} state old new (Err e) = Flushes state old new (Err e)
+Drains {L = L} state old new (Err e) = FlushesQueue state old new (Err e)
     ⊎ ((mid : SftpValue L) × (HasRounds state old mid × RoundStops state mid new e))
 
 abbrev pub ClosesSession : {L S : Type 0} → (L → LinkView S) → SftpValue L → Result L (Error × L) → Type 0

@@ -1,5 +1,24 @@
 -- A session over a link, and what its calls make of it.
-use Rattle.std.specs.Prelude.{◌≡◌, ◌⊎◌, ◌<◌, ℕ, Bool, true, false, List, [], ◌++◌, Option, None, Some, Result, Ok, Err}
+use Rattle.std.specs.Prelude.{
+  ◌≡◌,
+  ◌⊎◌,
+  ◌<◌,
+  ◌≤◌,
+  ℕ,
+  Bool,
+  true,
+  false,
+  List,
+  [],
+  ◌++◌,
+  length,
+  Option,
+  None,
+  Some,
+  Result,
+  Ok,
+  Err,
+}
 use Rattle.ssh_encoding.specs.Writing.{string}
 use Rattle.sftp_model.specs.ReplyReadings.{reply_at}
 use Rattle.sftp_model.specs.declared.error.Error.{Error}
@@ -8,6 +27,7 @@ use Rattle.sftp_model.specs.declared.error.Fault.{Fault}
 use Rattle.sftp_model.specs.declared.error.Fault.TheVariants as fault
 use Rattle.sftp_core.specs.Core.{Core, awaited_of, failed_with, handed_out}
 use Rattle.sftp_model.specs.Frames.{frames_of}
+use Rattle.sftp_model.specs.Numbers.{MAX_BODY_LEN}
 use Rattle.sftp_core.specs.Take.{TakenFrom, fault_of, take_refusal}
 use Rattle.sftp_core.specs.declared.errors.TakeError.{TakeError}
 use Rattle.sftp_core.specs.declared.tokens.Taken.{Taken}
@@ -101,18 +121,21 @@ FlushesUnfailed state old new (Ok u) = SendsAll state (handed old) new
 FlushesUnfailed state old new (Err e) = SendStops state old new e ⊎ SendStops state (handed old) new e
 
 -- a kept fault is answered before all else
-abbrev pub Flushes : {L S : Type 0} → (L → LinkView S) → SftpValue L → SftpValue L → Result (Unit {0}) Error → Type 0
-Flushes state old new (Ok u) = (old.core.fault ≡ None) × FlushesUnfailed state old new (Ok u)
-Flushes state old new (Err e) = IsKept old new e ⊎ ((old.core.fault ≡ None) × FlushesUnfailed state old new (Err e))
+abbrev pub FlushesQueue : {L S : Type 0} → (L → LinkView S) → SftpValue L → SftpValue L → Result (Unit {0}) Error
+    → Type 0
+FlushesQueue state old new (Ok u) = (old.core.fault ≡ None) × FlushesUnfailed state old new (Ok u)
+FlushesQueue state old new (Err e) = IsKept old new e ⊎ ((old.core.fault ≡ None)
+    × FlushesUnfailed state old new (Err e))
 
 -- ---- what is taken
 
--- one frame came, from its first byte to its last, and was taken
+-- one frame came, from its first byte to its last, of at most 1048579 bytes, and was taken
 pub record TakesFrame {L S : Type 0} (state : L → LinkView S) (old new : SftpValue L) : Type 0 where
   pub got : List ℕ
   pub body : List ℕ
   pub told : Taken
   pub frame : bytes_of old.coming ++ got ≡ string body
+  pub short : length body ≤ MAX_BODY_LEN
   pub log : Told (Exchanged old.unsent got) (state old.link).log (state new.link).log
   pub right : take_refusal old.core (reply_at body) ≡ None
   pub taken : TakenFrom (reply_at body) told old.core new.core
@@ -132,13 +155,15 @@ pub record GetStops {L S : Type 0} (state : L → LinkView S) (old new : SftpVal
   pub left : new ≡ record { core = kept_after e old.core; unsent = []; coming = new.coming; link = new.link }
   pub caused : IsCaused (state old.link) (state new.link) e
 
--- one frame came whole and was refused, by the first thing that is wrong with it, which is kept as the fault
+-- One frame came whole, of at most 1048579 bytes, and was refused by the first thing that is wrong with it, which is
+-- kept as the fault.
 pub record RefusesFrame {L S : Type 0} (state : L → LinkView S) (old new : SftpValue L) (e : Error) : Type 0 where
   pub got : List ℕ
   pub body : List ℕ
   pub refusal : TakeError
   pub fault : Fault
   pub frame : bytes_of old.coming ++ got ≡ string body
+  pub short : length body ≤ MAX_BODY_LEN
   pub log : Told (Exchanged old.unsent got) (state old.link).log (state new.link).log
   pub is : e ≡ error_of refusal
   pub first : take_refusal old.core (reply_at body) ≡ Some refusal

@@ -10,20 +10,21 @@ use Rattle.sftp_link.specs.Views.{LinkView}
 use Rattle.call_state.specs.Asked.{HoldsTicket, IsReady}
 use Rattle.call_state.specs.Calls.{
   CallValue,
-  Cancels,
+  CancelsAwaited,
   HoldsReady,
   IsHeld,
+  IsNoneOfCall,
   IsNotOf,
   IsUnderWay,
   KeepsOtherTickets,
   Stepped,
 }
-use Rattle.call_state.specs.Keeping.{KeepsGrants}
+use Rattle.call_state.specs.Keeping.{KeepsGrants, SparesOthers}
 use Rattle.call_state.specs.Runners.{Meaning}
 use Rattle.call_state.specs.declared.poll.Poll.{Poll}
 use Rattle.call_state.specs.declared.poll.Poll.TheVariants as poll
 use Rattle.sftp_file.specs.Files.{FileValue, IsMoved, file_at}
-use Rattle.sftp_client.specs.Sessions.{Flushes, SftpValue, TakesOrKept, with_core}
+use Rattle.sftp_client.specs.Sessions.{FlushesQueue, SftpValue, TakesOrKept, with_core}
 
 -- a further request may be submitted, or all ids are in use
 abbrev pub IsReadyOr : Core → Result (Unit {0}) Error → Type 0
@@ -41,13 +42,13 @@ pub record MayWait {W M V : Type 0} (s : Meaning W M V) (core : Core) (call : Ca
 pub record SendsAndTakes {L S : Type 0} (state : L → LinkView S) (old new : SftpValue L) : Type 0 where
   pub mid : SftpValue L
   pub took : Bool
-  pub sends : Flushes state old mid (Ok tt)
+  pub sends : FlushesQueue state old mid (Ok tt)
   pub takes : TakesOrKept state mid new (Ok took)
 
 -- not all that was queued was sent, or no frame was taken
 abbrev pub RoundFails : {L S : Type 0} → (L → LinkView S) → SftpValue L → SftpValue L → Error → Type 0
-RoundFails {L = L} state old new e = Flushes state old new (Err e)
-    ⊎ ((mid : SftpValue L) × (Flushes state old mid (Ok tt) × TakesOrKept state mid new (Err e)))
+RoundFails {L = L} state old new e = FlushesQueue state old new (Err e)
+    ⊎ ((mid : SftpValue L) × (FlushesQueue state old mid (Ok tt) × TakesOrKept state mid new (Err e)))
 
 abbrev pub RoundEnds : {L S : Type 0} → (L → LinkView S) → SftpValue L → SftpValue L → Result (Unit {0}) Error → Type 0
 RoundEnds state old new (Ok u) = SendsAndTakes state old new
@@ -95,7 +96,7 @@ WaitStops s state count old new p q result = WaitEnds s state old new p q result
 
 -- A call was polled, and round after round what was queued was sent and a frame taken, until it answered or a round
 -- went wrong. It may be run on or given up then; the core holds what belongs to its value, each grant stays, what
--- others await, and the session open. The link did not fail where the call gave a value.
+-- others have is theirs still, and the session open. The link did not fail where the call gave a value.
 pub record HasWaited {W M V L S : Type 0} (s : Meaning W M V) (state : L → LinkView S) (old new : SftpValue L)
     (p q : CallValue M) (result : Result V Error) : Type 0 where
   pub count : ℕ
@@ -107,21 +108,23 @@ pub record HasWaited {W M V L S : Type 0} (s : Meaning W M V) (state : L → Lin
   pub holds : HoldsReady s new.core (poll.Ready result)
   pub grants : KeepsGrants old.core new.core
   pub others : KeepsOtherTickets old.core new.core p.stage q.stage
+  pub spares : SparesOthers old.core new.core (IsNoneOfCall p.stage) (IsNoneOfCall q.stage)
   pub unfaulted : OnOk result ((state new.link).faults ≡ (state old.link).faults)
 
 -- A call was run to its end and given up there, so that nothing is left of it. Where it gave a value the core holds
--- what belongs to that, and each grant stays; else each grant but one that came for this call. What others await stays.
+-- what belongs to that, and each grant stays. What others have stays whatever it answered, and the session open.
 pub record HasFinished {W M V L S : Type 0} (s : Meaning W M V) (state : L → LinkView S) (old new : SftpValue L)
     (p : CallValue M) (result : Result V Error) : Type 0 where
   pub mid : SftpValue L
   pub last : CallValue M
   pub waited : HasWaited s state old mid p last result
-  pub given_up : Cancels mid.core new.core last.stage
+  pub given_up : CancelsAwaited mid.core new.core last.stage
   pub left : new ≡ with_core mid new.core
   pub holds : HoldsReady s new.core (poll.Ready result)
   pub grants : OnOk result (KeepsGrants old.core new.core)
   pub others : (ticket : ℕ) (kind : Expected) → IsNotOf p.stage ticket → HoldsTicket old.core ticket kind
       → HoldsTicket new.core ticket kind
+  pub spares : SparesOthers old.core new.core (IsNoneOfCall p.stage) (λ id. Unit {0})
 
 -- ---- a call that moves a file
 

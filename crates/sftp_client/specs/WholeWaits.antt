@@ -25,12 +25,13 @@ use Rattle.sftp_core.specs.Core.{Core, kept_of}
 use Rattle.sftp_core.specs.Info.{MAX_IDS, info_of}
 use Rattle.sftp_link.specs.Views.{LinkView}
 use Rattle.call_state.specs.Calls.{CallValue}
+use Rattle.call_state.specs.Keeping.{SparesOthers}
 use Rattle.call_state.specs.declared.poll.Poll.TheVariants as poll
 use Rattle.sftp_file.specs.Copies.{CopyValue, StandsAt, copying}
 use Rattle.sftp_file.specs.Files.{FileValue, IsMoved, file_at, file_in}
 use Rattle.sftp_file.specs.Gathers.{GivesBytes, ReadAllValue, bytes_out, reading_all, without_bytes}
 use Rattle.sftp_file.specs.declared.gathering.ReadAllError.{ReadAllError}
-use Rattle.sftp_whole.specs.WholeReads.{CancelsRead, FsReadValue, IsReadHeld, ReadAnswer, ReadOn, is_over}
+use Rattle.sftp_whole.specs.WholeReads.{CancelsRead, FsReadValue, IsNoneOfRead, IsReadHeld, ReadAnswer, ReadOn, is_over}
 use Rattle.sftp_client.specs.Sessions.{SftpValue, with_core}
 use Rattle.sftp_client.specs.Waits.{HasFinished, HasWaited, MayWait, RoundFails, SendsAndTakes}
 
@@ -123,7 +124,7 @@ ReadStops {L = L} state count old new p q result = ReadIn old new p q (poll.Read
     ⊎ ((count ≡ 2 ^ 64 - 1) × ((result ≡ Err error.OutOfMemory) × ((new ≡ old) × (q ≡ p)))))
 
 -- It was polled, and round after round what was queued was sent and a frame taken, until it answered or a round went
--- wrong. It may be run on or given up then.
+-- wrong. It may be run on or given up then; what others have is theirs still, and the session open.
 pub record HasWaitedRead {L S : Type 0} (state : L → LinkView S) (old new : SftpValue L) (p q : FsReadValue)
     (result : Result Filled Error) : Type 0 where
   pub count : ℕ
@@ -132,9 +133,11 @@ pub record HasWaitedRead {L S : Type 0} (state : L → LinkView S) (old new : Sf
   pub rounds : AreReadRounds state count old mid p call
   pub stops : ReadStops state count mid new call q result
   pub held : IsReadHeld new.core q.stage
+  pub spares : SparesOthers old.core new.core (IsNoneOfRead p.stage) (IsNoneOfRead q.stage)
   pub unfaulted : OnOk result ((state new.link).faults ≡ (state old.link).faults)
 
--- it was run to its end and given up there, so that nothing is left of it
+-- It was run to its end and given up there, so that nothing is left of it. What others have stays whatever it answered,
+-- and the session open.
 pub record HasFinishedRead {L S : Type 0} (state : L → LinkView S) (old new : SftpValue L) (p : FsReadValue)
     (result : Result Filled Error) : Type 0 where
   pub mid : SftpValue L
@@ -142,3 +145,4 @@ pub record HasFinishedRead {L S : Type 0} (state : L → LinkView S) (old new : 
   pub waited : HasWaitedRead state old mid p last result
   pub given_up : CancelsRead mid.core new.core last.stage
   pub left : new ≡ with_core mid new.core
+  pub spares : SparesOthers old.core new.core (IsNoneOfRead p.stage) (λ id. Unit {0})

@@ -5,7 +5,7 @@ ghost use Rattle.sftp_client.specs.contracts.sftp.Sftp.{the_row};
 ghost use Rattle.sftp_core.specs.contracts.pipeline.Core.{the_row as core_row};
 ghost use Rattle.sftp_core.specs.Frames.{AreFilled};
 ghost use Rattle.sftp_model.specs.Pieces.{joined};
-ghost use Rattle.sftp_client.specs.Sessions.{Flushes, FlushesUnfailed, IsWholeFrame, PullsFrame, SendsRest, TakesOrKept, TakesPulled, TakesUnfailed, TakesWhole, fault_by, kept_after, with_core};
+ghost use Rattle.sftp_client.specs.Sessions.{FlushesQueue, FlushesUnfailed, IsWholeFrame, PullsFrame, SendsRest, TakesOrKept, TakesPulled, TakesUnfailed, TakesWhole, fault_by, kept_after, with_core};
 
 mod list;
 mod offers;
@@ -13,6 +13,7 @@ mod open;
 mod opening;
 mod wait;
 mod whole;
+mod write;
 
 use crate::incoming::Incoming;
 use crate::outgoing::Outgoing;
@@ -75,12 +76,20 @@ impl<L: Link> Sftp<L> {
     /// `close` sends it first. `LinkFault`: the fault is kept, and each later call answers it.
     pub fn flush(&mut self) -> Result<(), Error>
         requires { (L.LinkState.state self.old.link).faults < 2 ^ 64 - 1 }
-        ensures { Flushes L.LinkState.state self.old self.new result }
+        ensures { FlushesQueue L.LinkState.state self.old self.new result }
     {
         if let Some(fault) = self.core.fault() {
             return Err(Error::BackgroundTaskFailure(fault));
         }
         self.flush_unfailed()
+    }
+
+    /// `flush`, by the name that `openssh-sftp-client` has for it.
+    pub fn manual_flush(&mut self) -> Result<(), Error>
+        requires { (L.LinkState.state self.old.link).faults < 2 ^ 64 - 1 }
+        ensures { FlushesQueue L.LinkState.state self.old self.new result }
+    {
+        self.flush()
     }
 
     /// Takes one frame, and no byte past it: false exactly where no sent request is unanswered, and nothing is read

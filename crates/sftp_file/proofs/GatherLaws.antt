@@ -1,5 +1,5 @@
 -- How reads of so many bytes go on.
-use Rattle.std.proofs.Common.{◌≡◌, ◌∙◌, refl, sym, ap, subst, ℕ, Bool, true, false, List, [], Option, Some, Result, Ok, Err, if◌then◌else◌}
+use Rattle.std.proofs.Common.{◌≡◌, ◌∙◌, refl, sym, subst, ℕ, Bool, true, false, List, [], Some, Result, Ok, Err, if◌then◌else◌}
 use Rattle.sftp_model.specs.declared.error.Error.TheVariants as error
 use Rattle.sftp_model.specs.declared.error.IoKind.{IoKind}
 use Rattle.sftp_model.specs.declared.outcome.Outcome.TheVariants as outcome

@@ -1,25 +1,32 @@
 -- How an open begins.
-use Rattle.std.proofs.Common.{◌≡◌, ℕ, true, false, List, [], length, nat_lt, refl, sym, subst, ◌∙◌, Result, Ok, Err, IfOk}
+use Rattle.std.proofs.Common.{◌≡◌, ℕ, true, false, List, [], length, nat_lt, refl, sym, ap, subst, ◌∙◌, Option, Some, Result, Ok, Err, IfOk}
 use Rattle.sftp_model.specs.declared.error.Error.{Error}
 use Rattle.sftp_model.specs.declared.error.Error.TheVariants as error
 use Rattle.sftp_model.specs.declared.error.IoKind.TheVariants as kind
 use Rattle.sftp_model.specs.declared.flags.OpenFlags.{OpenFlags}
 use Rattle.sftp_model.specs.declared.outcome.Outcome.TheVariants as outcome
+use Rattle.sftp_model.specs.declared.reply.Reply.{Reply}
 use Rattle.sftp_model.specs.declared.slot.Facts.{Facts}
 use Rattle.sftp_model.specs.declared.slot.Move.TheVariants.{Ask, Done}
 use Rattle.sftp_model.specs.declared.slot.Site.{Site}
 use Rattle.sftp_model.specs.declared.slot.Slot.TheVariants as slots
 use Rattle.sftp_model.specs.Slots.{with_slot}
 use Rattle.plan_model.specs.FilePlans.{open_next, open_request}
-use Rattle.plan_model.specs.Moves.{Answers, on_handle, once_answered}
+use Rattle.plan_model.specs.Moves.{Answers, handle_of, on_handle, once_answered}
 use Rattle.sftp_model.specs.Frames.{is_too_long}
 use Rattle.sftp_core.specs.Core.{Core}
+use Rattle.sftp_core.specs.Grant.{GrantValue}
 use Rattle.call_state.specs.declared.asking.Asking.{Asking}
 use Rattle.call_state.specs.declared.asking.Asking.TheVariants.{Whole}
-use Rattle.call_state.specs.Calls.{BeginsCall, CallValue, IsUnderWay}
+use Rattle.call_state.specs.declared.poll.Poll.TheVariants as poll
+use Rattle.call_state.specs.declared.stage.Stage.{Stage}
+use Rattle.call_state.specs.declared.stage.Stage.TheVariants.{Asked}
+use Rattle.call_state.specs.Calls.{BeginsCall, CallValue, IsUnderWay, Stepped, TellsReply, grant_brought}
 use Rattle.call_state.specs.Keeping.{KeepsHeld}
 use Rattle.call_state.specs.Runners.{GoesBehind}
+use Rattle.call_state.proofs.Grants.{brought_handle, brought_number}
 use Rattle.call_state.proofs.Keeping.{keeps_same}
+use Rattle.sftp_file.specs.Files.{Brought, FileValue}
 use Rattle.sftp_file.specs.declared.opening.Opening.{Opening}
 use Rattle.sftp_file.specs.Opens.{HasRights, OpenStarts, opened_at, opening}
 use Rattle.sftp_file.proofs.BodyLens.{long_by_path}
@@ -82,3 +89,22 @@ open_starts flags path asking m old new result short rights is started begins ke
       rights = rights_by flags asking m old new result rights begins;
       keeps = keeps;
     }
+
+-- ---- the file that is given
+
+by_number : (core : Core) (stage : Stage) (ticket : ℕ) (g : GrantValue) → stage ≡ Asked ticket → grant_brought core stage ≡ Some g → g.id ≡ ticket
+by_number core stage ticket g is brings = brought_number core ticket g (subst (λ (x : Stage). grant_brought core x ≡ Some g) is brings)
+
+pub opened_number : (old new : Core) (p q : CallValue Opening) (f : FileValue) (ticket : ℕ)
+    → Stepped opening old new p q (poll.Ready (Ok f)) → p.stage ≡ Asked ticket → f.grant.id ≡ ticket
+opened_number old new p q f ticket h is = by_number old p.stage ticket f.grant is (sym h.brings)
+
+pub opened_handle : (old new : Core) (p q : CallValue Opening) (f : FileValue) (answers : Answers)
+    → Stepped opening old new p q (poll.Ready (Ok f)) → TellsReply opening old p answers → handle_of (answers 1) ≡ f.grant.handle
+opened_handle old new p q f answers h tells =
+    ap (λ (r : Option Reply). handle_of r) (brought_handle opening old p.runner p.stage answers f.grant (sym h.brings) tells)
+
+pub opened_brought : (old new : Core) (p q : CallValue Opening) (f : FileValue) (answers later : Answers)
+    → Stepped opening old new p q (poll.Ready (Ok f)) → TellsReply opening old p answers → later 0 ≡ answers 1 → Brought f later
+opened_brought old new p q f answers later h tells same =
+    ap (λ (r : Option Reply). handle_of r) same ∙ opened_handle old new p q f answers h tells

@@ -32,7 +32,7 @@ use Rattle.sftp_file.specs.Tells.{telling}
 use Rattle.sftp_file.specs.declared.settling.Settling.{Settling}
 use Rattle.sftp_file.specs.declared.telling.Telling.{Telling}
 
--- what `Call::ask` ensures for every plan
+-- what `PendingCall::ask` ensures for every plan
 abbrev pub StartsAny : {W M V : Type 0} → Meaning W M V → Asking → M → Core → Core → Result (CallValue M) Error → Type 0
 StartsAny {W} s asking m old new result =
     (w : W) (refused : Error → Move) (plan : Plan) (answers : Answers) → GoesBehind s w plan answers asking m → Started s w refused plan answers old new result

@@ -12,7 +12,7 @@ use Rattle.call_state.specs.declared.stage.Stage.{Stage}
 use Rattle.call_state.specs.declared.stage.Stage.TheVariants.{Ended, Ready, Unsent, Asked, Came}
 use Rattle.call_state.specs.declared.told.Told.TheVariants as told
 use Rattle.call_state.specs.Asked.{IsReady}
-use Rattle.call_state.specs.Calls.{Cancels, CallValue, HoldsReady, IsGrantOf, IsHeld, IsHeldAt, IsOver, IsUnderWay, MayPoll, is_ended}
+use Rattle.call_state.specs.Calls.{CancelsAwaited, CallValue, HoldsReady, IsGrantOf, IsHeld, IsHeldAt, IsOver, IsUnderWay, MayPoll, is_ended}
 use Rattle.call_state.specs.Keeping.{KeepsGrants}
 use Rattle.call_state.specs.Runners.{Meaning}
 use Rattle.call_state.proofs.Keeping.{
@@ -62,7 +62,7 @@ owns_nothing s core m (Asked ticket) id none h own = own
 
 -- giving up a call that no HANDLE answers leaves every grant
 pub cancelled_keeps : {W M V : Type 0} (s : Meaning W M V) (old new : Core) (call : CallValue M)
-    → asks_handle (s.expected call.runner) ≡ false → IsHeld s old call → Cancels old new call.stage
+    → asks_handle (s.expected call.runner) ≡ false → IsHeld s old call → CancelsAwaited old new call.stage
     → KeepsGrants old new
 cancelled_keeps s old new call none h cancels =
     record {
@@ -80,7 +80,7 @@ ended_owns_nothing (Came t) id over own = absurd cc
 
 -- a file that an open gave is counted once the call was spent
 pub opened_kept : (old new : Core) (call : CallValue Opening) (value : Result FileValue Error)
-    → HoldsReady opening old (poll.Ready value) → IsOver call.stage (poll.Ready value) → Cancels old new call.stage
+    → HoldsReady opening old (poll.Ready value) → IsOver call.stage (poll.Ready value) → CancelsAwaited old new call.stage
     → IfOk value (λ (f : FileValue). IsGrant new f.grant)
 opened_kept old new call (Ok f) holds over cancels =
     grant_at new f.grant 1 (cancels.grants f.grant.id f.grant.handle 1 (ended_owns_nothing call.stage f.grant.id over) holds) (omega arith)

@@ -48,7 +48,7 @@ copying =
       ready = λ m. ⊥;
       first = λ w m. Wait 2;
       again = false;
-      holds = λ core value. Unit {0};
+      grant = λ value. None;
     }
 
 pub copies_wait : (w : Unit {0}) (m : CopyValue) (later : Own) (answers : Answers) → answers 2 ≡ None

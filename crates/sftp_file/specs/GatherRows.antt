@@ -1,5 +1,5 @@
 -- Worked reads of so many bytes, and beside each what nearly is one.
-use Rattle.std.specs.Prelude.{ℕ, ◌≡◌, true, List, [], ◌∷◌, ◌++◌, codes, Some, None, Ok, Err, refl}
+use Rattle.std.specs.Prelude.{ℕ, ◌≡◌, true, [], ◌∷◌, codes, Some, refl}
 use Rattle.sftp_model.specs.declared.error.Error.TheVariants as error
 use Rattle.sftp_model.specs.declared.error.IoKind.TheVariants as kind
 use Rattle.sftp_model.specs.declared.outcome.Outcome.TheVariants as outcome
@@ -10,7 +10,6 @@ use Rattle.sftp_model.specs.declared.slot.FileAt.{FileAt}
 use Rattle.sftp_model.specs.declared.slot.Move.TheVariants.{Ask, Done, Wait}
 use Rattle.plan_model.specs.Moves.{Answers}
 use Rattle.plan_model.specs.PlanWords.{after_handle, bare, handle}
-use Rattle.call_state.specs.Calls.{CallValue}
 use Rattle.call_state.specs.declared.stage.Stage.TheVariants.{Asked, Ended}
 use Rattle.sftp_file.specs.Files.{one_slot}
 use Rattle.sftp_file.specs.Gathers.{ReadAllValue, bytes_out, gathered, read_all_left, without_bytes}

@@ -123,7 +123,7 @@ reading_all =
       ready = λ m. Unit {0};
       first = λ w m. Done (outcome.Bytes m.got) (one_slot m.file);
       again = true;
-      holds = λ core value. Unit {0};
+      grant = λ value. None;
     }
 
 pub gathers_wait : (w : Unit {0}) (m : ReadAllValue) (later : Own) (answers : Answers) → answers m.place ≡ None

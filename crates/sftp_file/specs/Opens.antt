@@ -15,8 +15,7 @@ use Rattle.sftp_model.specs.Readings.{has_bit}
 use Rattle.sftp_model.specs.Slots.{with_slot}
 use Rattle.plan_model.specs.FilePlans.{open_next}
 use Rattle.plan_model.specs.Moves.{Answers, Own, Plan, on_handle, once_answered}
-use Rattle.sftp_core.specs.Core.{Core, at}
-use Rattle.sftp_core.specs.declared.place.Place.TheVariants.{Granted}
+use Rattle.sftp_core.specs.Core.{Core}
 use Rattle.call_state.specs.Calls.{CallValue, IsUnderWay, Started}
 use Rattle.call_state.specs.Keeping.{KeepsHeld}
 use Rattle.call_state.specs.Runners.{Meaning}
@@ -42,7 +41,7 @@ abbrev pub open_ended : ℕ × Site → Result FileValue Error → Move
 open_ended lane (Ok f) = Done outcome.Opened (with_slot lane.1 lane.0 (slots.File (given_at f)))
 open_ended lane (Err e) = Done (outcome.Refused e) lane.1
 
--- in any lane, into any slot; the core counts one user of the file
+-- in any lane, into any slot; the grant that came is the file's
 abbrev pub opening : Meaning (ℕ × Site) Opening FileValue
 opening =
     record {
@@ -56,7 +55,7 @@ opening =
       ready = λ m. ⊥;
       first = λ lane m. Wait 1;
       again = false;
-      holds = λ core f. at core f.grant.id ≡ Some (Granted f.grant.handle 1);
+      grant = λ f. Some f.grant;
     }
 
 pub open_waits : (lane : ℕ × Site) (m : Opening) (later : Own) (answers : Answers) → answers 1 ≡ None

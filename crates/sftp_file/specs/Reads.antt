@@ -32,7 +32,7 @@ reading =
       ready = λ m. Unit {0};
       first = λ w m. Done outcome.End (one_slot m.file);
       again = false;
-      holds = λ core value. Unit {0};
+      grant = λ value. None;
     }
 
 pub read_waits : (w : Unit {0}) (m : ReadValue) (later : Own) (answers : Answers) → answers 1 ≡ None

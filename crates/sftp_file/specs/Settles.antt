@@ -23,7 +23,7 @@ settling =
       ready = λ m. Unit {0};
       first = λ site m. Done outcome.Done site;
       again = false;
-      holds = λ core value. Unit {0};
+      grant = λ value. None;
     }
 
 pub status_waits : (site : Site) (m : Settling) (later : Own) (answers : Answers) → answers 1 ≡ None

@@ -23,7 +23,7 @@ telling =
       ready = λ m. ⊥;
       first = λ site m. Wait 1;
       again = false;
-      holds = λ core value. Unit {0};
+      grant = λ value. None;
     }
 
 pub tells_wait : (site : Site) (m : Telling) (later : Own) (answers : Answers) → answers 1 ≡ None

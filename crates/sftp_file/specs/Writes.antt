@@ -50,7 +50,7 @@ writing =
       ready = λ m. Unit {0};
       first = λ w m. Done (outcome.Count 0) (one_slot m.file);
       again = false;
-      holds = λ core value. Unit {0};
+      grant = λ value. None;
     }
 
 pub write_waits : (w : Unit {0}) (m : WriteValue) (later : Own) (answers : Answers) → answers 1 ≡ None
@@ -127,7 +127,7 @@ writing_all =
       ready = λ m. Unit {0};
       first = λ w m. Done outcome.Done (one_slot m.file);
       again = true;
-      holds = λ core value. Unit {0};
+      grant = λ value. None;
     }
 
 pub writes_wait : (w : Unit {0}) (m : WriteAllValue) (later : Own) (answers : Answers) → answers m.place ≡ None

@@ -14,7 +14,7 @@ use crate::facts::facts;
 use crate::file::File;
 use crate::looks::{offers, overflows};
 use crate::settling::settled;
-use call_state::{Asking, Call, PlanRunner, Poll, Then, Told};
+use call_state::{Asking, PendingCall, PlanRunner, Poll, Then, Told};
 use sftp_core::Core;
 use sftp_model::numbers::SSH_FX_OK;
 use sftp_model::{Error, Extensions, FileAt, IoKind, Reply, Request};
@@ -40,7 +40,7 @@ impl Model for Copying {
 }
 
 /// A copy under way.
-pub type CopyCall = Call<Copying>;
+pub type CopyCall = PendingCall<Copying>;
 
 impl PlanRunner for Copying {
     type Value = ();
@@ -108,7 +108,7 @@ pub trait PollCopy {
         ensures { did core.old core.new self.old self.new from.old from.new to.old to.new result };
 }
 
-impl PollCopy for Call<Copying> {
+impl PollCopy for PendingCall<Copying> {
     ghost may = { MayCopy };
 
     ghost did = { Copied };
@@ -179,7 +179,7 @@ impl File {
             target,
             len: n,
         };
-        Call::ask(core, self.copy_request(to, n), runner)
+        PendingCall::ask(core, self.copy_request(to, n), runner)
     }
 
     /// The request for a copy. It fits a frame, since a handle has at most 256 bytes.

@@ -6,7 +6,7 @@ ghost use Rattle.call_state.specs.declared.poll.Poll.{Poll as PollValue};
 ghost use Rattle.sftp_file.specs.declared.gathering.ReadAllError.{ReadAllError as ErrorWithBytes};
 ghost use Rattle.plan_model.specs.Moves.{Answers, handle_of};
 ghost use Rattle.call_state.specs.Asked.{IsReady};
-ghost use Rattle.call_state.specs.Calls.{Cancels, IsHeld};
+ghost use Rattle.call_state.specs.Calls.{CancelsAwaited, IsHeld};
 ghost use Rattle.sftp_file.specs.Files.{FileValue, facts_of};
 ghost use Rattle.sftp_file.specs.Gathers.{GivesBytes, IsNextRead, MayReadAll, ReadAllValue, ReadsAll, StartsReadAll};
 ghost use Rattle.sftp_file.specs.Gathers.{bytes_out, first_read, gathered, gathers_wait, missing_error, missing_from, next_read, reading_all, with_buffer, without_bytes};
@@ -16,7 +16,7 @@ use crate::file::File;
 use crate::looks::may_read;
 use crate::reading::read_request;
 use bytes::BytesMut;
-use call_state::{Asking, Call, PlanRunner, Poll, Then, Told};
+use call_state::{Asking, PendingCall, PlanRunner, Poll, Then, Told};
 use sftp_core::Core;
 use sftp_model::numbers::SSH_FX_EOF;
 use sftp_model::{Error, Facts, FileAt, Handle, IoKind, Reply};
@@ -78,7 +78,7 @@ impl Model for Gathering {
 }
 
 /// A read of so many bytes of a file under way. It gives the bytes that were handed in, and behind them those that came.
-pub type ReadAllCall = Call<Gathering>;
+pub type ReadAllCall = PendingCall<Gathering>;
 
 impl Gathering {
     /// The offset where the call has come, in bytes.
@@ -221,12 +221,12 @@ pub fn read_all_answer(
     }
 }
 
-/// Gives a call up, as `Call::cancel` does, and hands its bytes out: those that were handed in, and behind them those
+/// Gives a call up, as `PendingCall::cancel` does, and hands its bytes out: those that were handed in, and behind them those
 /// that came.
 pub fn cancel_read_all(call: ReadAllCall, core: &mut Core) -> BytesMut
     requires { IsHeld reading_all core.old call }
     ensures bytes { result.items ≡ call.runner.before ++ call.runner.got }
-    ensures cancels { Cancels core.old core.new call.stage }
+    ensures cancels { CancelsAwaited core.old core.new call.stage }
 {
     let mut call = call;
     let empty = BytesMut::new(call.runner().alloc);
@@ -272,7 +272,7 @@ pub trait PollReadAll {
         ensures { did core.old core.new self.old self.new file.old file.new result };
 }
 
-impl PollReadAll for Call<Gathering> {
+impl PollReadAll for PendingCall<Gathering> {
     ghost may = { MayReadAll };
 
     ghost did = { ReadsAll };
@@ -308,7 +308,7 @@ impl File {
     {
         let mut runner = self.gathering(core, n);
         let asking = match runner.next() {
-            Ok(None) => return Ok(Call::ready(runner.with_buffer(buffer))),
+            Ok(None) => return Ok(PendingCall::ready(runner.with_buffer(buffer))),
             Ok(Some(asking)) => asking,
             Err(why) => {
                 return Err(ReadAllError {
@@ -317,7 +317,7 @@ impl File {
                 });
             }
         };
-        match Call::ask(core, asking, runner) {
+        match PendingCall::ask(core, asking, runner) {
             Ok(call) => Ok(hand_in(call, buffer)),
             Err(error) => Err(ReadAllError { error, got: buffer }),
         }

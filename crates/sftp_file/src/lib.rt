@@ -5,6 +5,7 @@ mod copying;
 mod facts;
 mod file;
 mod gathering;
+mod laws;
 mod looks;
 mod on_file;
 mod opening;
@@ -22,6 +23,7 @@ pub use file::File;
 pub use gathering::{
     Gathering, PollReadAll, ReadAllCall, ReadAllError, cancel_read_all, read_all_answer,
 };
+pub use laws::opened_files_are_brought;
 pub use looks::sought;
 pub use on_file::{OnFile, PollFile};
 pub use opening::{OpenCall, Opening, StartOpen};

@@ -9,7 +9,7 @@ ghost use Rattle.sftp_file.specs.Files.{FileValue};
 ghost use Rattle.sftp_file.specs.OnFiles.{MayPollOn, PolledOn};
 
 use crate::file::File;
-use call_state::{Call, PlanRunner, Poll};
+use call_state::{PendingCall, PlanRunner, Poll};
 use sftp_core::Core;
 use sftp_model::Error;
 
@@ -51,7 +51,7 @@ pub trait PollFile {
         ensures { did core.old core.new self.old self.new file.old file.new result };
 }
 
-impl<M: OnFile> PollFile for Call<M> {
+impl<M: OnFile> PollFile for PendingCall<M> {
     type Value = M::Value;
 
     ghost may = { MayPollOn M.PlanRunner.meaning M.file };

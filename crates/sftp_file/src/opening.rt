@@ -10,7 +10,7 @@ ghost use Rattle.call_state.specs.declared.asking.Asking.TheVariants as asking;
 ghost use Rattle.sftp_file.specs.Opens.{OpenStarts, open_waits, opening};
 
 use crate::file::File;
-use call_state::{Alone, Asking, Call, PlanRunner, Then, Told};
+use call_state::{Alone, Asking, PendingCall, PlanRunner, Then, Told};
 use sftp_core::Core;
 use sftp_model::{Error, FileAttrs, IoKind, OpenOptions, RemotePath, Reply, Request};
 use ssh_encoding::OutOfMemory;
@@ -30,7 +30,7 @@ pub struct Opening {
 }
 
 /// An open under way. It gives the file, at its start.
-pub type OpenCall = Call<Opening>;
+pub type OpenCall = PendingCall<Opening>;
 
 impl Alone for Opening {}
 
@@ -99,7 +99,7 @@ impl StartOpen for OpenOptions {
             readable: self.may_read(),
             writable: self.may_write(),
         };
-        Call::ask(core, request, runner)
+        PendingCall::ask(core, request, runner)
     }
 }
 

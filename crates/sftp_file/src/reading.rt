@@ -14,7 +14,7 @@ use crate::file::File;
 use crate::looks::may_read;
 use crate::on_file::OnFile;
 use bytes::Bytes;
-use call_state::{Asking, Call, PlanRunner, Then, Told};
+use call_state::{Asking, PendingCall, PlanRunner, Then, Told};
 use sftp_core::Core;
 use sftp_model::numbers::SSH_FX_EOF;
 use sftp_model::{Error, FileAt, Handle, Reply, Request};
@@ -42,7 +42,7 @@ impl Model for Reading {
 }
 
 /// A read of a file under way. It gives the bytes, 1 or more; None at the end of the file, and for a read of no bytes.
-pub type ReadCall = Call<Reading>;
+pub type ReadCall = PendingCall<Reading>;
 
 impl PlanRunner for Reading {
     type Value = Option<Bytes>;
@@ -119,14 +119,14 @@ impl File {
     {
         let file = self.at();
         if n == 0 {
-            return Ok(Call::ready(Reading { file, len: 0 }));
+            return Ok(PendingCall::ready(Reading { file, len: 0 }));
         }
         let len = n.min(facts(core).read_len);
         if let Err(why) = may_read(&file, len) {
             return Err(Error::IOError(why));
         }
         let asking = read_request(self.grant().handle(), self.offset(), len);
-        Call::ask(core, asking, Reading { file, len })
+        PendingCall::ask(core, asking, Reading { file, len })
     }
 }
 

@@ -17,7 +17,7 @@ use crate::on_file::OnFile;
 use crate::parts::{cut, one_piece};
 use crate::writing::write_request;
 use bytes::Bytes;
-use call_state::{Call, PlanRunner, Then, Told};
+use call_state::{PendingCall, PlanRunner, Then, Told};
 use sftp_core::Core;
 use sftp_model::numbers::SSH_FX_OK;
 use sftp_model::{Error, FileAt, Reply};
@@ -45,7 +45,7 @@ impl Model for Sending {
 }
 
 /// A write of a file under way. It gives how many bytes were written.
-pub type WriteCall = Call<Sending>;
+pub type WriteCall = PendingCall<Sending>;
 
 impl PlanRunner for Sending {
     type Value = usize;
@@ -176,13 +176,13 @@ impl File {
     {
         let file = self.at();
         if len == 0 {
-            return Ok(Call::ready(Sending { file, len: 0 }));
+            return Ok(PendingCall::ready(Sending { file, len: 0 }));
         }
         if let Err(why) = may_write(&file, len) {
             return Err(Error::IOError(why));
         }
         let asking = write_request(self.grant().handle(), file.offset, parts);
-        Call::ask(
+        PendingCall::ask(
             core,
             asking,
             Sending {

@@ -16,7 +16,7 @@ use crate::facts::facts;
 use crate::file::File;
 use crate::looks::offers;
 use bitflags::Flags;
-use call_state::{Alone, Asking, Call, PlanRunner, Then, Told};
+use call_state::{Alone, Asking, PendingCall, PlanRunner, Then, Told};
 use sftp_core::{Core, Ticket};
 use sftp_meta::{MetaData, Permissions};
 use sftp_model::numbers::SSH_FX_OK;
@@ -28,17 +28,17 @@ use sftp_values::ByteText;
 pub struct Settling {}
 
 /// A call under way that gives nothing but that it was done.
-pub type StatusCall = Call<Settling>;
+pub type StatusCall = PendingCall<Settling>;
 
 /// A close under way. It gives `()` once the server has closed the file, and at once where it has another user; after
 /// any answer the file isn't open any more.
-pub type CloseCall = Call<Settling>;
+pub type CloseCall = PendingCall<Settling>;
 
 /// The call that awaits the STATUS to a request, of which it is the only answer.
 pub fn status_call(ticket: Ticket) -> StatusCall
     ensures { result.stage ≡ stage.Asked ticket }
 {
-    Call::awaiting(ticket, Settling {})
+    PendingCall::awaiting(ticket, Settling {})
 }
 
 /// The call that awaits the STATUS to a CLOSE; without one its first poll gives `()`.
@@ -46,8 +46,8 @@ pub fn close_call(ticket: Option<Ticket>) -> CloseCall
     ensures { result.stage ≡ closing ticket }
 {
     match ticket {
-        Some(ticket) => Call::awaiting(ticket, Settling {}),
-        None => Call::ready(Settling {}),
+        Some(ticket) => PendingCall::awaiting(ticket, Settling {}),
+        None => PendingCall::ready(Settling {}),
     }
 }
 
@@ -114,7 +114,7 @@ impl File {
         if !self.is_writable() {
             return Err(Error::IOError(IoKind::NotWritable));
         }
-        Call::ask(
+        PendingCall::ask(
             core,
             self.fsetstat_request(metadata.into_inner()),
             Settling {},
@@ -174,7 +174,7 @@ impl File {
         if !self.is_writable() {
             return Err(Error::IOError(IoKind::NotWritable));
         }
-        Call::ask(core, self.fsync_request(), Settling {})
+        PendingCall::ask(core, self.fsync_request(), Settling {})
     }
 
     /// The FSETSTAT of these attributes. It fits a frame, since a handle has at most 256 bytes.

@@ -11,7 +11,7 @@ ghost use Rattle.sftp_file.specs.Files.{Starts, alone};
 ghost use Rattle.sftp_file.specs.Tells.{telling, tells_wait};
 
 use crate::file::File;
-use call_state::{Alone, Asking, Call, PlanRunner, Then, Told};
+use call_state::{Alone, Asking, PendingCall, PlanRunner, Then, Told};
 use sftp_core::{Core, Ticket};
 use sftp_meta::MetaData;
 use sftp_model::{Error, IoKind, Reply, Request};
@@ -21,13 +21,13 @@ use sftp_model::{Error, IoKind, Reply, Request};
 pub struct Telling {}
 
 /// A call under way that gives the metadata of a file.
-pub type AttrsCall = Call<Telling>;
+pub type AttrsCall = PendingCall<Telling>;
 
 /// The call that awaits the ATTRS to a STAT, LSTAT or FSTAT.
 pub fn attrs_call(ticket: Ticket) -> AttrsCall
     ensures { result.stage ≡ stage.Asked ticket }
 {
-    Call::awaiting(ticket, Telling {})
+    PendingCall::awaiting(ticket, Telling {})
 }
 
 impl Alone for Telling {}
@@ -80,7 +80,7 @@ impl File {
         if !self.is_readable() {
             return Err(Error::IOError(IoKind::NotReadable));
         }
-        Call::ask(core, self.fstat_request(), Telling {})
+        PendingCall::ask(core, self.fstat_request(), Telling {})
     }
 
     /// The FSTAT of the file. It fits a frame, since a handle has at most 256 bytes.

@@ -17,7 +17,7 @@ use crate::looks::may_write;
 use crate::on_file::OnFile;
 use crate::parts::{cut, one_piece, shared};
 use bytes::Bytes;
-use call_state::{Asking, Call, PlanRunner, Then, Told};
+use call_state::{Asking, PendingCall, PlanRunner, Then, Told};
 use sftp_core::Core;
 use sftp_model::numbers::SSH_FX_OK;
 use sftp_model::{Error, Facts, FileAt, Handle, Reply};
@@ -70,7 +70,7 @@ impl Model for WritingAll {
 }
 
 /// A write of bytes to a file, part by part.
-pub type WriteAllCall = Call<WritingAll>;
+pub type WriteAllCall = PendingCall<WritingAll>;
 
 /// What comes behind the parts that were written.
 #[derive(Drop)]
@@ -293,9 +293,9 @@ impl File {
         match part {
             Part::Ask(asking, len) => {
                 let runner = self.writing(alloc, facts, pieces, len);
-                Call::ask(core, asking, runner)
+                PendingCall::ask(core, asking, runner)
             }
-            Part::Over(Ok(())) => Ok(Call::ready(self.writing(alloc, facts, pieces, 0))),
+            Part::Over(Ok(())) => Ok(PendingCall::ready(self.writing(alloc, facts, pieces, 0))),
             Part::Over(Err(e)) => Err(e),
         }
     }

@@ -9,7 +9,7 @@ use Rattle.call_state.specs.declared.poll.Poll.{Poll}
 use Rattle.call_state.specs.declared.poll.Poll.TheVariants as poll
 use Rattle.call_state.specs.declared.stage.Stage.{Stage}
 use Rattle.call_state.specs.declared.stage.Stage.TheVariants.{Ended, Ready, Unsent, Asked, Came}
-use Rattle.call_state.specs.Calls.{CallValue, Cancels, HoldsReady, IsOver, cancelled, is_ended}
+use Rattle.call_state.specs.Calls.{CallValue, CancelsAwaited, CountsGrant, HoldsReady, IsOver, cancelled, is_ended}
 use Rattle.call_state.specs.Keeping.{KeepsHeld}
 use Rattle.call_state.specs.Runners.{Meaning}
 use Rattle.call_state.proofs.Keeping.{grant_at, grant_kept}
@@ -25,11 +25,11 @@ ended_leaves core (Came told) over = absurd cc
 
 -- so that it holds what belongs to the value
 pub given_kept : {W M V : Type 0} (s : Meaning W M V) (old new : Core) (call : CallValue M) (result : Poll (Result V Error))
-    → HoldsReady s old result → IsOver call.stage result → Cancels old new call.stage → HoldsReady s new result
+    → HoldsReady s old result → IsOver call.stage result → CancelsAwaited old new call.stage → HoldsReady s new result
 given_kept s old new call poll.Pending holds over cancels = tt
 given_kept s old new call (poll.Ready (Err e)) holds over cancels = tt
 given_kept s old new call (poll.Ready (Ok value)) holds over cancels =
-    subst (λ (x : Core). s.holds x value) (sym (cancels.core ∙ ended_leaves old call.stage over)) holds
+    subst (λ (x : Core). CountsGrant x (s.grant value)) (sym (cancels.core ∙ ended_leaves old call.stage over)) holds
 
 -- a directory that was given is counted
 pub dir_granted : (core : Core) (dir : GrantValue) → at core dir.id ≡ Some (Granted dir.handle 1) → IsGrant core dir

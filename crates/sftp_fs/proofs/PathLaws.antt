@@ -15,10 +15,11 @@ use Rattle.plan_model.specs.PathPlans.{from_directory}
 use Rattle.sftp_core.specs.Core.{Core}
 use Rattle.call_state.specs.declared.asking.Asking.{Asking}
 use Rattle.call_state.specs.declared.asking.Asking.TheVariants.{Whole}
-use Rattle.call_state.specs.Calls.{BeginsCall, CallValue, IsUnderWay, Started}
-use Rattle.call_state.specs.Keeping.{KeepsHeld}
+use Rattle.call_state.specs.Calls.{BeginsCall, CallValue, IsNoneOfCall, IsUnderWay, Started}
+use Rattle.call_state.specs.Keeping.{KeepsHeld, SparesOthers}
 use Rattle.call_state.specs.Runners.{Meaning}
 use Rattle.call_state.proofs.Keeping.{keeps_same}
+use Rattle.call_state.proofs.Sparing.{spares_as, submitted_spares}
 use Rattle.sftp_file.specs.Files.{facts_of}
 use Rattle.sftp_file.proofs.Starting.{StartsAny}
 use Rattle.sftp_fs.specs.PathStarts.{AsksFirst, FirstAsks, IsPathPlan, PathPlan, StartsFrom}
@@ -36,6 +37,14 @@ under_way_by : {W M V : Type 0} (s : Meaning W M V) (asking : Asking) (m : M) (o
 under_way_by s asking m old new (Ok call) h = h.under_way
 under_way_by s asking m old new (Err e) h = tt
 
+spares_by : {W M V : Type 0} (s : Meaning W M V) (asking : Asking) (m : M) (old new : Core) (result : Result (CallValue M) Error)
+    → IfOk result (BeginsCall s asking m old new)
+    → IfOk result (λ (call : CallValue M). SparesOthers old new (λ id. Unit {0}) (IsNoneOfCall call.stage))
+spares_by s asking m old new (Ok call) h =
+    spares_as old new (λ id. Unit {0}) (λ id. Unit {0} × IsNoneOfCall call.stage id) (IsNoneOfCall call.stage) (λ id both. both.1)
+    (submitted_spares old new asking h.ticket (λ id. Unit {0}) call.stage h.submitted h.awaits)
+spares_by s asking m old new (Err e) h = tt
+
 -- a request that is too long is refused
 pub refused_first : {W M V : Type 0} (s : Meaning W M V) (r : Request) (m : M) (core : Core) → is_too_long r ≡ true
     → AsksFirst s r m core core (Err (error.IOError kind.PathTooLong))
@@ -44,6 +53,7 @@ refused_first s r m core long =
       starts = λ w site plan answers h. (h.first ∙ passes (is_too_long r) (refuses kind.PathTooLong site) (Ask r) long, refl);
       under_way = tt;
       keeps = keeps_same core;
+      spares = tt;
     }
 
 -- and any other is asked
@@ -60,6 +70,7 @@ asked_first s r m old new result short started begins keeps =
           });
       under_way = under_way_by s (Whole r) m old new result begins;
       keeps = keeps;
+      spares = spares_by s (Whole r) m old new result begins;
     }
 
 -- a start by the plan of its request

@@ -1,6 +1,7 @@
 -- How whole writes go on from their OPEN to the HANDLE, and behind it.
 use Rattle.std.proofs.Common.{
   ◌≡◌,
+  ◌≢◌,
   ◌∙◌,
   arith,
   refl,
@@ -38,7 +39,17 @@ use Rattle.sftp_core.specs.Info.{info_of}
 use Rattle.sftp_core.specs.declared.handshake.Handshake.{Handshake}
 use Rattle.sftp_core.specs.declared.place.Place.{Place}
 use Rattle.sftp_core.specs.declared.place.Place.TheVariants.{Answered, Granted, Waiting}
-use Rattle.call_state.proofs.Keeping.{grants_both, still_under_way}
+use Rattle.call_state.proofs.Keeping.{still_under_way}
+use Rattle.call_state.proofs.Grants.{ended_brings}
+use Rattle.call_state.proofs.Sparing.{
+  cancelled_spares,
+  given_spares,
+  spares_also,
+  spares_as,
+  spares_both,
+  spares_same,
+  stepped_spares,
+}
 use Rattle.call_state.specs.declared.told.Told.TheVariants as told
 use Rattle.call_state.proofs.Polling.{polls_few}
 use Rattle.call_state.specs.Told.{reply_of}
@@ -48,22 +59,24 @@ use Rattle.call_state.specs.declared.poll.Poll.TheVariants.{Pending, Ready}
 use Rattle.call_state.specs.declared.stage.Stage.{Stage}
 use Rattle.call_state.specs.declared.stage.Stage.TheVariants as stage
 use Rattle.call_state.specs.Asked.{IsReady, request_of}
-use Rattle.call_state.specs.Keeping.{KeepsHeld, KeepsGrants}
+use Rattle.call_state.specs.Keeping.{KeepsHeld}
 use Rattle.sftp_file.proofs.Steps.{cancelled_keeps}
 use Rattle.call_state.specs.Calls.{
   CallValue,
   cancelled,
-  Cancels,
+  CancelsAwaited,
+  grant_brought,
   is_ended,
   IsHeldAt,
   IsLeft,
   IsLeftAt,
+  IsNoneOfCall,
   IsOver,
   IsUnderWay,
   Polled,
   polled_core,
   Stepped,
-  Tells,
+  TellsReply,
   TellsAt,
 }
 use Rattle.sftp_fs.specs.Directories.{WithHandle, granted_left}
@@ -72,13 +85,15 @@ use Rattle.sftp_fs.specs.Parts.{PartValue, rest_from, writing_parts}
 use Rattle.sftp_fs.specs.WholeWrites.{
   AsksPart,
   Began,
-  Begun,
+  BeganWrite,
   CancelsWrite,
   closed,
+  closed_if,
+  IsNoneOfWrite,
   IsOverBy,
+  IsOwned,
   IsWriteHeld,
   IsWriteLeft,
-  KeepsOtherGrants,
   unended,
   WriteAnswer,
   writes_content,
@@ -89,7 +104,7 @@ use Rattle.sftp_fs.specs.declared.fs_write.Writing.{Writing}
 use Rattle.sftp_fs.specs.declared.fs_write.Writing.TheVariants as writing
 use Rattle.sftp_fs.specs.declared.granting.Granting.{Granting}
 use Rattle.sftp_fs.proofs.CallSteps.{ended_leaves}
-use Rattle.sftp_fs.proofs.WriteSteps.{closes_besides, grants_same}
+use Rattle.sftp_fs.proofs.WriteSteps.{closes_last, closes_only, spares_unchanged}
 
 -- a runner that awaits a HANDLE is what is left of such a plan, whatever is done with the handle
 pub left_any : (core : Core) (call : CallValue Granting) (w : WithHandle) (answers : Answers) → IsUnderWay granting core call
@@ -173,7 +188,7 @@ pub record IsStill (old mid : Core) (call next : CallValue Granting) (answers : 
   pub missing : answers 1 ≡ None
 
 pub still : (site : Site) (answers : Answers) (old mid : Core) (call next : CallValue Granting) → IsUnderWay granting old call
-    → Tells granting old call answers → Stepped {V = GrantValue} granting old mid call next Pending → IsStill old mid call next answers
+    → TellsReply granting old call answers → Stepped {V = GrantValue} granting old mid call next Pending → IsStill old mid call next answers
 still site answers old mid call next held tells h =
     waits (h.polled (site, λ handle later. Done outcome.Done site) (granted_left (site, λ handle later. Done outcome.Done site)) answers
     (left_any old call (site, λ handle later. Done outcome.Done site) answers held) tells)
@@ -199,7 +214,7 @@ left_now core call w plan answers h left = now_at call.stage h.over h.held left
 open_wrote : (facts : Facts) (old new : Core) (call next : CallValue Granting) (content : List ℕ) (told : Poll (Result GrantValue Error))
     (site : Site) (plan : Plan) (answers : Answers) → IsUnderWay granting old call → Stepped granting old new call next told
     → is_ended next.stage ≡ false → IsOver next.stage told → IsWriteLeft site facts plan answers (writing.Opening call content)
-    → Tells granting old call answers
+    → TellsReply granting old call answers
     → Wrote site facts plan answers old new (writing.Opening call content) (writing.Opening next content) (unended told)
 open_wrote facts old new call next content Pending site plan answers held h on over left tells =
     let s = still site answers old new call next held tells h in
@@ -238,23 +253,25 @@ open_on facts old new call next content told held h on =
       polled = λ site plan answers left tells. open_wrote facts old new call next content told site plan answers held h on h.over left tells;
       held = record { over = on; held = h.held };
       over = open_over next.stage next content told on h.over;
-      grants = h.grants;
+      spares = stepped_spares granting old new call next told h;
     }
 
 -- refused by the server or by a fault
 open_failed : (facts : Facts) (old mid : Core) (call next : CallValue Granting) (content : List ℕ) (e : Error)
     (site : Site) (plan : Plan) (answers : Answers) → is_ended next.stage ≡ true → IsOver {V = GrantValue} next.stage (Ready (Err e))
+    → grant_brought old call.stage ≡ None
     → Polled {V = GrantValue} granting (writes_content content site facts answers) plan answers old mid call next (Ready (Err e))
     → Wrote site facts plan answers old mid (writing.Opening call content) writing.Ended (Ready (Err e))
-open_failed facts old mid call next content error.OutOfMemory site plan answers ended over h =
+open_failed facts old mid call next content error.OutOfMemory site plan answers ended over none h =
     absurd (let clash : true ≡ false = sym ended ∙ over in cc)
-open_failed facts old mid call next content (error.BackgroundTaskFailure fault) site plan answers ended over (inl h) =
+open_failed facts old mid call next content (error.BackgroundTaskFailure fault) site plan answers ended over none (inl h) =
     absurd (let clash : ◌≡◌ {A = Poll (Result GrantValue Error)} (Ready (Err (error.BackgroundTaskFailure fault))) Pending = h.pending in cc)
-open_failed facts old mid call next content (error.BackgroundTaskFailure fault) site plan answers ended over (inr h) =
-    (h.0, h.2, (mid, inl refl))
-open_failed facts old mid call next content e site plan answers ended over (inl h) =
+open_failed facts old mid call next content (error.BackgroundTaskFailure fault) site plan answers ended over none (inr h) =
+    (h.0, h.2, h.3 ∙ sym (ap (closed_if (polled_core old call.stage)) none))
+open_failed facts old mid call next content e site plan answers ended over none (inl h) =
     absurd (let clash : ◌≡◌ {A = Poll (Result GrantValue Error)} (Ready (Err e)) Pending = h.pending in cc)
-open_failed facts old mid call next content e site plan answers ended over (inr h) = (h.0, inl h.2)
+open_failed facts old mid call next content e site plan answers ended over none (inr h) =
+    (h.0, h.2 ∙ sym (ap (closed_if (polled_core old call.stage)) none))
 
 failed_over : (s : Stage) (e : Error) → is_ended s ≡ true → IsOver {V = GrantValue} s (Ready (Err e)) → IsOverBy writing.Ended (Ready (Err e))
 failed_over s error.OutOfMemory ended over = absurd (let clash : true ≡ false = sym ended ∙ over in cc)
@@ -268,39 +285,39 @@ open_end facts old mid new call next content e h ended left =
     record {
       polled = λ site plan answers here tells.
           subst (λ (x : Core). Wrote site facts plan answers old x (writing.Opening call content) writing.Ended (Ready (Err e))) same
-          (open_failed facts old mid call next content e site plan answers ended h.over
+          (open_failed facts old mid call next content e site plan answers ended h.over (sym h.brings ∙ ended_brings mid next.stage ended)
           (h.polled (writes_content content site facts answers) plan answers here tells));
       held = tt;
       over = failed_over next.stage e ended h.over;
-      grants = tt;
+      spares = spares_same old mid new (IsNoneOfCall call.stage) (λ id. Unit {0}) (sym same)
+          (spares_as old mid (IsNoneOfCall call.stage) (IsNoneOfCall next.stage) (λ id. Unit {0}) (λ id x. tt)
+          (stepped_spares granting old mid call next (Ready (Err e)) h));
     }
 
 -- ---- behind the HANDLE
 
+closes_brought : (old late : Core) (call : CallValue Granting) (grant : GrantValue) → late ≡ polled_core old call.stage
+    → grant_brought old call.stage ≡ Some grant
+    → closed late grant ≡ closed_if (polled_core old call.stage) (grant_brought old call.stage)
+closes_brought old late call grant is brings = ap (λ (x : Core). closed x grant) is ∙ sym (ap (closed_if (polled_core old call.stage)) brings)
+
 began_opening : (site : Site) (facts : Facts) (plan : Plan) (answers : Answers) (old late new : Core) (call : CallValue Granting)
     (content : List ℕ) (grant : GrantValue) (q : Writing) (result : WriteAnswer) → late ≡ polled_core old call.stage
-    → Began site facts plan answers late new grant q result
+    → grant_brought old call.stage ≡ Some grant → Began site facts plan answers late new grant q result
     → Wrote site facts plan answers old new (writing.Opening call content) q result
-began_opening site facts plan answers old late new call content grant q Pending is h =
+began_opening site facts plan answers old late new call content grant q Pending is brings h =
     inr (subst (λ (x : Core). AsksPart site plan answers x new q) is h)
-began_opening site facts plan answers old late new call content grant q (Ready (Err error.OutOfMemory)) is h = (h.0, h.1 ∙ is)
-began_opening site facts plan answers old late new call content grant q (Ready (Err (error.BackgroundTaskFailure fault))) is h =
-    (subst (λ (x : Core). x.fault ≡ Some fault) is h.0, h.1, (late, inr (grant, h.2)))
-began_opening site facts plan answers old late new call content grant q (Ready (Ok u)) is h =
-    (h.0, inr (grant, h.1 ∙ ap (λ (x : Core). closed x grant) is))
-began_opening site facts plan answers old late new call content grant q (Ready (Err e)) is h =
-    (h.0, inr (grant, h.1 ∙ ap (λ (x : Core). closed x grant) is))
-
-others_behind : (old late new : Core) (call : CallValue Granting) (content : List ℕ) (grant : GrantValue) (q : Writing) → KeepsGrants old late
-    → KeepsOtherGrants late new (writing.Opened grant content) q → KeepsOtherGrants old new (writing.Opening call content) q
-others_behind old late new call content grant writing.Ended k h = tt
-others_behind old late new call content grant (writing.Opening other kept) k h = grants_both old late new k h
-others_behind old late new call content grant (writing.Opened other kept) k h = grants_both old late new k h
-others_behind old late new call content grant (writing.Parts other kept) k h = grants_both old late new k h
+began_opening site facts plan answers old late new call content grant q (Ready (Err error.OutOfMemory)) is brings h = (h.0, h.1 ∙ is)
+began_opening site facts plan answers old late new call content grant q (Ready (Err (error.BackgroundTaskFailure fault))) is brings h =
+    (subst (λ (x : Core). x.fault ≡ Some fault) is h.0, h.1, h.2 ∙ closes_brought old late call grant is brings)
+began_opening site facts plan answers old late new call content grant q (Ready (Ok u)) is brings h =
+    (h.0, h.1 ∙ closes_brought old late call grant is brings)
+began_opening site facts plan answers old late new call content grant q (Ready (Err e)) is brings h =
+    (h.0, h.1 ∙ closes_brought old late call grant is brings)
 
 pub open_begun : (facts : Facts) (old mid late new : Core) (call next : CallValue Granting) (content : List ℕ) (grant : GrantValue)
     (q : Writing) (result : WriteAnswer) → IsUnderWay granting old call → Stepped granting old mid call next (Ready (Ok grant))
-    → is_ended next.stage ≡ true → late ≡ cancelled mid next.stage → Begun facts late new grant content q result
+    → is_ended next.stage ≡ true → late ≡ cancelled mid next.stage → BeganWrite facts late new grant content q result
     → WroteOn facts old new (writing.Opening call content) q result
 open_begun facts old mid late new call next content grant q result held h ended left begun =
     record {
@@ -316,11 +333,12 @@ open_begun facts old mid late new call next content grant q result held h ended 
           granted_goes (site, λ handle own. rest_from 0 content site facts later answers) (λ own a. plan later a) answers old mid call next grant
           (h.polled (site, λ handle own. rest_from 0 content site facts later answers) (λ own a. plan later a) answers
           (left_later old call w plan answers later held here) tells) in
-          began_opening site facts plan answers old late new call content grant q result same (begun.polled site plan answers (bears, goes)));
+          began_opening site facts plan answers old late new call content grant q result same (sym h.brings) (begun.polled site plan answers (bears, goes)));
       held = begun.held;
       over = begun.over;
-      grants = others_behind old late new call content grant q
-          (grants_both old mid late h.grants (grants_same mid late (left ∙ ended_leaves mid next.stage ended))) begun.grants;
+      spares = spares_both old late new (IsNoneOfCall call.stage) (λ id. id ≢ grant.id) (IsNoneOfWrite q)
+          (spares_same old mid late (IsNoneOfCall call.stage) (λ id. id ≢ grant.id) (left ∙ ended_leaves mid next.stage ended)
+          (given_spares granting old mid call next grant grant refl h)) begun.spares;
     }
 
 began_opened : (site : Site) (facts : Facts) (plan : Plan) (answers : Answers) (old new : Core) (grant : GrantValue) (content : List ℕ)
@@ -328,18 +346,18 @@ began_opened : (site : Site) (facts : Facts) (plan : Plan) (answers : Answers) (
     → Wrote site facts plan answers old new (writing.Opened grant content) q result
 began_opened site facts plan answers old new grant content q Pending h = inr h
 began_opened site facts plan answers old new grant content q (Ready (Err error.OutOfMemory)) h = h
-began_opened site facts plan answers old new grant content q (Ready (Err (error.BackgroundTaskFailure fault))) h = (h.0, h.1, (old, h.2))
+began_opened site facts plan answers old new grant content q (Ready (Err (error.BackgroundTaskFailure fault))) h = h
 began_opened site facts plan answers old new grant content q (Ready (Ok u)) h = h
 began_opened site facts plan answers old new grant content q (Ready (Err e)) h = h
 
 pub opened_on : (facts : Facts) (old new : Core) (grant : GrantValue) (content : List ℕ) (q : Writing) (result : WriteAnswer)
-    → Begun facts old new grant content q result → WroteOn facts old new (writing.Opened grant content) q result
+    → BeganWrite facts old new grant content q result → WroteOn facts old new (writing.Opened grant content) q result
 opened_on facts old new grant content q result h =
     record {
       polled = λ site plan answers left tells. began_opened site facts plan answers old new grant content q result (h.polled site plan answers left);
       held = h.held;
       over = h.over;
-      grants = h.grants;
+      spares = h.spares;
     }
 
 -- ---- a core behind the poll of an OPEN
@@ -392,19 +410,29 @@ write_still old new writing.Ended k h = tt
 write_still old new (writing.Opening call content) k h = still_under_way granting old new call k h
 write_still old new (writing.Opened grant content) k h = k.grants.grants grant.id grant.handle 1 h
 write_still old new (writing.Parts grant call) k h =
-    (k.grants.grants grant.id grant.handle 1 h.0, still_under_way writing_parts old new call k h.1)
+    (k.grants.grants grant.id grant.handle 1 h.0, still_under_way writing_parts old new call k h.1, h.2)
 
 -- ---- a write is given up
 
-pub drops_opened : (old new : Core) (grant : GrantValue) (content : List ℕ) → new ≡ closed old grant
+pub drops_opened : (old new : Core) (grant : GrantValue) (content : List ℕ) → IsOwned old grant → new ≡ closed old grant
     → CancelsWrite old new (writing.Opened grant content)
-drops_opened old new grant content close =
-    record { core = close; grants = (closes_besides old old new grant (grants_same old old refl) close).grants }
+drops_opened old new grant content owned close = record { core = close; spares = closes_only old new grant owned close }
 
-pub drops_parts : (old mid new : Core) (grant : GrantValue) (call : CallValue PartValue) → IsUnderWay writing_parts old call
-    → Cancels old mid call.stage → new ≡ closed mid grant → CancelsWrite old new (writing.Parts grant call)
-drops_parts old mid new grant call h cancels close =
+pub drops_opening : (old new : Core) (call : CallValue Granting) (content : List ℕ) → CancelsAwaited old new call.stage
+    → CancelsWrite old new (writing.Opening call content)
+drops_opening old new call content cancels = record { core = cancels.core; spares = cancelled_spares old new call.stage cancels }
+
+pub drops_nothing : (core : Core) → CancelsWrite core core writing.Ended
+drops_nothing core = record { core = refl; spares = spares_unchanged core core (λ id. Unit {0}) refl }
+
+pub drops_parts : (old mid new : Core) (grant : GrantValue) (call : CallValue PartValue) → IsOwned old grant → IsUnderWay writing_parts old call
+    → CancelsAwaited old mid call.stage → new ≡ closed mid grant → CancelsWrite old new (writing.Parts grant call)
+drops_parts old mid new grant call owned h cancels close =
     record {
       core = close ∙ ap (λ (x : Core). closed x grant) cancels.core;
-      grants = (closes_besides old mid new grant (cancelled_keeps writing_parts old mid call refl h.held cancels) close).grants;
+      spares = closes_last old mid new grant (λ id. (id ≢ grant.id) × IsNoneOfCall call.stage id)
+          (spares_as old mid (λ id. (id ≢ grant.id) × IsNoneOfCall call.stage id) (λ id. (id ≢ grant.id) × Unit {0}) (λ id. id ≢ grant.id)
+          (λ id both. both.0)
+          (spares_also old mid (λ id. id ≢ grant.id) (IsNoneOfCall call.stage) (λ id. Unit {0}) (cancelled_spares old mid call.stage cancels)))
+          ((cancelled_keeps writing_parts old mid call refl h.held cancels).grants grant.id grant.handle 1 owned) close;
     }

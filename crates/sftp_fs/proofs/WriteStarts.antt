@@ -43,6 +43,7 @@ write_asked path content cwd named kept facts m old new call is fixed same h =
           (fs_write_next path content site (facts_of old)) answers (opens_first path content cwd named m old site answers is here));
       held = h.under_way;
       keeps = h.keeps;
+      spares = h.spares;
     }
   where
     asks_of : (site : Site) (answers : Answers)
@@ -66,6 +67,7 @@ write_refused path content cwd named m old new e is h =
           (fs_write_next path content site (facts_of old)) answers (opens_first path content cwd named m old site answers is here));
       held = tt;
       keeps = h.keeps;
+      spares = tt;
     }
   where
     refused_as : (e : Error) (site : Site) (answers : Answers)

@@ -1,6 +1,7 @@
 -- How whole writes go on.
 use Rattle.std.proofs.Common.{
   ◌≡◌,
+  ◌≢◌,
   ◌==◌,
   ◌∙◌,
   arith,
@@ -35,16 +36,16 @@ use Rattle.sftp_model.specs.declared.slot.Move.TheVariants.{Ask, Done}
 use Rattle.sftp_model.specs.declared.slot.Site.{Site}
 use Rattle.plan_model.specs.Moves.{Answers, Own, Plan, handle_of, overflows}
 use Rattle.plan_model.specs.TransferPlans.{next_part, part_len}
-use Rattle.sftp_core.specs.Core.{Core, at}
-use Rattle.call_state.proofs.Keeping.{cancelled_grants, grants_kept, keeps_unchanged}
-use Rattle.call_state.specs.declared.told.Told.TheVariants as told
+use Rattle.sftp_core.specs.Core.{Core}
+use Rattle.call_state.proofs.Keeping.{keeps_unchanged}
+use Rattle.call_state.proofs.Sparing.{closed_spares, spares_also, spares_as, spares_both, spares_kept, stepped_spares, submitted_spares}
 use Rattle.sftp_core.specs.Grant.{GrantValue}
 use Rattle.call_state.specs.declared.asking.Asking.{Asking}
 use Rattle.call_state.specs.declared.poll.Poll.TheVariants.{Pending, Ready}
 use Rattle.call_state.specs.declared.stage.Stage.{Stage}
 use Rattle.call_state.specs.declared.stage.Stage.TheVariants as stage
 use Rattle.call_state.specs.Asked.{request_of}
-use Rattle.call_state.specs.Keeping.{KeepsHeld, KeepsGrants}
+use Rattle.call_state.specs.Keeping.{KeepsHeld, SparesOthers}
 use Rattle.sftp_file.proofs.Starting.{StartsAny}
 use Rattle.call_state.specs.Calls.{
   AsksAndAwaits,
@@ -52,6 +53,7 @@ use Rattle.call_state.specs.Calls.{
   CallValue,
   cancelled,
   is_ended,
+  IsNoneOfCall,
   IsOver,
   Polled,
   Started,
@@ -61,17 +63,16 @@ use Rattle.call_state.specs.Runners.{GoesBehind}
 use Rattle.sftp_fs.specs.Parts.{IsPart, PartValue, first_part, rest_from, writing_parts}
 use Rattle.sftp_fs.specs.WholeWrites.{
   Began,
-  Begun,
+  BeganWrite,
   closed,
   fault_told,
+  IsNoneOfWrite,
   IsOverBy,
   IsOwned,
   IsUnbegun,
   IsUnbegunBy,
   IsWriteHeld,
   IsWriteLeft,
-  KeepsBesides,
-  KeepsOtherGrants,
   WriteAnswer,
   Wrote,
   WroteOn,
@@ -83,16 +84,17 @@ use Rattle.sftp_fs.proofs.PartLaws.{one_joined, part_length}
 
 -- ---- a grant is closed
 
-pub closes_besides : (old mid new : Core) (grant : GrantValue) → KeepsGrants old mid → new ≡ closed mid grant → KeepsBesides old new grant.id
-closes_besides old mid new grant k close =
-    record {
-      grants = λ id handle users own here. ap (λ (x : Core). at x id) close ∙ cancelled_grants mid (stage.Came (told.Granted grant))
-          (λ ticket e. absurd (let clash : ◌≡◌ {A = Stage} (stage.Came (told.Granted grant)) (stage.Asked ticket) = e in cc))
-          id handle users own (k.grants id handle users here);
-    }
+pub closes_last : (old mid new : Core) (grant : GrantValue) (P : ℕ → Type 0) → SparesOthers old mid P (λ id. id ≢ grant.id) → IsOwned mid grant
+    → new ≡ closed mid grant → SparesOthers old new P (λ id. Unit {0})
+closes_last old mid new grant P spares owned close =
+    spares_both old mid new P (λ id. id ≢ grant.id) (λ id. Unit {0}) spares (closed_spares mid new grant owned close)
 
-pub grants_same : (old new : Core) → new ≡ old → KeepsGrants old new
-grants_same old new same = grants_kept old new (keeps_unchanged old new same)
+pub closes_only : (old new : Core) (grant : GrantValue) → IsOwned old grant → new ≡ closed old grant
+    → SparesOthers old new (λ id. id ≢ grant.id) (λ id. Unit {0})
+closes_only old new grant owned close = closed_spares old new grant owned close
+
+pub spares_unchanged : (old new : Core) (P : ℕ → Type 0) → new ≡ old → SparesOthers old new P P
+spares_unchanged old new P same = spares_kept old new P (keeps_unchanged old new same)
 
 -- ---- the WRITE of a part
 
@@ -150,16 +152,21 @@ parts_over stage grant next (Ready (Err error.OutOfMemory)) on over = refl
 parts_over stage grant next (Ready (Ok u)) on over = absurd (let clash : true ≡ false = sym over ∙ on in cc)
 parts_over stage grant next (Ready (Err e)) on over = absurd (let clash : true ≡ false = sym over ∙ on in cc)
 
+parts_spare : (old new : Core) (grant : GrantValue) (call next : CallValue PartValue) (told : WriteAnswer) → Stepped writing_parts old new call next told
+    → SparesOthers old new (λ id. (id ≢ grant.id) × IsNoneOfCall call.stage id) (λ id. (id ≢ grant.id) × IsNoneOfCall next.stage id)
+parts_spare old new grant call next told h =
+    spares_also old new (λ id. id ≢ grant.id) (IsNoneOfCall call.stage) (IsNoneOfCall next.stage) (stepped_spares writing_parts old new call next told h)
+
 pub parts_on : (facts : Facts) (old new : Core) (grant : GrantValue) (call next : CallValue PartValue) (told : WriteAnswer)
-    → IsOwned old grant → Stepped writing_parts old new call next told → is_ended next.stage ≡ false
+    → IsOwned old grant → call.runner.handle ≡ grant.handle → Stepped writing_parts old new call next told → is_ended next.stage ≡ false
     → WroteOn facts old new (writing.Parts grant call) (writing.Parts grant next) told
-parts_on facts old new grant call next told owned h on =
+parts_on facts old new grant call next told owned bears h on =
     record {
       polled = λ site plan answers left tells. parts_wrote facts old new grant call next told site plan answers on h.over
           (h.polled site plan answers left tells);
-      held = (h.grants.grants grant.id grant.handle 1 owned, record { over = on; held = h.held });
+      held = (h.grants.grants grant.id grant.handle 1 owned, record { over = on; held = h.held }, h.stays ∙ bears);
       over = parts_over next.stage grant next told on h.over;
-      grants = h.grants;
+      spares = parts_spare old new grant call next told h;
     }
 
 parts_finished : (facts : Facts) (old mid new : Core) (grant : GrantValue) (call next : CallValue PartValue) (told : WriteAnswer)
@@ -173,7 +180,7 @@ parts_finished facts old mid new grant call next (Ready (Err error.OutOfMemory))
 parts_finished facts old mid new grant call next (Ready (Err (error.BackgroundTaskFailure fault))) site plan answers ended over close (inl h) =
     absurd (let clash : ◌≡◌ {A = WriteAnswer} (Ready (Err (error.BackgroundTaskFailure fault))) Pending = h.pending in cc)
 parts_finished facts old mid new grant call next (Ready (Err (error.BackgroundTaskFailure fault))) site plan answers ended over close (inr h) =
-    (h.0, h.2, (mid, close))
+    (h.0, h.2, close ∙ ap (λ (x : Core). closed x grant) h.3)
 parts_finished facts old mid new grant call next (Ready (Ok u)) site plan answers ended over close (inl h) =
     absurd (let clash : ◌≡◌ {A = WriteAnswer} (Ready (Ok u)) Pending = h.pending in cc)
 parts_finished facts old mid new grant call next (Ready (Ok u)) site plan answers ended over close (inr h) =
@@ -190,16 +197,19 @@ finished_over stage (Ready (Ok u)) ended over = refl
 finished_over stage (Ready (Err e)) ended over = refl
 
 pub parts_end : (facts : Facts) (old mid late new : Core) (grant : GrantValue) (call next : CallValue PartValue) (told : WriteAnswer)
-    → Stepped writing_parts old mid call next told → is_ended next.stage ≡ true → late ≡ cancelled mid next.stage → new ≡ closed late grant
-    → WroteOn facts old new (writing.Parts grant call) writing.Ended told
-parts_end facts old mid late new grant call next told h ended left close =
+    → IsOwned old grant → Stepped writing_parts old mid call next told → is_ended next.stage ≡ true → late ≡ cancelled mid next.stage
+    → new ≡ closed late grant → WroteOn facts old new (writing.Parts grant call) writing.Ended told
+parts_end facts old mid late new grant call next told owned h ended left close =
     let same : new ≡ closed mid grant = close ∙ ap (λ (x : Core). closed x grant) (left ∙ ended_leaves mid next.stage ended) in
     record {
       polled = λ site plan answers here tells. parts_finished facts old mid new grant call next told site plan answers ended h.over same
           (h.polled site plan answers here tells);
       held = tt;
       over = finished_over next.stage told ended h.over;
-      grants = closes_besides old mid new grant h.grants same;
+      spares = closes_last old mid new grant (λ id. (id ≢ grant.id) × IsNoneOfCall call.stage id)
+          (spares_as old mid (λ id. (id ≢ grant.id) × IsNoneOfCall call.stage id) (λ id. (id ≢ grant.id) × IsNoneOfCall next.stage id)
+          (λ id. id ≢ grant.id) (λ id both. both.0) (parts_spare old mid grant call next told h))
+          (h.grants.grants grant.id grant.handle 1 owned) same;
     }
 
 -- ---- the first part
@@ -211,15 +221,19 @@ start_asks s ticket asked ready = let clash : ◌≡◌ {A = Stage} (stage.Asked
 pub begun_asking : (facts : Facts) (old new : Core) (grant : GrantValue) (content : List ℕ) (m : PartValue) (asking : Asking)
     (call : CallValue PartValue) → m ≡ first_part grant.handle facts content → IsPart m asking → IsOwned old grant
     → StartsAny writing_parts asking m old new (Ok call) → BeginsCall writing_parts asking m old new call → KeepsHeld old new
-    → Begun facts old new grant content (writing.Parts grant call) Pending
+    → BeganWrite facts old new grant content (writing.Parts grant call) Pending
 begun_asking facts old new grant content m asking call is part owned started begins keeps =
     record {
       polled = λ site plan answers left. asks_of
           (started site (λ e. Done (outcome.Refused e) site) plan answers
           (first_behind grant.handle content facts m asking site plan answers is part left.0 left.1));
-      held = (keeps.grants.grants grant.id grant.handle 1 owned, begins.under_way);
+      held = (
+        keeps.grants.grants grant.id grant.handle 1 owned,
+        begins.under_way,
+        ap (λ (x : PartValue). x.handle) begins.runner ∙ ap (λ (x : PartValue). x.handle) is,
+      );
       over = refl;
-      grants = keeps.grants;
+      spares = submitted_spares old new asking begins.ticket (λ id. id ≢ grant.id) call.stage begins.submitted begins.awaits;
     }
   where
     asks_of : {site : Site} {plan : Plan} {answers : Answers} → Started writing_parts site (λ e. Done (outcome.Refused e) site) plan answers old new (Ok call)
@@ -228,14 +242,14 @@ begun_asking facts old new grant content m asking call is part owned started beg
     asks_of (inr h) = absurd (start_asks call.stage begins.ticket begins.awaits h.1)
 
 -- there was none
-pub begun_empty : (facts : Facts) (old new : Core) (grant : GrantValue) (content : List ℕ) → content ≡ [] → new ≡ closed old grant
-    → Begun facts old new grant content writing.Ended (Ready (Ok tt))
-begun_empty facts old new grant content empty close =
+pub begun_empty : (facts : Facts) (old new : Core) (grant : GrantValue) (content : List ℕ) → IsOwned old grant → content ≡ [] → new ≡ closed old grant
+    → BeganWrite facts old new grant content writing.Ended (Ready (Ok tt))
+begun_empty facts old new grant content owned empty close =
     record {
       polled = λ site plan answers left. (left.1 [] ∙ ap (λ (bytes : List ℕ). rest_from 0 bytes site facts [] answers) empty, close);
       held = tt;
       over = refl;
-      grants = closes_besides old old new grant (grants_same old old refl) close;
+      spares = closes_only old new grant owned close;
     }
 
 -- it was not
@@ -260,13 +274,13 @@ refused_same site plan answers old mid error.OutOfMemory h = h
 refused_same site plan answers old mid (error.BackgroundTaskFailure fault) h = h.1
 refused_same site plan answers old mid e h = h.1
 
-unbegun_grants : (old new : Core) (grant : GrantValue) (content : List ℕ) (f : Option Fault) (result : WriteAnswer × Writing)
-    → IsUnbegunBy old new grant content f result → KeepsOtherGrants old new (writing.Opened grant content) result.1
-unbegun_grants old new grant content (Some fault) result h =
-    subst (λ (q : Writing). KeepsOtherGrants old new (writing.Opened grant content) q) (sym h.1)
-    (closes_besides old old new grant (grants_same old old refl) h.2)
-unbegun_grants old new grant content None result h =
-    subst (λ (q : Writing). KeepsOtherGrants old new (writing.Opened grant content) q) (sym h.1) (grants_same old new h.2)
+unbegun_spares : (old new : Core) (grant : GrantValue) (content : List ℕ) (f : Option Fault) (result : WriteAnswer × Writing)
+    → IsOwned old grant → IsUnbegunBy old new grant content f result → SparesOthers old new (λ id. id ≢ grant.id) (IsNoneOfWrite result.1)
+unbegun_spares old new grant content (Some fault) result owned h =
+    subst (λ (q : Writing). SparesOthers old new (λ id. id ≢ grant.id) (IsNoneOfWrite q)) (sym h.1) (closes_only old new grant owned h.2)
+unbegun_spares old new grant content None result owned h =
+    subst (λ (q : Writing). SparesOthers old new (λ id. id ≢ grant.id) (IsNoneOfWrite q)) (sym h.1)
+    (spares_unchanged old new (λ id. id ≢ grant.id) h.2)
 
 unbegun_held : (old new : Core) (grant : GrantValue) (content : List ℕ) (f : Option Fault) (result : WriteAnswer × Writing)
     → IsOwned old grant → IsUnbegunBy old new grant content f result → IsWriteHeld new result.1 × IsOverBy result.1 result.0
@@ -283,7 +297,7 @@ unbegun_held old new grant content None result owned h = (
 pub begun_refused : (facts : Facts) (old mid new : Core) (grant : GrantValue) (content : List ℕ) (m : PartValue) (asking : Asking)
     (e : Error) (result : WriteAnswer × Writing) → m ≡ first_part grant.handle facts content → IsPart m asking → IsOwned old grant
     → StartsAny writing_parts asking m old mid (Err e) → IsUnbegun mid new grant content e result
-    → Begun facts old new grant content result.1 result.0
+    → BeganWrite facts old new grant content result.1 result.0
 begun_refused facts old mid new grant content m asking e result is part owned started h =
     let nowhere_left : Site = record { slots = []; directory = [] } in
     let granted : Answers = λ place. Some (reply.Handle grant.handle) in
@@ -300,5 +314,5 @@ begun_refused facts old mid new grant content m asking e result is part owned st
           (first_behind grant.handle content facts m asking site plan answers is part left.0 left.1)));
       held = stands.0;
       over = stands.1;
-      grants = unbegun_grants old new grant content (fault_told e) result here;
+      spares = unbegun_spares old new grant content (fault_told e) result owned here;
     }

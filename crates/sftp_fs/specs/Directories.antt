@@ -30,7 +30,6 @@ use Rattle.plan_model.specs.PathPlans.{from_directory}
 use Rattle.plan_model.specs.WholePlans.{entries_next, list_next, once_opened}
 use Rattle.sftp_core.specs.Core.{Core, at, release_gives, released, users_of}
 use Rattle.sftp_core.specs.Grant.{GrantValue}
-use Rattle.sftp_core.specs.declared.place.Place.TheVariants.{Granted}
 use Rattle.call_state.specs.declared.asking.Asking.TheVariants.{Whole}
 use Rattle.call_state.specs.declared.stage.Stage.{Stage}
 use Rattle.call_state.specs.declared.stage.Stage.TheVariants.{Ready, Asked}
@@ -69,7 +68,7 @@ abbrev pub granted_ended : WithHandle → Result GrantValue Error → Move
 granted_ended w (Ok dir) = w.1 dir.handle []
 granted_ended w (Err e) = Done (outcome.Refused e) w.0
 
--- in any lane, and whatever is done with the handle; the core counts one user of it
+-- in any lane, and whatever is done with the handle; the grant that came is the directory's
 abbrev pub opening_dir : Meaning WithHandle OpeningDir GrantValue
 opening_dir =
     record {
@@ -83,7 +82,7 @@ opening_dir =
       ready = λ m. ⊥;
       first = λ w m. Wait 1;
       again = false;
-      holds = λ core dir. at core dir.id ≡ Some (Granted dir.handle 1);
+      grant = λ dir. Some dir;
     }
 
 pub granted_waits : (w : WithHandle) (m : OpeningDir) (later : Own) (answers : Answers) → answers 1 ≡ None

@@ -3,14 +3,12 @@ use Rattle.std.specs.Prelude.{◌≡◌, false, Some, None, refl}
 use Rattle.sftp_model.specs.declared.answers.Expected.TheVariants as expected
 use Rattle.sftp_model.specs.declared.slot.Move.TheVariants.{Wait}
 use Rattle.plan_model.specs.Moves.{Answers, Own}
-use Rattle.sftp_core.specs.Core.{at}
 use Rattle.sftp_core.specs.Grant.{GrantValue}
-use Rattle.sftp_core.specs.declared.place.Place.TheVariants.{Granted}
 use Rattle.call_state.specs.Runners.{Meaning}
 use Rattle.sftp_fs.specs.Directories.{WithHandle, granted_ended, granted_left}
 use Rattle.sftp_fs.specs.declared.granting.Granting.{Granting}
 
--- in any lane, and whatever is done with the handle; the core counts one user of it
+-- in any lane, and whatever is done with the handle; the grant that came is given
 abbrev pub granting : Meaning WithHandle Granting GrantValue
 granting =
     record {
@@ -24,7 +22,7 @@ granting =
       ready = λ m. ⊥;
       first = λ w m. Wait 1;
       again = false;
-      holds = λ core grant. at core grant.id ≡ Some (Granted grant.handle 1);
+      grant = λ grant. Some grant;
     }
 
 pub grants_wait : (w : WithHandle) (m : Granting) (later : Own) (answers : Answers) → answers 1 ≡ None

@@ -1,6 +1,7 @@
 -- The listing of a directory as its user sees it, and what a poll of it gives.
 use Rattle.std.specs.Prelude.{
   ◌≡◌,
+  ◌≢◌,
   ◌==◌,
   ℕ,
   Bool,
@@ -32,7 +33,7 @@ use Rattle.call_state.specs.declared.asking.Asking.TheVariants.{Whole}
 use Rattle.call_state.specs.declared.poll.Poll.{Poll}
 use Rattle.call_state.specs.declared.poll.Poll.TheVariants.{Pending, Ready}
 use Rattle.call_state.specs.Asked.{HoldsTicket, IsReady, Submitted}
-use Rattle.call_state.specs.Keeping.{KeepsGrants}
+use Rattle.call_state.specs.Keeping.{KeepsGrants, SparesOthers}
 
 -- the grant of the directory, the entries that came and were not given yet, the ticket of the READDIR whose reply is
 -- awaited, and whether the end came
@@ -142,11 +143,18 @@ pub record MayList (core : Core) (p : ListingValue) : Type 0 where
   pub listing : IsListing core p
   pub ready : IsReady core
 
--- A poll gave what comes next; the listing may be polled on or given up, and every grant stays.
-pub record Lists (old new : Core) (p q : ListingValue) (result : Given) : Type 0 where
+-- the number is not that of the READDIR whose reply is awaited
+abbrev pub IsNoneAsked : Option ℕ → ℕ → Type 0
+IsNoneAsked None id = Unit {0}
+IsNoneAsked (Some ticket) id = id ≢ ticket
+
+-- A poll gave what comes next; the listing may be polled on or given up. Every grant stays, and what others await is
+-- theirs still.
+pub record PollsEntries (old new : Core) (p q : ListingValue) (result : Given) : Type 0 where
   pub gives : GivesEntries old new p q result
   pub listing : IsListing new q
   pub grants : KeepsGrants old new
+  pub spares : SparesOthers old new (IsNoneAsked p.asked) (IsNoneAsked q.asked)
 
 -- ---- a close
 

@@ -30,7 +30,7 @@ naming =
       ready = λ m. ⊥;
       first = λ site m. Wait 1;
       again = false;
-      holds = λ core value. Unit {0};
+      grant = λ value. None;
     }
 
 pub names_wait : (site : Site) (m : Naming) (later : Own) (answers : Answers) → answers 1 ≡ None

@@ -65,7 +65,7 @@ writing_parts =
       ready = λ m. ⊥;
       first = λ site m. Wait m.place;
       again = true;
-      holds = λ core value. Unit {0};
+      grant = λ value. None;
     }
 
 pub parts_wait : (site : Site) (m : PartValue) (later : Own) (answers : Answers) → answers m.place ≡ None

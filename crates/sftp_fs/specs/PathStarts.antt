@@ -9,8 +9,8 @@ use Rattle.sftp_model.specs.declared.slot.Move.TheVariants.{Done}
 use Rattle.sftp_model.specs.declared.slot.Site.{Site}
 use Rattle.plan_model.specs.Moves.{Answers, Own, Plan, ask_path}
 use Rattle.sftp_core.specs.Core.{Core, is_call}
-use Rattle.call_state.specs.Calls.{CallValue, IsUnderWay, Started}
-use Rattle.call_state.specs.Keeping.{KeepsHeld}
+use Rattle.call_state.specs.Calls.{CallValue, IsNoneOfCall, IsUnderWay, Started}
+use Rattle.call_state.specs.Keeping.{KeepsHeld, SparesOthers}
 use Rattle.call_state.specs.Runners.{Meaning}
 use Rattle.call_state.specs.declared.asking.Asking.TheVariants.{Whole}
 use Rattle.sftp_file.specs.Files.{facts_of}
@@ -43,13 +43,14 @@ pub record FirstAsks {W M V : Type 0} (s : Meaning W M V) (w : W) (site : Site) 
   pub rest : (later : Own) → plan ((s.place m, r) ∷ later) answers ≡ s.left w m later answers
   pub knows : s.known m answers
 
--- the first move of each such plan was done
+-- the first move of each such plan was done, and no number that was in use is the call's
 pub record AsksFirst {W M V : Type 0} (s : Meaning W M V) (r : Request) (m : M) (old new : Core)
     (result : Result (CallValue M) Error) : Type 0 where
   pub starts : (w : W) (site : Site) (plan : Plan) (answers : Answers) → FirstAsks s w site plan answers r m
       → Started s w (λ e. Done (outcome.Refused e) site) plan answers old new result
   pub under_way : IfOk result (IsUnderWay s new)
   pub keeps : KeepsHeld old new
+  pub spares : IfOk result (λ call. SparesOthers old new (λ id. Unit {0}) (IsNoneOfCall call.stage))
 
 -- from this working directory a plan is that of a call that asks this and goes on in some way
 abbrev pub IsPathPlan : (Request → Site → Plan) → Request → List ℕ → Facts → PathPlan → Type 0

@@ -1,5 +1,5 @@
 -- Whole writes of a path: an OPEN, the content part by part, and the CLOSE.
-use Rattle.std.specs.Prelude.{◌≡◌, ◌⊎◌, ℕ, Bool, true, false, List, [], Option, Some, None, Result, Ok, Err, IfOk}
+use Rattle.std.specs.Prelude.{◌≡◌, ◌≢◌, ◌⊎◌, ℕ, Bool, true, false, List, [], Option, Some, None, Result, Ok, Err, IfOk}
 use Rattle.sftp_model.specs.declared.error.Error.{Error}
 use Rattle.sftp_model.specs.declared.error.Error.TheVariants as error
 use Rattle.sftp_model.specs.declared.error.Fault.{Fault}
@@ -15,15 +15,16 @@ use Rattle.sftp_core.specs.declared.place.Place.TheVariants.{Granted}
 use Rattle.call_state.specs.Asked.{IsReady}
 use Rattle.call_state.specs.Calls.{
   AsksAndAwaits,
-  IsGrantOf,
   IsLeft,
+  IsNoneOfCall,
   IsUnderWay,
   IsUnfinished,
-  Tells,
+  TellsReply,
   cancelled,
+  grant_brought,
   polled_core,
 }
-use Rattle.call_state.specs.Keeping.{KeepsHeld, KeepsGrants}
+use Rattle.call_state.specs.Keeping.{KeepsHeld, SparesOthers}
 use Rattle.call_state.specs.declared.poll.Poll.{Poll}
 use Rattle.call_state.specs.declared.poll.Poll.TheVariants.{Pending, Ready}
 use Rattle.sftp_file.specs.Files.{facts_of}
@@ -61,8 +62,8 @@ IsWriteLeft site facts plan answers (writing.Parts grant call) = IsLeft writing_
 
 -- the reply that is awaited is the one that the core has
 abbrev pub WriteTells : Core → Answers → Writing → Type 0
-WriteTells core answers (writing.Opening call content) = Tells granting core call answers
-WriteTells core answers (writing.Parts grant call) = Tells writing_parts core call answers
+WriteTells core answers (writing.Opening call content) = TellsReply granting core call answers
+WriteTells core answers (writing.Parts grant call) = TellsReply writing_parts core call answers
 WriteTells core answers other = Unit {0}
 
 -- ---- a start
@@ -88,20 +89,30 @@ WriteStarted site plan answers old new content (Err e) = (plan [] answers ≡ Do
 abbrev pub IsOwned : Core → GrantValue → Type 0
 IsOwned core grant = at core grant.id ≡ Some (Granted grant.handle 1)
 
--- the core counts the grant, and can go on with what is awaited
+-- the core counts the grant, whose handle the parts bear, and can go on with what is awaited
 abbrev pub IsWriteHeld : Core → Writing → Type 0
 IsWriteHeld core writing.Ended = Unit {0}
 IsWriteHeld core (writing.Opening call content) = IsUnderWay granting core call
 IsWriteHeld core (writing.Opened grant content) = IsOwned core grant
 IsWriteHeld core (writing.Parts grant call) = IsOwned core grant × IsUnderWay writing_parts core call
+    × (call.runner.handle ≡ grant.handle)
+
+-- the number is none of the write's: not of its file, nor of what it awaits
+abbrev pub IsNoneOfWrite : Writing → ℕ → Type 0
+IsNoneOfWrite (writing.Opening call content) id = IsNoneOfCall call.stage id
+IsNoneOfWrite (writing.Opened grant content) id = id ≢ grant.id
+IsNoneOfWrite (writing.Parts grant call) id = (id ≢ grant.id) × IsNoneOfCall call.stage id
+IsNoneOfWrite writing.Ended id = Unit {0}
 
 -- A start did the first move of the plan of a whole write, in each lane with this working directory and whatever the
--- replies to come; what it answered may be polled or given up, and the core holds what it held.
+-- replies to come; what it answered may be polled or given up. The core holds what it held, and no number that was in
+-- use is the write's.
 pub record WritesFrom (path content cwd : List ℕ) (old new : Core) (result : Result FsWriteValue Error) : Type 0 where
   pub starts : (site : Site) (answers : Answers) → site.directory ≡ cwd
       → WriteStarted site (fs_write_next path content site (facts_of old)) answers old new content result
   pub held : IfOk result (λ q. IsWriteHeld new q.stage)
   pub keeps : KeepsHeld old new
+  pub spares : IfOk result (λ q. SparesOthers old new (λ id. Unit {0}) (IsNoneOfWrite q.stage))
 
 -- ---- a poll
 
@@ -115,12 +126,21 @@ heard_core core other = core
 abbrev pub closed : Core → GrantValue → Core
 closed core grant = abandoned (released core grant) grant.id
 
--- the grant of the write was closed, where there was one
-abbrev pub Finishes : Core → Core → Writing → Type 0
-Finishes core new (writing.Opening call content) = (new ≡ core) ⊎ ((grant : GrantValue) × (new ≡ closed core grant))
-Finishes core new (writing.Opened grant content) = new ≡ closed core grant
-Finishes core new (writing.Parts grant call) = new ≡ closed core grant
-Finishes core new writing.Ended = ⊥
+-- where there is one
+abbrev pub closed_if : Core → Option GrantValue → Core
+closed_if core None = core
+closed_if core (Some grant) = closed core grant
+
+-- the grant of the write: that of its file, or the one that the reply to its OPEN brought
+abbrev pub write_grant : Core → Writing → Option GrantValue
+write_grant core (writing.Opening call content) = grant_brought core call.stage
+write_grant core (writing.Opened grant content) = Some grant
+write_grant core (writing.Parts grant call) = Some grant
+write_grant core writing.Ended = None
+
+-- the reply was polled, and the grant of the write closed, where there is one
+abbrev pub FinishesWrite : Core → Core → Writing → Type 0
+FinishesWrite old new p = new ≡ closed_if (heard_core old p) (write_grant old p)
 
 -- the WRITE of a part was submitted, and its reply is awaited
 abbrev pub AsksPart : Site → Plan → Answers → Core → Core → Writing → Type 0
@@ -150,20 +170,9 @@ Wrote site facts plan answers old new p q (Ready (Err error.OutOfMemory)) = IsWr
 Wrote site facts plan answers old new p q (Ready (Err (error.BackgroundTaskFailure fault))) =
     ((heard_core old p).fault ≡ Some fault)
     × IsUnfinished (plan [] answers)
-    × ((core : Core) × Finishes core new p)
+    × FinishesWrite old new p
 Wrote site facts plan answers old new p q (Ready value) = (plan [] answers ≡ Done (done_outcome value) site)
-    × Finishes (heard_core old p) new p
-
--- each grant stays but this
-pub record KeepsBesides (old new : Core) (own : ℕ) : Type 0 where
-  pub grants : (id : ℕ) (handle : List ℕ) (users : ℕ) → (own ≡ id → ⊥) → at old id ≡ Some (Granted handle users)
-      → at new id ≡ Some (Granted handle users)
-
--- each grant stays but that of a write whose file is open
-abbrev pub KeepsBut : Core → Core → Writing → Type 0
-KeepsBut old new (writing.Opened grant content) = KeepsBesides old new grant.id
-KeepsBut old new (writing.Parts grant call) = KeepsBesides old new grant.id
-KeepsBut old new other = Unit {0}
+    × FinishesWrite old new p
 
 -- it is over where it gave a value or an error, but for want of memory
 abbrev pub IsOverBy : Writing → WriteAnswer → Type 0
@@ -171,19 +180,14 @@ IsOverBy stage Pending = is_over stage ≡ false
 IsOverBy stage (Ready (Err error.OutOfMemory)) = is_over stage ≡ false
 IsOverBy stage (Ready value) = is_over stage ≡ true
 
--- each grant stays; as the write ends, each but its own
-abbrev pub KeepsOtherGrants : Core → Core → Writing → Writing → Type 0
-KeepsOtherGrants old new p writing.Ended = KeepsBut old new p
-KeepsOtherGrants old new p q = KeepsGrants old new
-
 -- A poll did the next move of each plan that the write is what is left of, whatever its replies to come; the write may
--- be polled on or given up.
+-- be polled on or given up. What others have stays, and is theirs still.
 pub record WroteOn (facts : Facts) (old new : Core) (p q : Writing) (result : WriteAnswer) : Type 0 where
   pub polled : (site : Site) (plan : Plan) (answers : Answers) → IsWriteLeft site facts plan answers p
       → WriteTells old answers p → Wrote site facts plan answers old new p q result
   pub held : IsWriteHeld new q
   pub over : IsOverBy q result
-  pub grants : KeepsOtherGrants old new p q
+  pub spares : SparesOthers old new (IsNoneOfWrite p) (IsNoneOfWrite q)
 
 -- what asking for the first part, or for the close of a file without content, did
 abbrev pub Began : Site → Facts → Plan → Answers → Core → Core → GrantValue → Writing → WriteAnswer → Type 0
@@ -197,14 +201,14 @@ Began site facts plan answers old new grant q (Ready (Err (error.BackgroundTaskF
 Began site facts plan answers old new grant q (Ready value) = (plan [] answers ≡ Done (done_outcome value) site)
     × (new ≡ closed old grant)
 
-pub record Begun (facts : Facts) (old new : Core) (grant : GrantValue) (content : List ℕ) (q : Writing)
+pub record BeganWrite (facts : Facts) (old new : Core) (grant : GrantValue) (content : List ℕ) (q : Writing)
     (result : WriteAnswer) : Type 0 where
   pub polled : (site : Site) (plan : Plan) (answers : Answers)
       → IsWriteLeft site facts plan answers (writing.Opened grant content)
       → Began site facts plan answers old new grant q result
   pub held : IsWriteHeld new q
   pub over : IsOverBy q result
-  pub grants : KeepsOtherGrants old new (writing.Opened grant content) q
+  pub spares : SparesOthers old new (IsNoneOfWrite (writing.Opened grant content)) (IsNoneOfWrite q)
 
 -- a write has not answered, and may ask for a part
 pub record MayWrite (core : Core) (p : FsWriteValue) : Type 0 where
@@ -213,7 +217,7 @@ pub record MayWrite (core : Core) (p : FsWriteValue) : Type 0 where
   pub ready : IsReady core
 
 -- so did a poll of a write, whose session fixes what it fixed
-pub record Writes (old new : Core) (p q : FsWriteValue) (result : WriteAnswer) : Type 0 where
+pub record PollsWrite (old new : Core) (p q : FsWriteValue) (result : WriteAnswer) : Type 0 where
   pub wrote : WroteOn p.facts old new p.stage q.stage result
   pub facts : q.facts ≡ p.facts
 
@@ -226,18 +230,10 @@ write_dropped core (writing.Opening call content) = cancelled core call.stage
 write_dropped core (writing.Opened grant content) = closed core grant
 write_dropped core (writing.Parts grant call) = closed (cancelled core call.stage) grant
 
--- the grant of a write is this: that of its file, or one that came and was not gone on with
-abbrev pub IsOwnGrant : Writing → ℕ → Type 0
-IsOwnGrant (writing.Opening call content) id = IsGrantOf call.stage id
-IsOwnGrant (writing.Opened grant content) id = grant.id ≡ id
-IsOwnGrant (writing.Parts grant call) id = grant.id ≡ id
-IsOwnGrant writing.Ended id = ⊥
-
--- what a cancel did; every other grant stays
+-- what a cancel did; what others have stays
 pub record CancelsWrite (old new : Core) (p : Writing) : Type 0 where
   pub core : new ≡ write_dropped old p
-  pub grants : (id : ℕ) (handle : List ℕ) (users : ℕ) → (IsOwnGrant p id → ⊥)
-      → at old id ≡ Some (Granted handle users) → at new id ≡ Some (Granted handle users)
+  pub spares : SparesOthers old new (IsNoneOfWrite p) (λ id. Unit {0})
 
 -- ---- facts of parts
 

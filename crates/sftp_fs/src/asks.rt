@@ -16,7 +16,7 @@ ghost use Rattle.sftp_file.specs.Tells.{telling};
 ghost use Rattle.sftp_fs.specs.PathStarts.{AsksFirst, IsPathPlan, MayAskFirst, PathPlan, StartsFrom};
 
 use bitflags::Flags;
-use call_state::{Asking, Call, PlanRunner};
+use call_state::{Asking, PendingCall, PlanRunner};
 use sftp_core::Core;
 use sftp_file::{AttrsCall, Settling, StatusCall, Telling};
 use sftp_model::{Error, Extensions, Facts, IoKind, Request};
@@ -61,8 +61,12 @@ pub fn facts(core: &Core) -> Facts
 }
 
 /// Submits the first request of a call on paths. `IOError(PathTooLong)`, exactly where its body would pass 1048575
-/// bytes; then as `Call::ask`.
-pub fn ask<M: PlanRunner>(core: &mut Core, request: Request, runner: M) -> Result<Call<M>, Error>
+/// bytes; then as `PendingCall::ask`.
+pub fn ask<M: PlanRunner>(
+    core: &mut Core,
+    request: Request,
+    runner: M,
+) -> Result<PendingCall<M>, Error>
     requires ready { IsReady core.old }
     requires asks { MayAskFirst M.meaning request runner }
     ensures { AsksFirst M.meaning request runner core.old core.new result }
@@ -70,7 +74,7 @@ pub fn ask<M: PlanRunner>(core: &mut Core, request: Request, runner: M) -> Resul
     if is_too_long(&request) {
         return Err(Error::IOError(IoKind::PathTooLong));
     }
-    Call::ask(core, Asking::Whole(request), runner)
+    PendingCall::ask(core, Asking::Whole(request), runner)
 }
 
 /// Submits a request whose STATUS ends the call.

@@ -11,7 +11,7 @@ ghost use Rattle.sftp_fs.specs.Listings.{fresh_listing};
 use crate::asks::ask;
 use crate::fs::Fs;
 use crate::read_dir::ReadDir;
-use call_state::{Alone, Call, PlanRunner, Then, Told};
+use call_state::{Alone, PendingCall, PlanRunner, Then, Told};
 use sftp_core::{Core, Ended, Grant};
 use sftp_file::{CloseCall, close_call};
 use sftp_model::{Error, Reply, Request};
@@ -78,7 +78,7 @@ impl Dir {
 pub struct OpeningDir {}
 
 /// The opening of a directory under way.
-pub type DirCall = Call<OpeningDir>;
+pub type DirCall = PendingCall<OpeningDir>;
 
 impl Alone for OpeningDir {}
 

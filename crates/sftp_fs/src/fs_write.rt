@@ -9,9 +9,8 @@ ghost use Rattle.sftp_model.specs.declared.slot.Facts.{Facts as FactsValue};
 ghost use Rattle.call_state.specs.Asked.{IsReady};
 ghost use Rattle.call_state.specs.Calls.{IsUnderWay};
 ghost use Rattle.sftp_fs.specs.Grants.{granting};
-ghost use Rattle.sftp_fs.specs.Parts.{writing_parts};
-ghost use Rattle.sftp_fs.specs.WholeWrites.{Begun, CancelsWrite, IsOwned, IsUnbegun, IsUnended, IsWriteHeld, MayWrite};
-ghost use Rattle.sftp_fs.specs.WholeWrites.{WroteOn, Writes, WritesFrom};
+ghost use Rattle.sftp_fs.specs.WholeWrites.{BeganWrite, CancelsWrite, IsOwned, IsUnbegun, IsUnended, IsWriteHeld, MayWrite};
+ghost use Rattle.sftp_fs.specs.WholeWrites.{WroteOn, PollsWrite, WritesFrom};
 ghost use Rattle.sftp_fs.specs.WholeWrites.{closed, fault_told, is_over, unended};
 ghost use Rattle.sftp_fs.specs.declared.fs_write.Writing.TheVariants as writing;
 
@@ -21,7 +20,7 @@ use crate::granting::Granting;
 use crate::parts::WritingParts;
 use bitflags::Flags;
 use bytes::Bytes;
-use call_state::Call;
+use call_state::PendingCall;
 use sftp_core::{Core, Ended, Grant};
 use sftp_file::Poll;
 use sftp_model::numbers::{SSH_FXF_CREAT, SSH_FXF_TRUNC, SSH_FXF_WRITE};
@@ -37,11 +36,11 @@ pub enum Writing {
     /// It has answered.
     Ended,
     /// The OPEN is under way, and this content is to be written.
-    Opening(Call<Granting>, Bytes),
+    Opening(PendingCall<Granting>, Bytes),
     /// The file is open, and there was no memory to ask for the first part.
     Opened(Grant, Bytes),
     /// A part is under way.
-    Parts(Grant, Call<WritingParts>),
+    Parts(Grant, PendingCall<WritingParts>),
 }
 
 /// A whole write under way. It isn't droppable: `cancel` spends it, once it has answered too, and `let_go` where its
@@ -130,7 +129,7 @@ fn begin(
     requires range { (1 ≤ facts.write_len) × (facts.write_len ≤ MAX_TRANSFER_LEN) }
     requires owned { IsOwned core.old grant }
     requires ready { IsReady core.old }
-    ensures { Begun facts core.old core.new grant content result.1 result.0 }
+    ensures { BeganWrite facts core.old core.new grant content result.1 result.0 }
 {
     match WritingParts::first(core.alloc(), grant.handle(), facts, &content) {
         Err(OutOfMemory) => (
@@ -141,7 +140,7 @@ fn begin(
             close(core, grant);
             (Poll::Ready(Ok(())), Writing::Ended)
         }
-        Ok(Some((asking, runner))) => match Call::ask(core, asking, runner) {
+        Ok(Some((asking, runner))) => match PendingCall::ask(core, asking, runner) {
             Ok(call) => (Poll::Pending, Writing::Parts(grant, call)),
             Err(e) => unbegun(core, grant, content, e),
         },
@@ -177,7 +176,7 @@ fn unbegun(
 fn open(
     core: &mut Core,
     facts: Facts,
-    call: Call<Granting>,
+    call: PendingCall<Granting>,
     content: Bytes,
 ) -> (Poll<Result<(), Error>>, Writing)
     requires range { (1 ≤ facts.write_len) × (facts.write_len ≤ MAX_TRANSFER_LEN) }
@@ -202,10 +201,9 @@ fn open(
 fn go_on(
     core: &mut Core,
     grant: Grant,
-    call: Call<WritingParts>,
+    call: PendingCall<WritingParts>,
 ) -> (Poll<Result<(), Error>>, Writing)
-    requires owned { IsOwned core.old grant }
-    requires under_way { IsUnderWay writing_parts core.old call }
+    requires held { IsWriteHeld core.old (writing.Parts grant call) }
     requires ready { IsReady core.old }
     ensures { (facts : FactsValue) → WroteOn facts core.old core.new (writing.Parts grant call) result.1 result.0 }
 {
@@ -260,7 +258,7 @@ impl FsWriteCall {
     /// taken, or a part is to be asked for; `OutOfMemory`, after which the write may be polled again.
     pub fn poll(&mut self, core: &mut Core) -> Poll<Result<(), Error>>
         requires { MayWrite core.old self.old }
-        ensures { Writes core.old core.new self.old self.new result }
+        ensures { PollsWrite core.old core.new self.old self.new result }
     {
         let (told, next) = poll_stage(core, self.facts, self.stage.take());
         self.stage.put(next);

@@ -17,7 +17,7 @@ ghost use Rattle.sftp_fs.specs.PathStarts.{IsPathPlan, PathPlan, StartsFrom};
 
 use crate::asks::{ask, offers};
 use crate::fs::Fs;
-use call_state::{Alone, Call, PlanRunner, Then, Told};
+use call_state::{Alone, PendingCall, PlanRunner, Then, Told};
 use sftp_core::Core;
 use sftp_model::{Error, Extensions, NameEntry, RemotePath, Reply, Request};
 use sftp_values::Items;
@@ -28,7 +28,7 @@ use std::alloc::Global;
 pub struct Naming {}
 
 /// A call under way that gives a path.
-pub type PathCall = Call<Naming>;
+pub type PathCall = PendingCall<Naming>;
 
 impl Alone for Naming {}
 

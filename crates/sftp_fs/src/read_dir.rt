@@ -9,7 +9,7 @@ ghost use Rattle.call_state.specs.Asked.{HoldsTicket, IsReady};
 ghost use Rattle.call_state.specs.Keeping.{KeepsGrants};
 ghost use Rattle.sftp_fs.specs.Directories.{ClosesDir};
 ghost use Rattle.sftp_fs.specs.Listings.{IsAwaiting, IsEmpty, IsListing, MayList, fresh_listing, given_up};
-ghost use Rattle.sftp_fs.specs.Listings.{AsksMore, Hears, Lists, TakesEntry, entry_told, left_by};
+ghost use Rattle.sftp_fs.specs.Listings.{AsksMore, Hears, PollsEntries, TakesEntry, entry_told, left_by};
 
 use crate::dir_entry::DirEntry;
 use sftp_core::{Core, Ended, Grant, Polled, SubmitError, Ticket};
@@ -68,7 +68,7 @@ impl ReadDir {
     /// again.
     pub fn poll_next(&mut self, core: &mut Core) -> Poll<Option<Result<DirEntry, Error>>>
         requires { MayList core.old self.old }
-        ensures { Lists core.old core.new self.old self.new result }
+        ensures { PollsEntries core.old core.new self.old self.new result }
     {
         if self.ended {
             return Poll::Ready(None);

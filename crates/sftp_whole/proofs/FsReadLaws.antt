@@ -59,16 +59,18 @@ use Rattle.call_state.specs.declared.poll.Poll.{Poll}
 use Rattle.call_state.specs.declared.poll.Poll.TheVariants.{Pending, Ready}
 use Rattle.call_state.specs.declared.stage.Stage.{Stage}
 use Rattle.call_state.specs.Asked.{IsReady, Submitted}
-use Rattle.call_state.specs.Calls.{CallValue, IsOver, IsUnderWay, IsUnfinished, Polled, Stepped, Tells, cancelled, is_ended, polled_core}
-use Rattle.call_state.specs.Keeping.{KeepsHeld, KeepsGrants}
+use Rattle.call_state.specs.Calls.{CallValue, CancelsAwaited, IsOver, IsUnderWay, IsUnfinished, Polled, Stepped, TellsReply, cancelled, is_ended, polled_core}
+use Rattle.call_state.specs.Keeping.{KeepsHeld, KeepsGrants, SparesOthers}
+use Rattle.call_state.specs.declared.stage.Stage.TheVariants.{Asked}
 use Rattle.call_state.proofs.Going.{unfinished_by}
-use Rattle.call_state.proofs.Keeping.{grants_both, still_under_way, polled_keeps_grants, submitted_holds, submitted_keeps}
+use Rattle.call_state.proofs.Keeping.{grants_both, keeps_same, still_under_way, polled_keeps_grants, submitted_holds, submitted_keeps}
+use Rattle.call_state.proofs.Sparing.{cancelled_spares, spares_also, spares_as, spares_both, spares_kept, submitted_spares}
 use Rattle.sftp_fs.specs.Directories.{WithHandle, granted_left}
 use Rattle.sftp_fs.specs.Grants.{granting}
-use Rattle.sftp_fs.specs.WholeWrites.{IsOwned, KeepsBesides, closed}
+use Rattle.sftp_fs.specs.WholeWrites.{IsOwned, closed}
 use Rattle.sftp_fs.specs.declared.granting.Granting.{Granting}
 use Rattle.sftp_fs.proofs.CallSteps.{ended_leaves}
-use Rattle.sftp_fs.proofs.WriteSteps.{closes_besides, grants_same}
+use Rattle.sftp_fs.proofs.WriteSteps.{closes_last}
 use Rattle.sftp_fs.proofs.WriteOpens.{granted_goes, granted_same, left_later, left_now, still}
 use Rattle.sftp_whole.specs.Hearing.{Hears, IsFirstMissing, IsOverFor}
 use Rattle.sftp_whole.specs.Reads.{EndsBy, ReadsValue, no_reads}
@@ -77,10 +79,10 @@ use Rattle.sftp_whole.specs.WholeReads.{
   CancelsRead,
   ClosesRead,
   Decided,
+  IsNoneOfRead,
   IsReadHeld,
   IsReadLeft,
   IsReadOver,
-  KeepsForOthers,
   ReadAnswer,
   ReadBy,
   ReadOn,
@@ -93,7 +95,7 @@ use Rattle.sftp_whole.specs.declared.fs_read.Whole.{Whole}
 use Rattle.sftp_whole.specs.declared.fs_read.Whole.TheVariants as whole
 use Rattle.sftp_whole.proofs.MoveLaws.{waits_none}
 use Rattle.sftp_whole.proofs.ReadsLaws.{moves_now}
-use Rattle.sftp_whole.proofs.TicketLaws.{keeps_reads, polled_last, read_more, read_tickets, without_keeps}
+use Rattle.sftp_whole.proofs.TicketLaws.{heard_spares, keeps_reads, polled_last, read_more, read_tickets, without_keeps, without_spares}
 
 abbrev Deque : Type 0
 Deque = VecDeque ℕ Global
@@ -104,14 +106,37 @@ pub owned_without : (core : Core) (grant : GrantValue) (tickets : List ℕ) → 
     → IsOwned (without core tickets) grant
 owned_without core grant tickets owned h = (without_keeps core tickets h).grants grant.id grant.handle 1 owned
 
-finished_besides : (old core new : Core) (grant : GrantValue) (tickets : List ℕ) → KeepsGrants old core → AreTickets core tickets
-    → new ≡ closed (without core tickets) grant → KeepsBesides old new grant.id
-finished_besides old core new grant tickets k h close =
-    closes_besides old (without core tickets) new grant (grants_both old core (without core tickets) k (without_keeps core tickets h)) close
+-- the number is neither that of this grant nor one of these tickets
+abbrev Apart : GrantValue → List ℕ → ℕ → Type 0
+Apart grant tickets id = (id ≢ grant.id) × IsNoneOf id tickets
 
-pub dropped_besides : (core new : Core) (grant : GrantValue) (tickets : List ℕ) → AreTickets core tickets
-    → new ≡ closed (without core tickets) grant → KeepsBesides core new grant.id
-dropped_besides core new grant tickets h close = finished_besides core core new grant tickets (grants_same core core refl) h close
+finished_spares : (old core new : Core) (grant : GrantValue) (tickets : List ℕ) (P : ℕ → Type 0) → SparesOthers old core P (Apart grant tickets)
+    → IsOwned core grant → AreTickets core tickets → new ≡ closed (without core tickets) grant → SparesOthers old new P (λ id. Unit {0})
+finished_spares old core new grant tickets P spares owned h close =
+    let dropped = spares_also core (without core tickets) (λ id. id ≢ grant.id) (λ id. IsNoneOf id tickets) (λ id. Unit {0})
+    (without_spares core tickets h) in
+    let left = spares_both old core (without core tickets) P (Apart grant tickets) (λ id. (id ≢ grant.id) × Unit {0}) spares dropped in
+    closes_last old (without core tickets) new grant P
+    (spares_as old (without core tickets) P (λ id. (id ≢ grant.id) × Unit {0}) (λ id. id ≢ grant.id) (λ id both. both.0) left)
+    (owned_without core grant tickets owned h) close
+
+pub dropped_spares : (core new : Core) (grant : GrantValue) (tickets : List ℕ) → IsOwned core grant → AreTickets core tickets
+    → new ≡ closed (without core tickets) grant → SparesOthers core new (Apart grant tickets) (λ id. Unit {0})
+dropped_spares core new grant tickets owned h close =
+    finished_spares core core new grant tickets (Apart grant tickets) (spares_kept core core (Apart grant tickets) (keeps_same core)) owned h close
+
+-- a READ that was asked has a number of its own
+none_last : (id ticket : ℕ) (tickets : List ℕ) → IsNoneOf id tickets → id ≢ ticket → IsNoneOf id (tickets ++ ticket ∷ [])
+none_last id ticket [] none apart = (apart, tt)
+none_last id ticket (other ∷ later) none apart = (none.0, none_last id ticket later none.1 apart)
+
+asked_spares : (old new : Core) (grant : GrantValue) (tickets more : List ℕ) (asked : Request) (ticket : ℕ) → Submitted old (WholeRequest asked) ticket new
+    → more ≡ tickets ++ ticket ∷ [] → SparesOthers old new (Apart grant tickets) (Apart grant more)
+asked_spares old new grant tickets more asked ticket submitted items =
+    subst (λ (l : List ℕ). SparesOthers old new (Apart grant tickets) (Apart grant l)) (sym items)
+    (spares_as old new (Apart grant tickets) (λ id. Apart grant tickets id × (id ≢ ticket)) (Apart grant (tickets ++ ticket ∷ []))
+    (λ id both. (both.0.0, none_last id ticket tickets both.0.1 both.1))
+    (submitted_spares old new (WholeRequest asked) ticket (Apart grant tickets) (Asked ticket) submitted refl))
 
 -- ---- a READ is asked
 
@@ -141,9 +166,10 @@ asked_pending old new grant reads next tickets more offset len ticket held asks 
             (subst (λ (x : ReadsValue). AreUnderWay new x.window.waiting (tickets.items ++ ticket ∷ [])) (sym is)
             (read_more old new ticket r reads.window.waiting tickets.items submitted.free keeps
             (submitted_holds old new (WholeRequest q) ticket (expected.Content len) submitted refl) held.1)),
+        ap (λ (x : ReadsValue). x.handle) is ∙ held.2,
       );
       over = refl;
-      grants = keeps.grants;
+      spares = asked_spares old new grant tickets.items more.items q ticket submitted items;
     }
 
 -- the tickets with one more
@@ -177,11 +203,11 @@ asked_failed old mid new grant reads tickets left offset len fault held asks kep
         kept,
         unfinished_by (plan [] answers)
             (Ask (request.Read reads.handle offset len)) (untold ∙ asks site) tt,
-        (old, closes),
+        closes,
       );
       held = tt;
       over = refl;
-      grants = dropped_besides old new grant tickets.items (read_tickets old reads.window.waiting tickets.items held.1) closes;
+      spares = dropped_spares old new grant tickets.items held.0 (read_tickets old reads.window.waiting tickets.items held.1) closes;
     }
 
 pub asked_short : (old mid new : Core) (grant : GrantValue) (reads : ReadsValue) (tickets : Deque) (more : List ℕ) (offset len ticket : ℕ)
@@ -194,8 +220,9 @@ asked_short old mid new grant reads tickets more offset len ticket held submitte
       polled = λ site plan answers l untold. inr (refl, (mid, (more, close)));
       held = tt;
       over = tt;
-      grants = finished_besides old mid new grant more
-          (submitted_keeps old mid (WholeRequest (request.Read reads.handle offset len)) ticket submitted).grants
+      spares = finished_spares old mid new grant more (Apart grant tickets.items)
+          (asked_spares old mid grant tickets.items more (request.Read reads.handle offset len) ticket submitted items)
+          (more_owned old mid grant reads tickets offset len ticket held submitted)
           (more_tickets old mid grant reads tickets more offset len ticket held submitted items) close;
     }
 
@@ -224,7 +251,7 @@ decided_waits core grant reads tickets place held missing goes =
       });
       held = held;
       over = refl;
-      grants = grants_same core core refl;
+      spares = spares_kept core core (Apart grant tickets.items) (keeps_same core);
     }
 
 pub decided_whole : (core new : Core) (grant : GrantValue) (reads : ReadsValue) (tickets : Deque) (bytes : List ℕ) (out : Filled)
@@ -238,27 +265,10 @@ decided_whole core new grant reads tickets bytes out held goes same close =
           (untold ∙ (goes site ∙ ap (λ (b : List ℕ). Done (outcome.Bytes b) site) (sym same)), close);
       held = tt;
       over = refl;
-      grants = dropped_besides core new grant tickets.items (read_tickets core reads.window.waiting tickets.items held.1) close;
+      spares = dropped_spares core new grant tickets.items held.0 (read_tickets core reads.window.waiting tickets.items held.1) close;
     }
 
 -- ---- behind the replies that came
-
--- what was left of the reads and tickets makes no difference to what a read does
-read_same : (site : Site) (plan : Plan) (answers : Answers) (mid new : Core) (grant : GrantValue) (a b : ReadsValue) (s t : Deque)
-    (q : Whole) (left : List ℕ) (result : ReadAnswer) → ReadBy site plan answers mid new (whole.Open grant a s) q left result
-    → ReadBy site plan answers mid new (whole.Open grant b t) q left result
-read_same site plan answers mid new grant a b s t q left Pending h = h
-read_same site plan answers mid new grant a b s t q left (Ready (Err error.OutOfMemory)) h = h
-read_same site plan answers mid new grant a b s t q left (Ready (Err (error.BackgroundTaskFailure fault))) h = h
-read_same site plan answers mid new grant a b s t q left (Ready (Ok out)) h = h
-read_same site plan answers mid new grant a b s t q left (Ready (Err e)) h = h
-
-keeps_behind : (old mid new : Core) (grant : GrantValue) (a b : ReadsValue) (s t : Deque) (q : Whole) → KeepsGrants old mid
-    → KeepsForOthers mid new (whole.Open grant a s) q → KeepsForOthers old new (whole.Open grant b t) q
-keeps_behind old mid new grant a b s t whole.Ended k h =
-    record { grants = λ id handle users own here. h.grants id handle users own (k.grants id handle users here) }
-keeps_behind old mid new grant a b s t (whole.Opening call facts) k h = grants_both old mid new k h
-keeps_behind old mid new grant a b s t (whole.Open other reads tickets) k h = grants_both old mid new k h
 
 first_untold : (core : Core) (answers : Answers) (waiting : List ReadAt) (tickets : List ℕ) → TellsReads core answers waiting tickets
     → IsFirstMissing core tickets → (r : ReadAt) → first_of waiting ≡ Some r → answers r.place ≡ None
@@ -285,13 +295,14 @@ heard_on old mid new grant reads now tickets left q result h missing d =
               left.items,
               (
                 (h.done, (h.split, h.core)),
-                read_same site plan answers mid new grant now reads left tickets q left.items result (d.polled site plan answers goes untold),
+                d.polled site plan answers goes untold,
               ),
             ),
           ));
       held = d.held;
       over = d.over;
-      grants = keeps_behind old mid new grant now reads left tickets q h.grants d.grants;
+      spares = spares_both old mid new (Apart grant tickets.items) (Apart grant left.items) (IsNoneOfRead q)
+          (spares_also old mid (λ id. id ≢ grant.id) (λ id. IsNoneOf id tickets.items) (λ id. IsNoneOf id left.items) h.spares) d.spares;
     }
 
 -- ---- over by a reply
@@ -328,6 +339,14 @@ over_keeps old mid new reads now tickets ticket left h polled =
     let counted = read_tickets mid now.window.waiting (ticket ∷ left) h.under_way in
     grants_both old mid new h.grants (subst (λ (c : Core). KeepsGrants mid c) (sym polled) (polled_keeps_grants mid ticket counted.0))
 
+over_spares : (old mid new : Core) (reads now : ReadsValue) (tickets : List ℕ) (ticket : ℕ) (left : List ℕ)
+    → Hears old mid reads now tickets (ticket ∷ left) → new ≡ after_poll mid ticket
+    → SparesOthers old new (λ id. IsNoneOf id tickets) (λ id. IsNoneOf id left)
+over_spares old mid new reads now tickets ticket left h polled =
+    let counted = read_tickets mid now.window.waiting (ticket ∷ left) h.under_way in
+    spares_both old mid new (λ id. IsNoneOf id tickets) (λ id. IsNoneOf id (ticket ∷ left)) (λ id. IsNoneOf id left) h.spares
+    (heard_spares mid new ticket left counted.0 polled)
+
 pub over_owned : (old mid new : Core) (grant : GrantValue) (reads now : ReadsValue) (tickets : List ℕ) (ticket : ℕ) (left : List ℕ)
     → Hears old mid reads now tickets (ticket ∷ left) → new ≡ after_poll mid ticket → IsOwned old grant → IsOwned new grant
 over_owned old mid new grant reads now tickets ticket left h polled owned =
@@ -350,7 +369,7 @@ over_by : (old mid after new : Core) (grant : GrantValue) (reads now : ReadsValu
     (site : Site) (plan : Plan) (answers : Answers) → Hears old mid reads now tickets.items (ticket ∷ left) → IsOverFor mid now ticket e
     → after ≡ after_poll mid ticket → new ≡ closed (without after left) grant → TellsReads mid answers now.window.waiting (ticket ∷ left)
     → ((later : Own) → plan later answers ≡ window_plan now.handle None now.window site now.facts later answers)
-    → ReadBy site plan answers after new (whole.Open grant reads tickets) whole.Ended left (Ready (Err e))
+    → ReadBy site plan answers after new (Some grant) whole.Ended left (Ready (Err e))
 over_by old mid after new grant reads now tickets ticket left error.OutOfMemory site plan answers h over polled close tells goes =
     inr (refl, (after, (left, close)))
 over_by old mid after new grant reads now tickets ticket left (error.BackgroundTaskFailure fault) site plan answers h over polled close tells goes =
@@ -360,7 +379,7 @@ over_by old mid after new grant reads now tickets ticket left (error.BackgroundT
     (only_first answers now.window.waiting f.0 f.1 (f.2 ∙ over.0)) in (
       ap (λ (c : Core). c.fault) polled ∙ (poll_fault mid ticket mid.fault (at mid ticket) ∙ over.1),
       unfinished_by (plan [] answers) (window_move now.handle None now.window site now.facts) moves (over.2 site),
-      (after, close),
+      close,
     )
 over_by old mid after new grant reads now tickets ticket left e site plan answers h over polled close tells goes =
     let f = first_told mid answers now.window.waiting ticket left tells in
@@ -371,9 +390,9 @@ over_stage error.OutOfMemory = tt
 over_stage e = refl
 
 pub heard_over : (old mid after new : Core) (grant : GrantValue) (reads now : ReadsValue) (tickets : Deque) (ticket : ℕ) (left : List ℕ)
-    (e : Error) → Hears old mid reads now tickets.items (ticket ∷ left) → IsOverFor mid now ticket e → after ≡ after_poll mid ticket
-    → new ≡ closed (without after left) grant → ReadOn old new (whole.Open grant reads tickets) whole.Ended (Ready (Err e))
-heard_over old mid after new grant reads now tickets ticket left e h over polled close =
+    (e : Error) → IsOwned old grant → Hears old mid reads now tickets.items (ticket ∷ left) → IsOverFor mid now ticket e
+    → after ≡ after_poll mid ticket → new ≡ closed (without after left) grant → ReadOn old new (whole.Open grant reads tickets) whole.Ended (Ready (Err e))
+heard_over old mid after new grant reads now tickets ticket left e owned h over polled close =
     record {
       polled = λ site plan answers here tells.
           (let g = h.goes answers tells in
@@ -397,7 +416,10 @@ heard_over old mid after new grant reads now tickets ticket left e h over polled
           ));
       held = tt;
       over = over_stage e;
-      grants = finished_besides old after new grant left (over_keeps old mid after reads now tickets.items ticket left h polled)
+      spares = finished_spares old after new grant left (Apart grant tickets.items)
+          (spares_also old after (λ id. id ≢ grant.id) (λ id. IsNoneOf id tickets.items) (λ id. IsNoneOf id left)
+          (over_spares old mid after reads now tickets.items ticket left h polled))
+          (over_owned old mid after grant reads now tickets.items ticket left h polled owned)
           (over_tickets old mid after reads now tickets.items ticket left h polled) close;
     }
 
@@ -408,8 +430,15 @@ pub drops_open : (core new : Core) (grant : GrantValue) (reads : ReadsValue) (ti
 drops_open core new grant reads tickets held close =
     record {
       core = close;
-      grants = (dropped_besides core new grant tickets.items (read_tickets core reads.window.waiting tickets.items held.1) close).grants;
+      spares = dropped_spares core new grant tickets.items held.0 (read_tickets core reads.window.waiting tickets.items held.1) close;
     }
+
+pub drops_opening : (old new : Core) (call : CallValue Granting) (facts : Facts) → CancelsAwaited old new call.stage
+    → CancelsRead old new (whole.Opening call facts)
+drops_opening old new call facts cancels = record { core = cancels.core; spares = cancelled_spares old new call.stage cancels }
+
+pub drops_nothing : (core : Core) → CancelsRead core core whole.Ended
+drops_nothing core = record { core = refl; spares = spares_kept core core (λ id. Unit {0}) (keeps_same core) }
 
 -- ---- others leave a read
 
@@ -417,4 +446,4 @@ pub read_still : (old new : Core) (p : Whole) → KeepsHeld old new → IsReadHe
 read_still old new whole.Ended k h = tt
 read_still old new (whole.Opening call facts) k h = (still_under_way granting old new call k h.0, h.1)
 read_still old new (whole.Open grant reads tickets) k h =
-    (k.grants.grants grant.id grant.handle 1 h.0, keeps_reads old new reads.window.waiting tickets.items k h.1)
+    (k.grants.grants grant.id grant.handle 1 h.0, keeps_reads old new reads.window.waiting tickets.items k h.1, h.2)

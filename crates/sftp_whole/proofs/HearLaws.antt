@@ -17,11 +17,12 @@ use Rattle.call_state.specs.Asked.{HoldsTicket, IsReady}
 use Rattle.call_state.specs.Keeping.{KeepsGrants}
 use Rattle.call_state.specs.declared.stage.Stage.TheVariants.{Asked}
 use Rattle.call_state.proofs.Keeping.{grants_both, keeps_same, polled_keeps_grants}
+use Rattle.call_state.proofs.Sparing.{spares_both, spares_kept}
 use Rattle.sftp_fs.proofs.WriteOpens.{ready_polled}
 use Rattle.sftp_whole.specs.Hearing.{Hears}
 use Rattle.sftp_whole.specs.Reads.{ReadsValue}
 use Rattle.sftp_whole.specs.Tickets.{AreUnderWay, IsNoneOf, TellsReads, polled_all}
-use Rattle.sftp_whole.proofs.TicketLaws.{others_under_way, polled_last}
+use Rattle.sftp_whole.proofs.TicketLaws.{heard_spares, others_under_way, polled_last}
 
 pub hears_none : (core : Core) (s : ReadsValue) (tickets : List ℕ) → AreUnderWay core s.window.waiting tickets → IsReady core
     → Hears core core s s tickets tickets
@@ -33,6 +34,7 @@ hears_none core s tickets h ready =
       rest = refl;
       under_way = h;
       ready = ready;
+      spares = spares_kept core core (λ id. IsNoneOf id tickets) (keeps_same core);
       grants = (keeps_same core).grants;
       goes = λ answers tells. (tells, λ site later. refl);
     }
@@ -87,6 +89,8 @@ hears_more old core new s now next tickets ticket left y h came is polled =
           (subst (λ (l : List ReadAt). AreUnderWay (after_poll core ticket) l left) (sym waits)
           (others_under_way core ticket rest left held.1 held.2));
       ready = subst IsReady (sym polled) (ready_polled core (Asked ticket) h.ready);
+      spares = spares_both old core new (λ id. IsNoneOf id tickets) (λ id. IsNoneOf id (ticket ∷ left)) (λ id. IsNoneOf id left) h.spares
+          (heard_spares core new ticket left held.0.counted polled);
       grants = grants_both old core new h.grants
           (subst (λ (c : Core). KeepsGrants core c) (sym polled) (polled_keeps_grants core ticket held.0.counted));
       goes = λ answers tells.

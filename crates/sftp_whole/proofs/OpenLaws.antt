@@ -30,32 +30,35 @@ use Rattle.call_state.specs.Calls.{
   CallValue,
   IsHeldAt,
   IsLeft,
+  IsNoneOfCall,
   IsOver,
   IsUnderWay,
   Polled,
   Started,
   Stepped,
-  Tells,
+  TellsReply,
   TellsAt,
   cancelled,
+  grant_brought,
   is_ended,
   polled_core,
 }
-use Rattle.call_state.specs.Keeping.{KeepsGrants}
-use Rattle.call_state.proofs.Keeping.{grants_both}
+use Rattle.call_state.proofs.Grants.{ended_brings}
+use Rattle.call_state.proofs.Sparing.{given_spares, spares_as, spares_both, spares_from, spares_same, stepped_spares}
 use Rattle.sftp_file.specs.Files.{facts_of}
 use Rattle.sftp_fs.specs.Directories.{WithHandle, granted_left}
 use Rattle.sftp_fs.specs.Grants.{granting}
+use Rattle.sftp_fs.specs.WholeWrites.{closed_if}
 use Rattle.sftp_fs.specs.PathStarts.{AsksFirst, FirstAsks}
 use Rattle.sftp_fs.specs.declared.granting.Granting.{Granting}
 use Rattle.sftp_fs.proofs.CallSteps.{ended_leaves}
-use Rattle.sftp_fs.proofs.WriteSteps.{grants_same}
 use Rattle.sftp_fs.proofs.WriteOpens.{granted_goes, granted_same, left_later, left_now, still}
 use Rattle.sftp_whole.specs.Reads.{ReadsValue, no_reads}
+use Rattle.sftp_whole.specs.Tickets.{IsNoneOf}
 use Rattle.sftp_whole.specs.WholeReads.{
   Decided,
   IsReadOver,
-  KeepsForOthers,
+  IsNoneOfRead,
   ReadAnswer,
   ReadBy,
   ReadOn,
@@ -99,6 +102,7 @@ read_asked path cwd named facts m old new call is fixed fits h =
           (fs_read_next path None site (facts_of old)) answers (opens_first path cwd named m old site answers is here));
       held = (h.under_way, fits);
       keeps = h.keeps;
+      spares = h.spares;
     }
   where
     asks_of : (site : Site) (answers : Answers)
@@ -120,6 +124,7 @@ read_refused path cwd named m old new e is h =
           (fs_read_next path None site (facts_of old)) answers (opens_first path cwd named m old site answers is here));
       held = tt;
       keeps = h.keeps;
+      spares = tt;
     }
   where
     refused_as : (e : Error) (site : Site) (answers : Answers)
@@ -152,8 +157,8 @@ still_same core m (stage.Came told) answers over held tells none unfailed = refl
 open_wrote : (facts : Facts) (old new : Core) (call next : CallValue Granting) (told : Opened)
     (site : Site) (plan : Plan) (answers : Answers) → IsUnderWay granting old call → Stepped granting old new call next told
     → is_ended next.stage ≡ false → IsOver next.stage told → IsLeft granting (reads_by_window site facts answers) plan answers call
-    → Tells granting old call answers
-    → ReadBy site plan answers (polled_core old call.stage) new (whole.Opening call facts) (whole.Opening next facts) [] (unopened told)
+    → TellsReply granting old call answers
+    → ReadBy site plan answers (polled_core old call.stage) new (grant_brought old call.stage) (whole.Opening next facts) [] (unopened told)
 open_wrote facts old new call next Pending site plan answers held h on over left tells =
     let s = still site answers old new call next held tells h in
     let w = reads_by_window site facts answers in
@@ -169,7 +174,7 @@ open_wrote facts old new call next (Ready (Err error.OutOfMemory)) site plan ans
     went (h.polled (reads_by_window site facts answers) plan answers left tells)
   where
     went : Polled granting (reads_by_window site facts answers) plan answers old new call next (Ready (Err error.OutOfMemory))
-        → ReadBy site plan answers (polled_core old call.stage) new (whole.Opening call facts) (whole.Opening next facts) []
+        → ReadBy site plan answers (polled_core old call.stage) new (grant_brought old call.stage) (whole.Opening next facts) []
         (Ready (Err error.OutOfMemory))
     went (inl w) = absurd (let clash : ◌≡◌ {A = Opened} (Ready (Err error.OutOfMemory)) Pending = w.pending in cc)
     went (inr w) = inl (w.0, w.1, refl)
@@ -202,24 +207,26 @@ open_on facts old new call next told held fits h on =
       );
       held = (record { over = on; held = h.held }, fits);
       over = open_over next.stage next facts told on h.over;
-      grants = h.grants;
+      spares = stepped_spares granting old new call next told h;
     }
 
 -- ---- refused by the server or by a fault
 
 open_failed : (facts : Facts) (old mid : Core) (call next : CallValue Granting) (e : Error)
     (site : Site) (plan : Plan) (answers : Answers) → is_ended next.stage ≡ true → IsOver {V = GrantValue} next.stage (Ready (Err e))
+    → grant_brought old call.stage ≡ None
     → Polled {V = GrantValue} granting (reads_by_window site facts answers) plan answers old mid call next (Ready (Err e))
-    → ReadBy site plan answers (polled_core old call.stage) mid (whole.Opening call facts) whole.Ended [] (Ready (Err e))
-open_failed facts old mid call next error.OutOfMemory site plan answers ended over h =
+    → ReadBy site plan answers (polled_core old call.stage) mid (grant_brought old call.stage) whole.Ended [] (Ready (Err e))
+open_failed facts old mid call next error.OutOfMemory site plan answers ended over none h =
     absurd (let clash : true ≡ false = sym ended ∙ over in cc)
-open_failed facts old mid call next (error.BackgroundTaskFailure fault) site plan answers ended over (inl h) =
+open_failed facts old mid call next (error.BackgroundTaskFailure fault) site plan answers ended over none (inl h) =
     absurd (let clash : ◌≡◌ {A = Opened} (Ready (Err (error.BackgroundTaskFailure fault))) Pending = h.pending in cc)
-open_failed facts old mid call next (error.BackgroundTaskFailure fault) site plan answers ended over (inr h) =
-    (h.0, h.2, (mid, inl refl))
-open_failed facts old mid call next e site plan answers ended over (inl h) =
+open_failed facts old mid call next (error.BackgroundTaskFailure fault) site plan answers ended over none (inr h) =
+    (h.0, h.2, h.3 ∙ sym (ap (closed_if (polled_core old call.stage)) none))
+open_failed facts old mid call next e site plan answers ended over none (inl h) =
     absurd (let clash : ◌≡◌ {A = Opened} (Ready (Err e)) Pending = h.pending in cc)
-open_failed facts old mid call next e site plan answers ended over (inr h) = (h.0, inl h.2)
+open_failed facts old mid call next e site plan answers ended over none (inr h) =
+    (h.0, h.2 ∙ sym (ap (closed_if (polled_core old call.stage)) none))
 
 failed_over : (s : Stage) (e : Error) → is_ended s ≡ true → IsOver {V = GrantValue} s (Ready (Err e)) → IsReadOver whole.Ended (Ready (Err e))
 failed_over s error.OutOfMemory ended over = tt
@@ -237,38 +244,20 @@ open_end facts old mid new call next e h ended left =
           [],
           (
             (refl, refl),
-            subst (λ (x : Core). ReadBy site plan answers (polled_core old call.stage) x (whole.Opening call facts) whole.Ended [] (Ready (Err e))) same
-                (open_failed facts old mid call next e site plan answers ended h.over
+            subst (λ (x : Core). ReadBy site plan answers (polled_core old call.stage) x (grant_brought old call.stage) whole.Ended [] (Ready (Err e)))
+                same (open_failed facts old mid call next e site plan answers ended h.over (sym h.brings ∙ ended_brings mid next.stage ended)
                 (h.polled (reads_by_window site facts answers) plan answers here tells)),
           ),
         ),
       );
       held = tt;
       over = failed_over next.stage e ended h.over;
-      grants = tt;
+      spares = spares_same old mid new (IsNoneOfCall call.stage) (λ id. Unit {0}) (sym same)
+          (spares_as old mid (IsNoneOfCall call.stage) (IsNoneOfCall next.stage) (λ id. Unit {0}) (λ id x. tt)
+          (stepped_spares granting old mid call next (Ready (Err e)) h));
     }
 
 -- ---- behind the HANDLE
-
-read_opened : (site : Site) (plan : Plan) (answers : Answers) (mid new : Core) (call : CallValue Granting) (facts : Facts) (grant : GrantValue)
-    (reads : ReadsValue) (tickets : Deque) (q : Whole) (left : List ℕ) (result : ReadAnswer)
-    → ReadBy site plan answers mid new (whole.Open grant reads tickets) q left result
-    → ReadBy site plan answers mid new (whole.Opening call facts) q left result
-read_opened site plan answers mid new call facts grant reads tickets q left Pending h = h
-read_opened site plan answers mid new call facts grant reads tickets q left (Ready (Err error.OutOfMemory)) (inl h) = inl h
-read_opened site plan answers mid new call facts grant reads tickets q left (Ready (Err error.OutOfMemory)) (inr h) =
-    inr (h.0, (h.1.0, (h.1.1.0, inr (grant, h.1.1.1))))
-read_opened site plan answers mid new call facts grant reads tickets q left (Ready (Err (error.BackgroundTaskFailure fault))) h =
-    (h.0, h.1, (h.2.0, inr (grant, h.2.1)))
-read_opened site plan answers mid new call facts grant reads tickets q left (Ready (Ok out)) h = (h.0, inr (grant, h.1))
-read_opened site plan answers mid new call facts grant reads tickets q left (Ready (Err e)) h = (h.0, inr (grant, h.1))
-
-others_behind : (old late new : Core) (call : CallValue Granting) (facts : Facts) (grant : GrantValue) (reads : ReadsValue) (tickets : Deque)
-    (q : Whole) → KeepsGrants old late → KeepsForOthers late new (whole.Open grant reads tickets) q
-    → KeepsForOthers old new (whole.Opening call facts) q
-others_behind old late new call facts grant reads tickets whole.Ended k h = tt
-others_behind old late new call facts grant reads tickets (whole.Opening other more) k h = grants_both old late new k h
-others_behind old late new call facts grant reads tickets (whole.Open other more left) k h = grants_both old late new k h
 
 pub open_begun : (facts : Facts) (old mid late new : Core) (call next : CallValue Granting) (grant : GrantValue) (reads : ReadsValue)
     (tickets : Deque) (q : Whole) (result : ReadAnswer) → IsUnderWay granting old call
@@ -296,12 +285,16 @@ open_begun facts old mid late new call next grant reads tickets q result held h 
               tickets.items,
               (
                 (same, none),
-                read_opened site plan answers late new call facts grant reads tickets q tickets.items result (d.polled site plan answers stands untold),
+                subst (λ (o : Option GrantValue). ReadBy site plan answers late new o q tickets.items result) h.brings
+                    (d.polled site plan answers stands untold),
               ),
             ),
           ));
       held = d.held;
       over = d.over;
-      grants = others_behind old late new call facts grant reads tickets q
-          (grants_both old mid late h.grants (grants_same mid late (left ∙ ended_leaves mid next.stage ended))) d.grants;
+      spares = spares_both old late new (IsNoneOfCall call.stage) (λ id. id ≢ grant.id) (IsNoneOfRead q)
+          (spares_same old mid late (IsNoneOfCall call.stage) (λ id. id ≢ grant.id) (left ∙ ended_leaves mid next.stage ended)
+          (given_spares granting old mid call next grant grant refl h))
+          (spares_from late new (λ id. id ≢ grant.id) (λ id. (id ≢ grant.id) × IsNoneOf id tickets.items) (IsNoneOfRead q)
+          (λ id apart. (apart, subst (λ (l : List ℕ). IsNoneOf id l) (sym none) tt)) d.spares);
     }

@@ -19,8 +19,9 @@ use Rattle.call_state.proofs.Polling.{came_grant, came_reply, failed_by, missed_
 use Rattle.sftp_core.proofs.Elsewhere.{abandon_elsewhere}
 use Rattle.plan_window.specs.declared.window.ReadAt.{ReadAt}
 use Rattle.call_state.specs.Asked.{HoldsTicket}
-use Rattle.call_state.specs.Keeping.{KeepsHeld, KeepsGrants}
+use Rattle.call_state.specs.Keeping.{KeepsHeld, KeepsGrants, SparesOthers}
 use Rattle.call_state.proofs.Keeping.{cancelled_keeps_grants, grants_both, keeps_same, polled_on}
+use Rattle.call_state.proofs.Sparing.{abandoned_spares, polled_spares, spares_kept}
 use Rattle.sftp_whole.specs.declared.tickets.Answer.TheVariants as answer
 use Rattle.sftp_whole.specs.Tickets.{AreTickets, AreUnderWay, IsAnswer, IsNoneOf, polled_all, without}
 
@@ -65,6 +66,30 @@ without_keeps core [] h = (keeps_same core).grants
 without_keeps core (ticket ∷ later) h =
     grants_both core (abandoned core ticket) (without core (ticket ∷ later)) (cancelled_keeps_grants core ticket h.0)
     (without_keeps (abandoned core ticket) later (others_counted core ticket later h.1 h.2))
+
+-- and what others have, too
+pub heard_spares : (core new : Core) (ticket : ℕ) (left : List ℕ) → IsTrue (is_ticket (at core ticket)) → new ≡ after_poll core ticket
+    → SparesOthers core new (λ id. IsNoneOf id (ticket ∷ left)) (λ id. IsNoneOf id left)
+heard_spares core new ticket left counted polled =
+    let x = polled_spares core ticket counted in
+    subst (λ (c : Core). SparesOthers core c (λ id. IsNoneOf id (ticket ∷ left)) (λ id. IsNoneOf id left)) (sym polled)
+    (record {
+      grants = λ id handle users theirs here. ((x.grants id handle users theirs.0 here).0, theirs.1);
+      tickets = λ other kind theirs held. ((x.tickets other kind theirs.0 held).0, theirs.1);
+      opened = x.opened;
+    })
+
+pub without_spares : (core : Core) (tickets : List ℕ) → AreTickets core tickets
+    → SparesOthers core (without core tickets) (λ id. IsNoneOf id tickets) (λ id. Unit {0})
+without_spares core [] h = spares_kept core core (λ id. Unit {0}) (keeps_same core)
+without_spares core (ticket ∷ later) h =
+    let x = abandoned_spares core ticket h.0 in
+    let rest = without_spares (abandoned core ticket) later (others_counted core ticket later h.1 h.2) in
+    record {
+      grants = λ id handle users theirs here. rest.grants id handle users theirs.1 (x.grants id handle users theirs.0 here).0;
+      tickets = λ other kind theirs held. rest.tickets other kind theirs.1 (x.tickets other kind theirs.0 held).0;
+      opened = λ o. rest.opened (x.opened o);
+    }
 
 -- ---- READs under way
 

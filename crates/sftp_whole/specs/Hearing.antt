@@ -9,9 +9,9 @@ use Rattle.plan_window.specs.Windows.{answered_more, window_move, window_plan}
 use Rattle.sftp_core.specs.Core.{Core, after_poll, at, reply_in}
 use Rattle.call_state.specs.Asked.{IsReady}
 use Rattle.call_state.specs.Calls.{IsUnfinished}
-use Rattle.call_state.specs.Keeping.{KeepsGrants}
+use Rattle.call_state.specs.Keeping.{KeepsGrants, SparesOthers}
 use Rattle.sftp_whole.specs.Reads.{EndsBy, ReadsValue}
-use Rattle.sftp_whole.specs.Tickets.{AreUnderWay, TellsReads, polled_all}
+use Rattle.sftp_whole.specs.Tickets.{AreUnderWay, IsNoneOf, TellsReads, polled_all}
 use Rattle.sftp_whole.specs.declared.hearing.First.{First}
 use Rattle.sftp_whole.specs.declared.hearing.First.TheVariants as first
 use Rattle.sftp_whole.specs.declared.hearing.Heard.{Heard}
@@ -47,6 +47,7 @@ pub record Hears (old new : Core) (s now : ReadsValue) (tickets left : List ℕ)
   pub rest : now ≡ record s { window = now.window }
   pub under_way : AreUnderWay new now.window.waiting left
   pub ready : IsReady new
+  pub spares : SparesOthers old new (λ id. IsNoneOf id tickets) (λ id. IsNoneOf id left)
   pub grants : KeepsGrants old new
   pub goes : (answers : Answers) → TellsReads old answers s.window.waiting tickets
       → TellsReads new answers now.window.waiting left

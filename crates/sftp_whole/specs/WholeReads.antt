@@ -1,6 +1,7 @@
 -- Whole reads of a path: an OPEN, READs by a window, and the CLOSE.
 use Rattle.std.specs.Prelude.{
   ◌≡◌,
+  ◌≢◌,
   ◌⊎◌,
   ◌+◌,
   ℕ,
@@ -32,30 +33,30 @@ use Rattle.plan_model.specs.GoodMoves.{FitsFacts}
 use Rattle.plan_model.specs.Moves.{Answers, Own, Plan}
 use Rattle.plan_model.specs.WindowPlans.{fs_read_next}
 use Rattle.plan_window.specs.Windows.{empty_window, window_move, window_plan}
-use Rattle.sftp_core.specs.Core.{Core, at}
+use Rattle.sftp_core.specs.Core.{Core}
 use Rattle.sftp_core.specs.Grant.{GrantValue}
-use Rattle.sftp_core.specs.declared.place.Place.TheVariants.{Granted}
 use Rattle.call_state.specs.declared.asking.Asking.TheVariants.{Whole as WholeRequest}
 use Rattle.call_state.specs.declared.poll.Poll.{Poll}
 use Rattle.call_state.specs.declared.poll.Poll.TheVariants.{Pending, Ready}
 use Rattle.call_state.specs.Asked.{IsReady, Submitted}
 use Rattle.call_state.specs.Calls.{
   AsksAndAwaits,
-  IsGrantOf,
   IsLeft,
+  IsNoneOfCall,
   IsUnderWay,
   IsUnfinished,
-  Tells,
+  TellsReply,
   cancelled,
+  grant_brought,
   polled_core,
 }
-use Rattle.call_state.specs.Keeping.{KeepsHeld, KeepsGrants}
+use Rattle.call_state.specs.Keeping.{KeepsHeld, SparesOthers}
 use Rattle.sftp_file.specs.Files.{facts_of}
 use Rattle.sftp_fs.specs.Directories.{WithHandle}
 use Rattle.sftp_fs.specs.Grants.{granting}
-use Rattle.sftp_fs.specs.WholeWrites.{IsOwned, KeepsBesides, closed}
+use Rattle.sftp_fs.specs.WholeWrites.{IsOwned, closed, closed_if}
 use Rattle.sftp_whole.specs.Reads.{ReadsValue}
-use Rattle.sftp_whole.specs.Tickets.{AreUnderWay, TellsReads, polled_all, without}
+use Rattle.sftp_whole.specs.Tickets.{AreUnderWay, IsNoneOf, TellsReads, polled_all, without}
 use Rattle.sftp_whole.specs.declared.fs_read.Whole.{Whole}
 use Rattle.sftp_whole.specs.declared.fs_read.Whole.TheVariants as whole
 
@@ -85,16 +86,29 @@ IsReadLeft site plan answers (whole.Open grant reads tickets) =
 
 -- the replies that are awaited are those that the core has
 abbrev pub ReadTells : Core → Answers → Whole → Type 0
-ReadTells core answers (whole.Opening call facts) = Tells granting core call answers
+ReadTells core answers (whole.Opening call facts) = TellsReply granting core call answers
 ReadTells core answers (whole.Open grant reads tickets) = TellsReads core answers reads.window.waiting tickets.items
 ReadTells core answers whole.Ended = Unit {0}
 
--- the core counts the grant, and can go on with what is awaited
+-- the core counts the grant, whose handle the READs bear, and can go on with what is awaited
 abbrev pub IsReadHeld : Core → Whole → Type 0
 IsReadHeld core whole.Ended = Unit {0}
 IsReadHeld core (whole.Opening call facts) = IsUnderWay granting core call × FitsFacts facts
 IsReadHeld core (whole.Open grant reads tickets) = IsOwned core grant
     × AreUnderWay core reads.window.waiting tickets.items
+    × (reads.handle ≡ grant.handle)
+
+-- the number is none of the read's: not of its file, nor of what it awaits
+abbrev pub IsNoneOfRead : Whole → ℕ → Type 0
+IsNoneOfRead (whole.Opening call facts) id = IsNoneOfCall call.stage id
+IsNoneOfRead (whole.Open grant reads tickets) id = (id ≢ grant.id) × IsNoneOf id tickets.items
+IsNoneOfRead whole.Ended id = Unit {0}
+
+-- the grant of the read: that of its file, or the one that the reply to its OPEN brought
+abbrev pub read_grant : Core → Whole → Option GrantValue
+read_grant core (whole.Opening call facts) = grant_brought core call.stage
+read_grant core (whole.Open grant reads tickets) = Some grant
+read_grant core whole.Ended = None
 
 -- ---- a start
 
@@ -113,12 +127,14 @@ ReadStarted site plan answers old new (Err (error.BackgroundTaskFailure fault)) 
 ReadStarted site plan answers old new (Err e) = (plan [] answers ≡ Done (outcome.Refused e) site) × (new ≡ old)
 
 -- A start did the first move of the plan of a whole read, in each lane with this working directory and whatever the
--- replies to come; what it answered may be polled or given up, and the core holds what it held.
+-- replies to come; what it answered may be polled or given up. The core holds what it held, and no number that was in
+-- use is the read's.
 pub record ReadsFrom (path cwd : List ℕ) (old new : Core) (result : Result FsReadValue Error) : Type 0 where
   pub starts : (site : Site) (answers : Answers) → site.directory ≡ cwd
       → ReadStarted site (fs_read_next path None site (facts_of old)) answers old new result
   pub held : IfOk result (λ q. IsReadHeld new q.stage)
   pub keeps : KeepsHeld old new
+  pub spares : IfOk result (λ q. SparesOthers old new (λ id. Unit {0}) (IsNoneOfRead q.stage))
 
 -- ---- a poll
 
@@ -133,12 +149,9 @@ HeardAll old mid (whole.Open grant reads tickets) left =
     (done : List ℕ) × ((tickets.items ≡ done ++ left) × (mid ≡ polled_all old done))
 HeardAll old mid whole.Ended left = ⊥
 
--- what is under way was dropped, and the grant of the read closed, where there is one
-abbrev pub ClosesRead : Core → Core → Whole → List ℕ → Type 0
-ClosesRead core new (whole.Opening call facts) left = (new ≡ core)
-    ⊎ ((grant : GrantValue) × (new ≡ closed (without core left) grant))
-ClosesRead core new (whole.Open grant reads tickets) left = new ≡ closed (without core left) grant
-ClosesRead core new whole.Ended left = ⊥
+-- what is under way was dropped, and the grant closed, where there is one
+abbrev pub ClosesRead : Core → Core → Option GrantValue → List ℕ → Type 0
+ClosesRead core new grant left = new ≡ closed_if (without core left) grant
 
 -- a further READ was submitted, and its reply is awaited
 pub record AsksRead (site : Site) (plan : Plan) (answers : Answers) (old new : Core) (q : Whole) : Type 0 where
@@ -157,9 +170,9 @@ pub record StillReads (site : Site) (plan : Plan) (answers : Answers) (old new :
   pub left : IsReadLeft site plan answers q
 
 -- there was no memory: the read may be polled again, or it is over and its file closed
-abbrev pub RunsShort : Site → Plan → Answers → Core → Core → Whole → Whole → List ℕ → Type 0
-RunsShort site plan answers mid new p q left = (IsReadLeft site plan answers q × (new ≡ mid) × (is_over q ≡ false))
-    ⊎ ((is_over q ≡ true) × ((core : Core) × ((tickets : List ℕ) × ClosesRead core new p tickets)))
+abbrev pub RunsShort : Site → Plan → Answers → Core → Core → Option GrantValue → Whole → Type 0
+RunsShort site plan answers mid new grant q = (IsReadLeft site plan answers q × (new ≡ mid) × (is_over q ≡ false))
+    ⊎ ((is_over q ≡ true) × ((core : Core) × ((tickets : List ℕ) × ClosesRead core new grant tickets)))
 
 -- how the plan ends
 abbrev pub read_outcome : Result Filled Error → Outcome
@@ -168,15 +181,18 @@ read_outcome (Err e) = outcome.Refused e
 
 -- What a poll did, once the replies that came were taken, is the next move of the plan: it waits, or asks for a READ;
 -- or it is over, by what the plan gives, or by a kept fault where the plan is not at its end; or there was no memory.
-abbrev pub ReadBy : Site → Plan → Answers → Core → Core → Whole → Whole → List ℕ → ReadAnswer → Type 0
-ReadBy site plan answers mid new p q left Pending = StillReads site plan answers mid new q
+-- The grant is that of the read.
+abbrev pub ReadBy : Site → Plan → Answers → Core → Core → Option GrantValue → Whole → List ℕ → ReadAnswer → Type 0
+ReadBy site plan answers mid new grant q left Pending = StillReads site plan answers mid new q
     ⊎ AsksRead site plan answers mid new q
-ReadBy site plan answers mid new p q left (Ready (Err error.OutOfMemory)) = RunsShort site plan answers mid new p q left
-ReadBy site plan answers mid new p q left (Ready (Err (error.BackgroundTaskFailure fault))) = (mid.fault ≡ Some fault)
+ReadBy site plan answers mid new grant q left (Ready (Err error.OutOfMemory)) =
+    RunsShort site plan answers mid new grant q
+ReadBy site plan answers mid new grant q left (Ready (Err (error.BackgroundTaskFailure fault))) =
+    (mid.fault ≡ Some fault)
     × IsUnfinished (plan [] answers)
-    × ((core : Core) × ClosesRead core new p left)
-ReadBy site plan answers mid new p q left (Ready value) = (plan [] answers ≡ Done (read_outcome value) site)
-    × ClosesRead mid new p left
+    × ClosesRead mid new grant left
+ReadBy site plan answers mid new grant q left (Ready value) = (plan [] answers ≡ Done (read_outcome value) site)
+    × ClosesRead mid new grant left
 
 -- no reply to a READ under way was told, so that the plan does what the window does
 abbrev pub IsUntold : Site → Plan → Answers → Whole → Type 0
@@ -190,32 +206,24 @@ IsReadOver stage Pending = is_over stage ≡ false
 IsReadOver stage (Ready (Err error.OutOfMemory)) = Unit {0}
 IsReadOver stage (Ready value) = is_over stage ≡ true
 
--- each grant stays; as the read ends, each but its own
-abbrev pub KeepsGrantsBut : Core → Core → Whole → Type 0
-KeepsGrantsBut old new (whole.Open grant reads tickets) = KeepsBesides old new grant.id
-KeepsGrantsBut old new other = Unit {0}
-
-abbrev pub KeepsForOthers : Core → Core → Whole → Whole → Type 0
-KeepsForOthers old new p whole.Ended = KeepsGrantsBut old new p
-KeepsForOthers old new p q = KeepsGrants old new
-
 -- A poll did the next move of each plan that the read is what is left of, whatever its replies to come; the read may be
--- polled on or given up.
+-- polled on or given up. What others have stays, and is theirs still.
 pub record ReadOn (old new : Core) (p q : Whole) (result : ReadAnswer) : Type 0 where
   pub polled : (site : Site) (plan : Plan) (answers : Answers) → IsReadLeft site plan answers p
       → ReadTells old answers p
-      → (mid : Core) × ((left : List ℕ) × (HeardAll old mid p left × ReadBy site plan answers mid new p q left result))
+      → (mid : Core) × ((left : List ℕ) × (HeardAll old mid p left
+      × ReadBy site plan answers mid new (read_grant old p) q left result))
   pub held : IsReadHeld new q
   pub over : IsReadOver q result
-  pub grants : KeepsForOthers old new p q
+  pub spares : SparesOthers old new (IsNoneOfRead p) (IsNoneOfRead q)
 
 -- What a window did, where nothing more came: the next move of each plan that is left by it.
 pub record Decided (old new : Core) (p q : Whole) (left : List ℕ) (result : ReadAnswer) : Type 0 where
   pub polled : (site : Site) (plan : Plan) (answers : Answers) → IsReadLeft site plan answers p
-      → IsUntold site plan answers p → ReadBy site plan answers old new p q left result
+      → IsUntold site plan answers p → ReadBy site plan answers old new (read_grant old p) q left result
   pub held : IsReadHeld new q
   pub over : IsReadOver q result
-  pub grants : KeepsForOthers old new p q
+  pub spares : SparesOthers old new (IsNoneOfRead p) (IsNoneOfRead q)
 
 -- an answer of the OPEN that leaves it under way: none yet, or want of memory
 abbrev pub IsUnopened : Poll (Result GrantValue Error) → Type 0
@@ -243,14 +251,7 @@ read_dropped core whole.Ended = core
 read_dropped core (whole.Opening call facts) = cancelled core call.stage
 read_dropped core (whole.Open grant reads tickets) = closed (without core tickets.items) grant
 
--- the grant of a read is this: that of its file, or one that came and was not gone on with
-abbrev pub IsGrantOfRead : Whole → ℕ → Type 0
-IsGrantOfRead (whole.Opening call facts) id = IsGrantOf call.stage id
-IsGrantOfRead (whole.Open grant reads tickets) id = grant.id ≡ id
-IsGrantOfRead whole.Ended id = ⊥
-
--- what a cancel did; every other grant stays
+-- what a cancel did; what others have stays
 pub record CancelsRead (old new : Core) (p : Whole) : Type 0 where
   pub core : new ≡ read_dropped old p
-  pub grants : (id : ℕ) (handle : List ℕ) (users : ℕ) → (IsGrantOfRead p id → ⊥)
-      → at old id ≡ Some (Granted handle users) → at new id ≡ Some (Granted handle users)
+  pub spares : SparesOthers old new (IsNoneOfRead p) (λ id. Unit {0})

@@ -23,7 +23,7 @@ use crate::reads::Reads;
 use crate::tickets::{Unasked, abandon_all, submit_read};
 use bitflags::Flags;
 use bytes::BytesMut;
-use call_state::Call;
+use call_state::PendingCall;
 use plan_window::WindowMove;
 use sftp_core::{Core, Ended, Grant, Ticket};
 use sftp_file::Poll;
@@ -42,7 +42,7 @@ pub enum Whole {
     /// It has answered.
     Ended,
     /// The OPEN is under way.
-    Opening(Call<Granting>, Facts),
+    Opening(PendingCall<Granting>, Facts),
     /// The file is open, and these READs were asked; the tickets are those of the READs under way, in order.
     Open(Grant, Reads, VecDeque<Ticket>),
 }
@@ -211,7 +211,7 @@ fn unopened(told: Poll<Result<Grant, Error>>) -> Poll<Result<BytesMut, Error>>
 /// Polls the OPEN, and asks for the first READ behind its HANDLE.
 fn open(
     core: &mut Core,
-    call: Call<Granting>,
+    call: PendingCall<Granting>,
     facts: Facts,
 ) -> (Poll<Result<BytesMut, Error>>, Whole)
     requires under_way { IsUnderWay granting core.old call }

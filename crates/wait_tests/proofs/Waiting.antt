@@ -11,6 +11,10 @@ use Rattle.sftp_file.specs.Files.{FileValue}
 use Rattle.sftp_file.specs.Gathers.{ReadAllValue, reading_all, with_buffer}
 use Rattle.sftp_file.specs.declared.gathering.ReadAllError.{ReadAllError}
 use Rattle.sftp_file.proofs.GatherLaws.{held_with}
+use Rattle.sftp_fs.specs.WholeWrites.{WriteOpens, is_over as write_over}
+use Rattle.sftp_fs.specs.declared.fs_write.Writing.{Writing}
+use Rattle.sftp_fs.specs.declared.fs_write.Writing.TheVariants as writing
+use Rattle.sftp_model.specs.declared.slot.Facts.{Facts}
 use Rattle.sftp_whole.specs.declared.fs_read.Whole.{Whole}
 use Rattle.sftp_whole.specs.declared.fs_read.Whole.TheVariants as whole
 use Rattle.sftp_whole.specs.WholeReads.{ReadOpens, is_over}
@@ -23,6 +27,14 @@ pub not_over : (site : Site) (plan : Plan) (answers : Answers) (old new : Core) 
 not_over site plan answers old new (whole.Opening call facts) h = refl
 not_over site plan answers old new (whole.Open grant reads tickets) h = absurd h
 not_over site plan answers old new whole.Ended h = absurd h
+
+-- nor has a whole write
+pub write_not_over : (site : Site) (plan : Plan) (answers : Answers) (old new : Core) (content : List ℕ) (facts : Facts)
+    (stage : Writing) → WriteOpens site plan answers old new content facts stage → write_over stage ≡ false
+write_not_over site plan answers old new content facts (writing.Opening call more) h = refl
+write_not_over site plan answers old new content facts (writing.Opened grant more) h = absurd h
+write_not_over site plan answers old new content facts (writing.Parts grant call) h = absurd h
+write_not_over site plan answers old new content facts writing.Ended h = absurd h
 
 -- a read of so many bytes that was waited for may be given up
 pub waited_held : {L S : Type 0} (state : L → LinkView S) (old new : SftpValue L) (p q : CallValue ReadAllValue)

@@ -13,3 +13,5 @@ mod offers;
 mod script;
 #[cfg(test)]
 mod waits;
+#[cfg(test)]
+mod writes;

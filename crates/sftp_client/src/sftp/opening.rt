@@ -1,7 +1,7 @@
 // The opening of a session and its end.
 ghost use Rattle.std.specs.Prelude.{◌≡◌, ◌<◌, ◌-◌, ◌^◌, None, IsSome};
 ghost use Rattle.sftp_core.specs.Info.{info_of};
-ghost use Rattle.sftp_client.specs.Rounds.{ClosesSession, Drains, ExchangeEnds, OpenEnds, Opens, starting};
+ghost use Rattle.sftp_client.specs.Rounds.{ClosesSession, Drains, ExchangeEnds, OpenEnds, OpensSftp, starting};
 
 use super::Sftp;
 use crate::incoming::Incoming;
@@ -17,7 +17,7 @@ impl<L: Link> Sftp<L> {
     /// Some then. An error hands the link back, as far as it was used.
     pub fn new(alloc: Global, link: L, options: &SftpOptions) -> Result<Sftp<L>, (Error, L)>
         requires { (L.LinkState.state link).faults < 2 ^ 64 - 1 }
-        ensures { Opens L.LinkState.state link options.now result }
+        ensures { OpensSftp L.LinkState.state link options.now result }
     {
         let Ok(core) = Core::new(alloc, options) else {
             return Err((Error::OutOfMemory, link));

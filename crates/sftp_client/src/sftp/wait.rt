@@ -5,7 +5,7 @@ ghost use Rattle.call_state.specs.Calls.{IsUnderWay};
 ghost use Rattle.sftp_client.specs.Waits.{HasFinished, HasFinishedOn, HasWaited, HasWaitedOn, MayWait, MayWaitOn, PolledIn, RoundEnds};
 
 use super::Sftp;
-use call_state::{Alone, Call, PlanRunner, Poll};
+use call_state::{Alone, PendingCall, PlanRunner, Poll};
 use sftp_core::MAX_IDS;
 use sftp_file::{File, OnFile};
 use sftp_link::Link;
@@ -18,7 +18,7 @@ impl<L: Link> Sftp<L> {
     /// The errors of the call are its poll's, those of a round are `flush`'s and `take`'s; after one of a round the
     /// call has not ended, and is to be given up. `OutOfMemory` comes also where 2147483648 ids are in use: the call
     /// may be run on then.
-    pub fn wait<M: Alone>(&mut self, call: &mut Call<M>) -> Result<M::Value, Error>
+    pub fn wait<M: Alone>(&mut self, call: &mut PendingCall<M>) -> Result<M::Value, Error>
         requires may { MayWait M.PlanRunner.meaning self.old.core call.old }
         requires count { (L.LinkState.state self.old.link).faults < 2 ^ 64 - 1 }
         ensures { HasWaited M.PlanRunner.meaning L.LinkState.state self.old self.new call.old call.new result }
@@ -30,7 +30,7 @@ impl<L: Link> Sftp<L> {
     /// stands where the start or the last poll left it; it stands where the call has come then, after an error too.
     pub fn wait_on<M: OnFile>(
         &mut self,
-        call: &mut Call<M>,
+        call: &mut PendingCall<M>,
         file: &mut File,
     ) -> Result<M::Value, Error>
         requires may { MayWaitOn M.PlanRunner.meaning M.file self.old.core call.old file.old }
@@ -44,7 +44,7 @@ impl<L: Link> Sftp<L> {
 
     /// Runs a call to its end, and gives its answer. After an error nothing is left of the call: a reply that still
     /// comes is dropped, and a handle that comes is closed. To go on after `OutOfMemory`, use `wait`.
-    pub fn finish<M: Alone>(&mut self, call: Call<M>) -> Result<M::Value, Error>
+    pub fn finish<M: Alone>(&mut self, call: PendingCall<M>) -> Result<M::Value, Error>
         requires may { MayWait M.PlanRunner.meaning self.old.core call }
         requires count { (L.LinkState.state self.old.link).faults < 2 ^ 64 - 1 }
         ensures { HasFinished M.PlanRunner.meaning L.LinkState.state self.old self.new call result }
@@ -59,7 +59,7 @@ impl<L: Link> Sftp<L> {
     /// and stands where the call has come then, after an error too.
     pub fn finish_on<M: OnFile>(
         &mut self,
-        call: Call<M>,
+        call: PendingCall<M>,
         file: &mut File,
     ) -> Result<M::Value, Error>
         requires may { MayWaitOn M.PlanRunner.meaning M.file self.old.core call file.old }
@@ -73,7 +73,10 @@ impl<L: Link> Sftp<L> {
     }
 
     /// Polls a call, and does a round where it has no answer, until it answers or a round goes wrong.
-    pub(super) fn run<M: PlanRunner>(&mut self, call: &mut Call<M>) -> Result<M::Value, Error>
+    pub(super) fn run<M: PlanRunner>(
+        &mut self,
+        call: &mut PendingCall<M>,
+    ) -> Result<M::Value, Error>
         requires may { MayWait M.meaning self.old.core call.old }
         requires count { (L.LinkState.state self.old.link).faults < 2 ^ 64 - 1 }
         ensures { HasWaited M.meaning L.LinkState.state self.old self.new call.old call.new result }
@@ -88,7 +91,10 @@ impl<L: Link> Sftp<L> {
     }
 
     /// Polls a call, where an id is left for a request of it.
-    fn poll_call<M: PlanRunner>(&mut self, call: &mut Call<M>) -> Poll<Result<M::Value, Error>>
+    fn poll_call<M: PlanRunner>(
+        &mut self,
+        call: &mut PendingCall<M>,
+    ) -> Poll<Result<M::Value, Error>>
         requires opened { IsSome (info_of self.old.core.phase) }
         requires under_way { IsUnderWay M.meaning self.old.core call.old }
         ensures { PolledIn M.meaning self.old self.new call.old call.new result }

@@ -20,4 +20,4 @@ returns-in-Err-ask c =
 pub returns-in-Ok-None : goal.returns-in-Ok-None
 returns-in-Ok-None c =
     let empty : c.args.content ≡ [] = search rules in
-    begun_empty c.args.facts c.args.core.now c.close.new.core c.args.grant c.args.content empty c.close.ensures
+    begun_empty c.args.facts c.args.core.now c.close.new.core c.args.grant c.args.content c.requires.owned empty c.close.ensures

@@ -2,7 +2,7 @@ use Rattle.std.proofs.Common.{◌≡◌, sym, subst, rules}
 use Rattle.sftp_whole.specs.WholeReads.{CancelsRead, IsReadHeld}
 use Rattle.sftp_whole.specs.declared.fs_read.Whole.{Whole}
 use Rattle.sftp_whole.specs.declared.fs_read.Whole.TheVariants as whole
-use Rattle.sftp_whole.proofs.FsReadLaws.{drops_open}
+use Rattle.sftp_whole.proofs.FsReadLaws.{drops_nothing, drops_open, drops_opening}
 use Rattle.sftp_whole.proofs.TicketLaws.{read_tickets}
 use Rattle.sftp_whole.proofs.fs_read.cancel.Goals as goal
 
@@ -11,6 +11,11 @@ finish-requires-clause-tickets c =
     let held : IsReadHeld c.args.core.now (whole.Open c.in-Open.grant c.in-Open._reads c.in-Open.tickets) =
     subst (λ (s : Whole). IsReadHeld c.args.core.now s) c.in-Open.is c.requires in
     read_tickets c.args.core.now c.in-Open._reads.window.waiting c.in-Open.tickets.items held.1
+
+pub returns-in-Opening : goal.returns-in-Opening
+returns-in-Opening c =
+    subst (λ (s : Whole). CancelsRead c.args.core.now c.cancel.new.core s) (sym c.in-Opening.is)
+    (drops_opening c.args.core.now c.cancel.new.core c.in-Opening.call c.in-Opening._facts c.cancel.ensures)
 
 pub returns-in-Open : goal.returns-in-Open
 returns-in-Open c =

@@ -23,4 +23,4 @@ pub returns-in-Over : goal.returns-in-Over
 returns-in-Over c =
     let h = c.in-Over.ensures in
     heard_over c.args.core.now h.0 c.hear.new.core c.finish.new.core c.args.grant c.args.reads h.1.0 c.args.tickets h.1.1.0
-    c.in-Over.tickets.items c.in-Over.e h.1.1.1.0 h.1.1.1.1.0 h.1.1.1.1.1 c.finish.ensures
+    c.in-Over.tickets.items c.in-Over.e c.requires.held.0 h.1.1.1.0 h.1.1.1.1.0 h.1.1.1.1.1 c.finish.ensures

@@ -1,5 +1,5 @@
 use Rattle.std.proofs.Common.{refl}
-use Rattle.sftp_client.proofs.Waiting.{finished_on}
+use Rattle.sftp_client.proofs.Moving.{finished_on}
 use Rattle.sftp_client.proofs.sftp.Sftp.finish_on.Goals as goal
 
 pub returns : goal.returns

@@ -1,6 +1,6 @@
 use Rattle.std.proofs.Common.{rules}
 use Rattle.sftp_file.specs.Gathers.{ReadAllValue, reading_all}
-use Rattle.sftp_client.proofs.Waiting.{moved_at}
+use Rattle.sftp_client.proofs.Moving.{moved_at}
 use Rattle.sftp_client.proofs.sftp.Sftp.wait_bytes.Goals as goal
 
 pub returns : goal.returns

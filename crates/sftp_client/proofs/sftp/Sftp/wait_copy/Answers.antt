@@ -1,6 +1,6 @@
 use Rattle.std.proofs.Common.{rules}
 use Rattle.sftp_file.specs.Copies.{CopyValue, copying}
-use Rattle.sftp_client.proofs.Waiting.{moved_at}
+use Rattle.sftp_client.proofs.Moving.{moved_at}
 use Rattle.sftp_client.proofs.sftp.Sftp.wait_copy.Goals as goal
 
 pub returns : goal.returns

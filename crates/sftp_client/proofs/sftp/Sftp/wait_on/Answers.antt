@@ -1,5 +1,5 @@
 use Rattle.std.proofs.Common.{rules}
-use Rattle.sftp_client.proofs.Waiting.{moved_by}
+use Rattle.sftp_client.proofs.Moving.{moved_by}
 use Rattle.sftp_client.proofs.sftp.Sftp.wait_on.Goals as goal
 
 pub returns : goal.returns

@@ -1,9 +1,10 @@
-use Rattle.std.proofs.Common.{◌≡◌, ap, ◌∙◌, refl}
-use Rattle.call_state.specs.declared.stage.Stage.TheVariants.{Asked, Ended}
+use Rattle.std.proofs.Common.{◌≡◌, ap, ◌∙◌, refl, sym}
+use Rattle.call_state.specs.declared.stage.Stage.TheVariants.{Asked}
 use Rattle.call_state.specs.Calls.{CallValue}
 use Rattle.call_state.proofs.Going.{sent_by}
+use Rattle.call_state.proofs.Grants.{asked_brings}
 use Rattle.call_state.proofs.Keeping.{submitted_holds, submitted_keeps, submitted_missing, submitted_others}
-use Rattle.call_state.proofs.call.Call.send.Goals as goal
+use Rattle.call_state.proofs.call.PendingCall.send.Goals as goal
 
 pub returns-in-Ok-clause-went : goal.returns-in-Ok-clause-went
 returns-in-Ok-clause-went g c = λ w plan answers b.
@@ -11,7 +12,7 @@ returns-in-Ok-clause-went g c = λ w plan answers b.
     (ap (λ (x : CallValue g.row.M.Denot). x.runner) c.self.view_is) b c.requires.asks.cut c.in-Ok.ensures.ok
 
 pub returns-in-Ok-clause-leaves : goal.returns-in-Ok-clause-leaves
-returns-in-Ok-clause-leaves g c =
+returns-in-Ok-clause-leaves g c = λ before none.
     let stands : c.put.new.self ≡ Asked c.in-Ok.ticket = c.put.ensures in
     record {
       held = rw stands (submitted_holds c.args.core.now c.submit.new.core c.args.asking c.in-Ok.ticket _ c.in-Ok.ensures.ok
@@ -19,6 +20,8 @@ returns-in-Ok-clause-leaves g c =
       over = rw stands refl;
       awaits = (c.in-Ok.ticket, (stands, submitted_missing c.args.core.now c.submit.new.core c.args.asking c.in-Ok.ticket c.in-Ok.ensures.ok));
       holds = tt;
+      brings = asked_brings c.submit.new.core c.put.new.self c.in-Ok.ticket stands (submitted_missing c.args.core.now c.submit.new.core
+          c.args.asking c.in-Ok.ticket c.in-Ok.ensures.ok) ∙ sym none;
       keeps = submitted_keeps c.args.core.now c.submit.new.core c.args.asking c.in-Ok.ticket c.in-Ok.ensures.ok;
-      others = submitted_others c.args.core.now c.submit.new.core c.args.asking c.in-Ok.ticket Ended c.put.new.self c.in-Ok.ensures.ok stands;
+      others = submitted_others c.args.core.now c.submit.new.core c.args.asking c.in-Ok.ticket before c.put.new.self c.in-Ok.ensures.ok stands;
     }

@@ -1,6 +1,6 @@
 use Rattle.std.proofs.Common.{refl}
 use Rattle.call_state.proofs.Keeping.{submitted_holds, submitted_keeps}
-use Rattle.call_state.proofs.call.Call.ask.Goals as goal
+use Rattle.call_state.proofs.call.PendingCall.ask.Goals as goal
 
 pub returns-in-Ok-clause-begins : goal.returns-in-Ok-clause-begins
 returns-in-Ok-clause-begins g c =
