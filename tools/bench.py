@@ -26,12 +26,17 @@ SERVER = "/usr/lib/openssh/sftp-server"
 LIMIT = float(os.environ.get("BENCH_LIMIT", "1200"))
 # seconds by which each way to a late server is late
 DELAY = 0.010
+# the most bytes that the relay to it takes at once, and the options that give a socket room for them (Linux's socket(7))
+RELAY, SO_SNDBUFFORCE, SO_RCVBUFFORCE = 1 << 20, 32, 33
 # so many files of so many bytes go up and down: as many as one script may hold
 FILES, FILE_BYTES = 1000, 8000
 # one file of so many bytes comes down, and one of so many goes up: as many as one script may hold
 LARGE_DOWN, LARGE_UP = 1 << 28, 8000000
-# a folder of so many files of so many bytes comes down and goes up
+# a file of so many bytes comes down and goes up where replies are not late
+HUGE_BYTES = 1 << 30
+# a folder of so many files of so many bytes comes down and goes up; and trees of so many folders, each with so many files
 TREE_FILES, TREE_BYTES = 1000, 10000
+TREE_FOLDERS, FOLDER_FILES = (50, 100), 100
 # so many reads of one block each of a file of so many bytes, through a cache of so many blocks
 GETS, VIEWED_BYTES, VIEW_BLOCK, VIEW_CAPACITY = 10000, 1 << 20, 4096, 64
 # what OpenSSH's client does over either server: so many files of so many bytes up and down, so many directories made and removed
@@ -150,7 +155,7 @@ def row(words, result, before=None):
 
 def pass_on_later(read, write, close):
     """Passes bytes on, each DELAY after it came."""
-    waiting = queue.Queue()
+    waiting = queue.SimpleQueue()
 
     def send():
         while True:
@@ -163,7 +168,7 @@ def pass_on_later(read, write, close):
     threading.Thread(target=send, daemon=True).start()
     while True:
         try:
-            data = read(65536)
+            data = read(RELAY)
         except OSError:
             data = b""
         waiting.put((time.monotonic() + DELAY, data))
@@ -171,13 +176,24 @@ def pass_on_later(read, write, close):
             return
 
 
+def widened(end):
+    """A socket with room for RELAY bytes each way, where the system allows it: else many small pieces cost more than the delay."""
+    for option in (SO_SNDBUFFORCE, SO_RCVBUFFORCE):
+        try:
+            end.setsockopt(socket.SOL_SOCKET, option, RELAY)
+        except OSError:
+            pass
+    return end
+
+
 def serve_late(link):
     """A server over one connection, whose bytes come late both ways."""
-    server = subprocess.Popen([SERVER], stdin=subprocess.PIPE, stdout=subprocess.PIPE, stderr=subprocess.DEVNULL, bufsize=0)
-    put = lambda data: os.write(server.stdin.fileno(), data)
-    get = lambda most: os.read(server.stdout.fileno(), most)
-    threading.Thread(target=pass_on_later, args=(link.recv, put, server.stdin.close), daemon=True).start()
-    threading.Thread(target=pass_on_later, args=(get, link.sendall, link.close), daemon=True).start()
+    ours, theirs = (widened(end) for end in socket.socketpair())
+    subprocess.Popen([SERVER], stdin=theirs, stdout=theirs, stderr=subprocess.DEVNULL)
+    theirs.close()
+    for come, go in ((widened(link), ours), (ours, link)):
+        end = lambda go=go: go.shutdown(socket.SHUT_WR)
+        threading.Thread(target=pass_on_later, args=(come.recv, go.sendall, end), daemon=True).start()
 
 
 def serve(path, late):
@@ -271,28 +287,57 @@ def tables_of_copies(folder):
         path = os.path.join(folder, "late" if late else "socket")
         serve(path, late)
         table_of_copies(folder, path, made(folder, "large", LARGE_DOWN))
+        if not late:
+            table_of_files(folder, path, made(folder, "huge", HUGE_BYTES), HUGE_BYTES)
+            table_of_trees(folder, path)
+
+
+def client_of(path):
+    """`sftp` over the server that listens at a path."""
+    return ["sftp", "-q", "-b", "-", "-D", f"socat - UNIX-CONNECT:{path}"]
+
+
+def table_of_files(folder, path, large, length):
+    """A large file from one file to another, by sftp_transfer and by `sftp`."""
+    copied = os.path.join(folder, "copied")
+    for words, way in (("down", "get"), ("up", "put")):
+        words = f"{length} bytes {words}, file to file"
+        row(words + ", sftp_transfer", best(folder, [COPIER, "unix:" + path, way, large, copied], "", 3))
+        row(words + ", sftp -b", best(folder, client_of(path), f"{way} {large} {copied}\n", 3))
+
+
+def copy_tree(folder, path, tree, words):
+    """A folder and all that stands in it, by sftp_transfer and by `sftp -r`, down and up."""
+    copied = os.path.join(folder, "copied-tree")
+    for to, way in (("down", "get"), ("up", "put")):
+        for name, command, text in (
+            ("sftp_transfer", [COPIER, "unix:" + path, way, "-r", "-q", tree + "/.", copied], ""),
+            ("sftp -r", client_of(path), f"{way} -r {tree} {copied}\n"),
+        ):
+            shutil.rmtree(copied, ignore_errors=True)
+            row(f"{words} {to}, {name}", measure(folder, command, text))
 
 
 def table_of_copies(folder, path, large):
-    """A large file from one file to another, and a folder of small ones, over OpenSSH's server, by sftp_transfer and by `sftp`."""
-    copied = os.path.join(folder, "copied")
-    sftp = ["sftp", "-q", "-b", "-", "-D", f"socat - UNIX-CONNECT:{path}"]
-    for words, way in (("down", "get"), ("up", "put")):
-        words = f"{LARGE_DOWN} bytes {words}, file to file"
-        row(words + ", sftp_transfer", best(folder, [COPIER, "unix:" + path, way, large, copied], "", 3))
-        row(words + ", sftp -b", best(folder, sftp, f"{way} {large} {copied}\n", 3))
-    tree, copied = os.path.join(folder, "tree"), os.path.join(folder, "copied-tree")
+    """A large file, and a folder of small ones, over OpenSSH's server."""
+    table_of_files(folder, path, large, LARGE_DOWN)
+    tree = os.path.join(folder, "tree")
     os.makedirs(tree, exist_ok=True)
     for k in range(TREE_FILES):
         made(tree, str(k), TREE_BYTES)
-    for words, way in (("down", "get"), ("up", "put")):
-        words = f"{TREE_FILES} files of {TREE_BYTES} bytes {words}, folder to folder"
-        for name, command, text in (
-            ("sftp_transfer", [COPIER, "unix:" + path, way, "-r", "-q", tree + "/.", copied], ""),
-            ("sftp -r", sftp, f"{way} -r {tree} {copied}\n"),
-        ):
-            shutil.rmtree(copied, ignore_errors=True)
-            row(f"{words}, {name}", measure(folder, command, text))
+    copy_tree(folder, path, tree, f"{TREE_FILES} files of {TREE_BYTES} bytes")
+
+
+def table_of_trees(folder, path):
+    """Trees of many folders over OpenSSH's server: what doubles with them."""
+    for folders in TREE_FOLDERS:
+        tree = os.path.join(folder, f"tree-{folders}")
+        for k in range(folders):
+            within = os.path.join(tree, str(k))
+            os.makedirs(within)
+            for j in range(FOLDER_FILES):
+                made(within, str(j), TREE_BYTES)
+        copy_tree(folder, path, tree, f"{folders * FOLDER_FILES} files in {folders} folders")
 
 
 def table_of_threads(folder):

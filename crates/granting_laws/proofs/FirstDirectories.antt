@@ -61,7 +61,7 @@ use Rattle.session_model.specs.Calls.{Setting, lane_calls}
 use Rattle.session_model.specs.Grants.{is_asked_by, is_close}
 use Rattle.session_model.specs.Journals.{MayReply, MayTake}
 use Rattle.session_model.specs.Readings.{AskedRequest, answer, asked, asked_at, is_by, sent, unanswered}
-use Rattle.session_model.specs.Runs.{IsRun, Opens, TurnsTo, at_first, queried}
+use Rattle.session_model.specs.Runs.{IsRun, OpensSession, TurnsTo, at_first, queried}
 use Rattle.session_model.specs.Served.{counted, requests_of, requests_sent}
 use Rattle.session_model.specs.Turns.{RunProgress}
 use Rattle.session_model.proofs.CountLaws.{count_none}
@@ -138,7 +138,7 @@ taken_quiet id (suc p) r lt may = absurd (omega (arith, lt))
 rests_first : (lane : ℕ) (calls : List Call) → Is lane (IsAtCall calls 0) []
 rests_first lane calls = (tt, (inl (record { none = refl; later = λ d lt. refl; came = λ q lt none. omega (arith, lt); made = refl }), inl (omega arith)))
 
-opened_rests : (lane : ℕ) (calls : List Call) (b : Bool) (past : List Entry) → Opens b past → Is lane (IsAtCall calls 0) past
+opened_rests : (lane : ℕ) (calls : List Call) (b : Bool) (past : List Entry) → OpensSession b past → Is lane (IsAtCall calls 0) past
 opened_rests lane calls false past e = subst (Is lane (IsAtCall calls 0)) (sym e) (rests_first lane calls)
 opened_rests lane calls true past to =
     let id : ℕ = to.0 in

@@ -24,7 +24,7 @@ use Rattle.session_model.specs.Calls.{Setting, current, lane_calls, move_at, mov
 use Rattle.session_model.specs.Grants.{next_due}
 use Rattle.session_model.specs.Journals.{IsJournal, IsNext, MayCome, MayTake, MustClose, cancelled_end}
 use Rattle.session_model.specs.Readings.{answer, asked, awaited, ended, last_cancel, outcomes_of, own, sent}
-use Rattle.session_model.specs.Runs.{at_first, DrainsTo, EndsTo, IsRun, LetsGoTo, Opens, RoundsTo, TurnsTo, round_of}
+use Rattle.session_model.specs.Runs.{at_first, DrainsTo, EndsTo, IsRun, LetsGoTo, OpensSession, RoundsTo, TurnsTo, round_of}
 use Rattle.session_model.specs.Turns.{ClosesTo, MovesBy, RulesTo, RunProgress, TurnTo, is_full}
 use Rattle.run_laws.specs.RoundTrips.{outcome_at}
 use Rattle.run_laws.proofs.LaneCalls.{all_before, each_is}
@@ -99,7 +99,7 @@ drains_stay : (s : Setting) (n : ℕ) (before now : RunProgress) → DrainsTo s 
 drains_stay s zero before now e p = same_stays before now e p
 drains_stay s (suc n) before now to p = drains_stay s n to.1.0 now to.1.1.1 (turns_stay s (turn.Flush ∷ turn.Take ∷ []) before to.1.0 refl to.1.1.0 p)
 
-opens_plain : (b : Bool) (past : List Entry) → Opens b past → CancelsNone past
+opens_plain : (b : Bool) (past : List Entry) → OpensSession b past → CancelsNone past
 opens_plain false past e = subst CancelsNone (sym e) tt
 opens_plain true past to = subst CancelsNone (sym to.1.1.2) tt
 

@@ -55,7 +55,7 @@ use Rattle.machine_model.specs.Changes.{
   Granted,
   LeavesChanged,
   Listed,
-  Lists,
+  ListsEntries,
   MadeDirectory,
   MayMove,
   MayStand,
@@ -354,7 +354,7 @@ opendir_leaves tree r handle name (Some node.Directory) = record {
 }
 
 readdir_leaves : (tree : FileTree) (r : Request) (handle h : List ℕ) (cap : ℕ) (entries : Option (List NameEntry))
-    → Lists r h → entries_of (opened_at tree h) ≡ entries → LeavesChanged tree r handle (after_readdir tree cap h entries)
+    → ListsEntries r h → entries_of (opened_at tree h) ≡ entries → LeavesChanged tree r handle (after_readdir tree cap h entries)
 readdir_leaves tree r handle h cap None l e = same tree r handle refl
 readdir_leaves tree r handle h cap (Some []) l e = same tree r handle refl
 readdir_leaves tree r handle h cap (Some (first ∷ entries)) l e =

@@ -30,7 +30,7 @@ use Rattle.machine_model.specs.Changes.{
   Truncated,
   Unchanged,
   changed,
-  Opens,
+  HasOpen,
 }
 use Rattle.machine_model.specs.Components.{Name}
 use Rattle.machine_model.specs.FileTree.{FileTree, node_at, with_renamed, without_handle, without_name}
@@ -45,7 +45,7 @@ NotFile file (opened.File held) = held.file ≢ file
 NotFile file (opened.Directory entries) = Unit {0}
 
 pushed : (tree : FileTree) (handle : List ℕ) (o : Opened) (h : List ℕ) (file : ℕ) → NotFile file o → (held : Held)
-    → Has (tree.handles ++ (handle, o) ∷ []) (h, opened.File held) → held.file ≡ file → Opens tree h file
+    → Has (tree.handles ++ (handle, o) ∷ []) (h, opened.File held) → held.file ≡ file → HasOpen tree h file
 pushed tree handle o h file not held has same = elim (has_push tree.handles (handle, o) (h, opened.File held) has) [
   | inl old ↦ (held, (old, same))
   | inr e ↦ absurd (let other : NotFile file (opened.File held) = subst (NotFile file) (ap (λ (w : List ℕ × Opened). w.1) e) not in other same)
@@ -68,7 +68,7 @@ opened_value (opened.Directory entries) = false
 
 opens_by : (tree : FileTree) (r : Request) (handle : List ℕ) (name : Name) (file : ℕ) (c : Change) (h : List ℕ)
     → IsWellFormed tree → (AsksToOpen r name → ⊥) → node_at tree name ≡ Some (node.File file) → MayLead tree r c
-    → Opens (changed tree handle c) h file → Opens tree h file
+    → HasOpen (changed tree handle c) h file → HasOpen tree h file
 opens_by tree r handle name file Unchanged h sound avoids e may o = o
 opens_by tree r handle name file (Rewritten other bytes) h sound avoids e may o = o
 opens_by tree r handle name file (Granted new) h sound avoids e may o =
@@ -112,7 +112,7 @@ opens_by tree r handle name file (Replaced old to gone) h sound avoids e may o =
 pub none_opens : (tree : FileTree) (config : ServerConfig) (r : Request) (choice : Choice) (handle : List ℕ)
     (name : Name) (file : ℕ) (h : List ℕ) → IsWellFormed tree → (AsksToOpen r name → ⊥) → node_at tree name
     ≡ Some (node.File file)
-    → Opens (apply tree config r choice handle).1 h file → Opens tree h file
+    → HasOpen (apply tree config r choice handle).1 h file → HasOpen tree h file
 none_opens tree config r choice handle name file h sound avoids e o =
     let l = apply_leaves tree config r choice handle in
-    opens_by tree r handle name file l.change h sound avoids e l.may (subst (λ (w : FileTree). Opens w h file) l.is o)
+    opens_by tree r handle name file l.change h sound avoids e l.may (subst (λ (w : FileTree). HasOpen w h file) l.is o)

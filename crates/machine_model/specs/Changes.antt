@@ -75,9 +75,9 @@ ClosesHandle (request.Close handle) h = handle ≡ h
 ClosesHandle other h = ⊥
 
 -- the request takes further entries of the handle
-abbrev pub Lists : Request → List ℕ → Type 0
-Lists (request.Readdir handle) h = handle ≡ h
-Lists other h = ⊥
+abbrev pub ListsEntries : Request → List ℕ → Type 0
+ListsEntries (request.Readdir handle) h = handle ≡ h
+ListsEntries other h = ⊥
 
 -- ---- trees
 
@@ -89,8 +89,8 @@ pub record IsWellFormed (tree : FileTree) : Type 0 where
   pub alone : (a b : Name) (file : ℕ) → Has tree.names (a, node.File file) → Has tree.names (b, node.File file) → a ≡ b
 
 -- the handle has the file open
-abbrev pub Opens : FileTree → List ℕ → ℕ → Type 0
-Opens tree handle file = (held : Held) × (Has tree.handles (handle, opened.File held) × (held.file ≡ file))
+abbrev pub HasOpen : FileTree → List ℕ → ℕ → Type 0
+HasOpen tree handle file = (held : Held) × (Has tree.handles (handle, opened.File held) × (held.file ≡ file))
 
 -- ---- changes
 
@@ -162,7 +162,8 @@ MayLead tree r (Created name o) = Denotes r name × (node_at tree name ≡ None)
     × OpensAsked r o
 MayLead tree r (ClosedDirectory h) = ClosesHandle r h
 MayLead tree r (ClosedFile h file) = ClosesHandle r h
-MayLead tree r (Listed h entries) = (old : List NameEntry) × (entries_of (opened_at tree h) ≡ Some old) × Lists r h
+MayLead tree r (Listed h entries) = (old : List NameEntry) × (entries_of (opened_at tree h) ≡ Some old)
+    × ListsEntries r h
 MayLead tree r (MadeDirectory name) = Denotes r name
 MayLead tree r (RemovedDirectory name) = Denotes r name
 MayLead tree r (RemovedFile name file) = Denotes r name

@@ -7,7 +7,7 @@ ghost use Rattle.sftp_model.specs.Numbers.{MAX_BODY_LEN};
 ghost use Rattle.sftp_model.specs.declared.config.Choice.{Choice};
 ghost use Rattle.sftp_model.specs.declared.config.ServerConfig.{ServerConfig};
 ghost use Rattle.sftp_model.specs.declared.request.Request.{Request};
-ghost use Rattle.machine_model.specs.Changes.{AsksToOpen, IsWellFormed, LeavesChanged, Opens};
+ghost use Rattle.machine_model.specs.Changes.{AsksToOpen, IsWellFormed, LeavesChanged, HasOpen};
 ghost use Rattle.machine_model.specs.Components.{Name, is_within};
 ghost use Rattle.machine_model.specs.FileTree.{FileTree, node_at, opened_at};
 ghost use Rattle.machine_model.specs.FirstTree.{FirstFile, first_tree, may_begin};
@@ -109,7 +109,7 @@ pub fn files_open_by_opens()
     ensures { (tree : FileTree) (config : ServerConfig) (r : Request) (choice : Choice)
         (handle : List ℕ) (name : Name) (file : ℕ) (h : List ℕ) → IsWellFormed tree
         → (AsksToOpen r name → ⊥) → node_at tree name ≡ Some (node.File file)
-        → Opens (apply tree config r choice handle).1 h file → Opens tree h file }
+        → HasOpen (apply tree config r choice handle).1 h file → HasOpen tree h file }
 {}
 
 /// A choice can make a DATA and a NAME of any length that its row of the definition lets it have.

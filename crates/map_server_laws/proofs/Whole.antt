@@ -8,7 +8,7 @@ use Rattle.sftp_model.specs.Fits.{FitsNumber}
 use Rattle.sftp_link.specs.Told.{Told}
 use Rattle.sftp_link.specs.declared.piece.Piece.{Piece}
 use Rattle.session_exchange.specs.Causes.{Cause}
-use Rattle.session_driver.specs.Logs.{Ends, Showing}
+use Rattle.session_driver.specs.Logs.{EndsSession, Showing}
 use Rattle.session_driver.specs.Session.{Given, IsFixed}
 use Rattle.sftp_model.specs.declared.options.SftpOptions.{SftpOptions}
 use Rattle.sftp_model.specs.declared.flags.Extensions.{Extensions}
@@ -80,7 +80,7 @@ server_serves given server ok new serving =
 -- a run stops only for want of memory
 pub stops_for_memory : (given : Given) (turns : List Turn) (server : Serving) (e : Error) → are_ok given.lanes ≡ true
     → IsUnopened server.first → IsServing server.first server.now server.log server.ended
-    → Ends given turns server.ended e [] server.log → Cause {T = Unit {0}} 0 0 (Err e) → e ≡ error.OutOfMemory
+    → EndsSession given turns server.ended e [] server.log → Cause {T = Unit {0}} 0 0 (Err e) → e ≡ error.OutOfMemory
 stops_for_memory given turns server e ok new serving ends why =
     only_memory given turns server.ended e server.log (server_serves given server ok new serving) ends why
 

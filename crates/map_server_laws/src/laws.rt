@@ -11,7 +11,7 @@ ghost use Rattle.session_model.specs.Calls.{Setting};
 ghost use Rattle.plan_model.specs.Lanes.{are_ok};
 ghost use Rattle.session_model.specs.Runs.{IsRun};
 ghost use Rattle.session_exchange.specs.Causes.{Cause};
-ghost use Rattle.session_driver.specs.Logs.{Ends, Showing};
+ghost use Rattle.session_driver.specs.Logs.{EndsSession, Showing};
 ghost use Rattle.session_driver.specs.Session.{Given, IsFixed};
 ghost use Rattle.sftp_map_server.specs.Serving.{Serving, IsServing, config_of, tree_left, version_reply};
 ghost use Rattle.session_driver.specs.ServingLinks.{ServesLanes};
@@ -34,7 +34,7 @@ pub fn runs_are_served()
         → IsServedRun server.first past (tree_left server) }
     ensures only { (given : Given) (turns : List Turn) (server : Serving) (e : Error) → are_ok given.lanes ≡ true
         → IsUnopened server.first → IsServing server.first server.now server.log server.ended
-        → Ends given turns server.ended e [] server.log
+        → EndsSession given turns server.ended e [] server.log
         → Cause {T = Unit {0}} 0 0 (Err e) → e ≡ error.OutOfMemory }
 {}
 
@@ -42,7 +42,7 @@ pub fn runs_are_served()
 /// memory, where the link counted no fault; and the server in memory is such a link where the lanes are ok.
 pub fn links_that_serve_end_well()
     ensures only { (given : Given) (turns : List Turn) (ended : Bool) (e : Error) (log : List Piece)
-        → ServesLanes given log ended → Ends given turns ended e [] log → Cause {T = Unit {0}} 0 0 (Err e) → e ≡ error.OutOfMemory }
+        → ServesLanes given log ended → EndsSession given turns ended e [] log → Cause {T = Unit {0}} 0 0 (Err e) → e ≡ error.OutOfMemory }
     ensures server { (given : Given) (server : Serving) → are_ok given.lanes ≡ true → IsUnopened server.first
         → IsServing server.first server.now server.log server.ended → ServesLanes given server.log server.ended }
 {}

@@ -11,7 +11,7 @@ use Rattle.machine_model.proofs.FirstFiles.{first_well_formed}
 use Rattle.plan_model.specs.Lanes.{are_ok}
 use Rattle.session_model.specs.declared.turn.Turn.{Turn}
 use Rattle.session_exchange.specs.Causes.{Cause, EndCause}
-use Rattle.session_driver.specs.Logs.{Ends}
+use Rattle.session_driver.specs.Logs.{EndsSession}
 use Rattle.session_driver.specs.Session.{Given}
 use Rattle.sftp_lanes.specs.Complete.{StopsForMemory}
 use Rattle.sftp_map_server.specs.Serving.{IsServing, Server, Serving, server_view}
@@ -40,7 +40,7 @@ end_of A B ended other h = h
 
 is_stopped : (T : Type 0) (given : Given) (turns : List Turn) (before log : List Piece) (first faults : ℕ)
     (ended : Bool) (e : Error) (text : List ℕ) → before ≡ [] → first ≡ 0
-    → Told (Ends given turns ended e) (Some (reverse before)) (Some log) → Cause {T = T} first faults (Err e)
+    → Told (EndsSession given turns ended e) (Some (reverse before)) (Some log) → Cause {T = T} first faults (Err e)
     → EndCause {T = T} ended (Err e) → IsErrorLine e text
     → IsStopped given turns (Some (record { log = log; faults = faults; ended = ended })) text
 is_stopped T given turns before log first faults ended e text none zero stops cause end is = record {
@@ -49,14 +49,14 @@ is_stopped T given turns before log first faults ended e text none zero stops ca
   back = refl;
   cause = cause_of T (Unit {0}) faults e (subst (λ (n : ℕ). Cause {T = T} n faults (Err e)) zero cause);
   end = end_of T (Unit {0}) ended e end;
-  stops = from_empty (λ (b now : List Piece). Ends given turns ended e (reverse b) now) before log none stops;
+  stops = from_empty (λ (b now : List Piece). EndsSession given turns ended e (reverse b) now) before log none stops;
   is = is;
 }
 
 -- the answer to it is right where the line of the error is
 pub stopped_over : (T : Type 0) (right : Answered → List ℕ → Type 0) (given : Given) (turns : List Turn)
     (before log : List Piece) (first faults : ℕ) (ended : Bool) (e : Error) (r : Result Printed OutOfMemory)
-    → before ≡ [] → first ≡ 0 → Told (Ends given turns ended e) (Some (reverse before)) (Some log)
+    → before ≡ [] → first ≡ 0 → Told (EndsSession given turns ended e) (Some (reverse before)) (Some log)
     → Cause {T = T} first faults (Err e) → EndCause {T = T} ended (Err e)
     → IfOk r (λ reply. (reply.answered ≡ Stopped) × IsErrorLine e reply.text.items)
     → ((text : List ℕ) → IsStopped given turns (Some (record { log = log; faults = faults; ended = ended })) text

@@ -19,7 +19,7 @@ use Rattle.std.specs.Prelude.{
   IfSome,
   IfErr,
 }
-use Rattle.sftp_link.specs.Told.{Told, Same, Went, WentLess, ReadUpTo}
+use Rattle.sftp_link.specs.Told.{Told, Same, WroteBytes, WentLess, ReadUpTo}
 use Rattle.sftp_link.specs.Views.{DialView, LastLink, SinkView, SourceView}
 use Rattle.sftp_map_server.specs.Serving.{Serving, first_state, opened}
 use Rattle.sftp_map_server.specs.Unopened.{IsUnopened}
@@ -105,7 +105,7 @@ pub record WroteLess (right : Answered → List ℕ → Type 0) (before now : Si
 pub record WroteAll (right : Answered → List ℕ → Type 0) (answered : Answered) (before now : SinkView) : Type 0 where
   pub text : List ℕ
   pub is : right answered text
-  pub wrote : Told (Went text) before.written now.written
+  pub wrote : Told (WroteBytes text) before.written now.written
 
 -- By how the program ends, what was written of an answer that is right: all of it; or, where the sink failed, a prefix;
 -- or, for want of memory, a prefix or nothing; or nothing.

@@ -4,7 +4,7 @@ use Rattle.sftp_link.specs.Views.{LastLink}
 use Rattle.sftp_model.specs.declared.error.Error.{Error}
 use Rattle.session_model.specs.declared.turn.Turn.{Turn}
 use Rattle.session_exchange.specs.Causes.{Cause, EndCause}
-use Rattle.session_driver.specs.Logs.{Ends}
+use Rattle.session_driver.specs.Logs.{EndsSession}
 use Rattle.session_driver.specs.Session.{Given}
 use Rattle.program_ends.specs.Texts.{IsErrorLine}
 
@@ -18,5 +18,5 @@ pub record IsStopped (given : Given) (turns : List Turn) (last : Option LastLink
   pub back : last ≡ Some link
   pub cause : Cause {T = Unit {0}} 0 link.faults (Err error)
   pub end : EndCause {T = Unit {0}} link.ended (Err error)
-  pub stops : Ends given turns link.ended error [] link.log
+  pub stops : EndsSession given turns link.ended error [] link.log
   pub is : IsErrorLine error text

@@ -15,7 +15,7 @@ use ssh_encoding::OutOfMemory;
 use std::alloc::Global;
 
 /// A server of a script's files and directories, by its choices and picks. Refused only for want of memory.
-fn new_server_of(alloc: Global, script: &Script) -> Result<MapServer, OutOfMemory>
+pub fn new_server_of(alloc: Global, script: &Script) -> Result<MapServer, OutOfMemory>
     requires { CanBegin script.now }
     ensures { IfOk result (IsNewServer script.now) }
 {

@@ -16,7 +16,7 @@ mod tests;
 
 pub use answer::{Answer, answer_to};
 pub use ending::{Answered, Failure, NO_LINK, OUT_OF_MEMORY, cause_of, status_of};
-pub use in_memory::{answer_in_memory, text_in_memory};
+pub use in_memory::{answer_in_memory, new_server_of, text_in_memory};
 pub use left::{write_dirs, write_files};
 pub use over_link::answer_over_link;
 pub use printed::{Printed, read_bytes, refuse, write_answer};

@@ -1,5 +1,8 @@
 //! What a program is given by the system, and what it tells there.
 
+ghost use Rattle.std.specs.Prelude.{◌≡◌};
+ghost use Rattle.std.specs.Process.{exit_status};
+
 use crate::ending::{NO_LINK, cause_of};
 use ssh_encoding::OutOfMemory;
 use std::env::{self, Env};
@@ -26,7 +29,9 @@ pub fn words_given<R: Env + AllocGlobal>(rt: &R) -> Result<Vec<String>, OutOfMem
 
 /// The exit of a program with a status. Where no answer was written whole standard error is told why, and at which path nothing
 /// answers, behind the program's name; where it fails too there is nobody to tell.
-pub fn exit_with<R: Eprint>(rt: &R, program: &str, status: u8, path: &str) -> ExitCode {
+pub fn exit_with<R: Eprint>(rt: &R, program: &str, status: u8, path: &str) -> ExitCode
+    ensures { exit_status result ≡ status }
+{
     if let Some(cause) = cause_of(status) {
         let _ = if status == NO_LINK {
             eprintln!(rt; "{program}: {cause} at {path}")

@@ -20,7 +20,7 @@ use Rattle.machine_model.specs.Changes.{
   Created,
   Granted,
   Listed,
-  Lists,
+  ListsEntries,
   MadeDirectory,
   MayLead,
   RemovedDirectory,
@@ -91,7 +91,7 @@ takes (Replaced old to gone) = Leaving (λ t. t)
 
 -- where the request neither closes the handle nor takes entries by it
 pub step_keeps : (config : ServerConfig) (tree : FileTree) (s : Step) (h : List ℕ) (o : Opened)
-    → (ClosesHandle s.request h → ⊥) → (Lists s.request h → ⊥) → opened_at tree h ≡ Some o
+    → (ClosesHandle s.request h → ⊥) → (ListsEntries s.request h → ⊥) → opened_at tree h ≡ Some o
     → opened_at (answer_to config tree s).1 h ≡ Some o
 step_keeps config tree s h o keeps unread e =
     let l = apply_leaves tree config s.request s.choice s.handle in ap (λ (w : FileTree). opened_at w h) l.is ∙ by_change l.change (takes l.change) l.may
@@ -102,7 +102,7 @@ step_keeps config tree s h o keeps unread e =
         (let listed : MayLead tree s.request (Listed other entries) = subst (MayLead tree s.request) is may in
         ap (λ (w : Change). opened_at (changed tree s.handle w) h) is
         ∙ (found_replaced_other bytes_eq handles_tell tree.handles other h (opened.Directory entries)
-        (λ same. unread (subst (Lists s.request) same listed.2)) ∙ e))
+        (λ same. unread (subst (ListsEntries s.request) same listed.2)) ∙ e))
 
 -- ---- what a handle has, but for the entries that are still to be given
 

@@ -41,7 +41,7 @@ use Rattle.sftp_model.specs.declared.request.Request.TheVariants as request
 use Rattle.sftp_model.specs.declared.slot.Facts.{Facts}
 use Rattle.sftp_model.specs.declared.slot.Move.TheVariants.{Ask, Done}
 use Rattle.sftp_model.specs.declared.slot.Site.{Site}
-use Rattle.machine_model.specs.Changes.{ClosesHandle, Lists}
+use Rattle.machine_model.specs.Changes.{ClosesHandle, ListsEntries}
 use Rattle.machine_model.specs.FileTree.{FileTree}
 use Rattle.machine_model.specs.Pairs.{Has}
 use Rattle.machine_model.specs.TreeAnswers.{apply, first_choice}
@@ -135,7 +135,7 @@ readdir_is_own s past lane k p q first later a h j own_is above below mine is li
         let same : l ≡ lane = (one_lane past first.0 l lane asked_for.0 k asked_for.1 first_mine).0 in
         by_lane c (subst (λ (n : ℕ). is_asked_by (asked_at past p) n c ≡ true) same theirs)
 
-lists_is : (r : Request) (h : List ℕ) → Lists r h → r ≡ request.Readdir h
+lists_is : (r : Request) (h : List ℕ) → ListsEntries r h → r ≡ request.Readdir h
 lists_is (request.Readdir handle) h e = ap (λ (w : List ℕ). request.Readdir w) e
 lists_is other h e = absurd e
 

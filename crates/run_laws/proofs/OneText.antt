@@ -19,7 +19,7 @@ use Rattle.session_model.specs.declared.entry.Entry.TheVariants as entry
 use Rattle.session_model.specs.Readings.{answer, asked_at, bearer, outcomes_below}
 use Rattle.session_model.specs.Calls.{Setting}
 use Rattle.session_model.specs.Journals.{IsJournal}
-use Rattle.session_model.specs.Runs.{IsRun, Opens, Stages, GoesBy, at_first, queried}
+use Rattle.session_model.specs.Runs.{IsRun, OpensSession, Stages, GoesBy, at_first, queried}
 use Rattle.session_model.specs.Served.{is_query, requests_sent}
 use Rattle.session_model.specs.Settings.{facts_of, limits_told, setting_of}
 use Rattle.sftp_text.specs.Texts.{dir_lines, file_lines, frame_lines, lane_lines, text_with_files}
@@ -36,7 +36,7 @@ use Rattle.run_laws.proofs.Fixing.{Began, Whole, began_back, next_taken, query_t
 
 -- ---- a whole run
 
-opens_same : (next : List Entry → Entry) (limits : Bool) (a b : List Entry) → Opens limits a → Opens limits b → Follows next a → Follows next b → Same a b
+opens_same : (next : List Entry → Entry) (limits : Bool) (a b : List Entry) → OpensSession limits a → OpensSession limits b → Follows next a → Follows next b → Same a b
 opens_same next false a b x y p q = ap placed x ∙ sym (ap placed y)
 opens_same next true a b x y p q =
     let one = taken_same next (queried x.0) (queried y.0) x.0 y.0 x.1.0 y.1.0 refl (subst (Follows next) x.1.1.2 p) (subst (Follows next) y.1.1.2 q) in
@@ -83,7 +83,7 @@ runs_same next s turns one other (a, (x, is_one)) (b, (y, is_other)) p q =
 
 -- the limits that a session is told are those of the server
 limits_fixed : (s : Setting) (config : ServerConfig) (choices : List Choice) (picks : List ℕ) (first : FileTree) (full : List Entry) (left : FileTree)
-    → Whole s config choices picks first full left → (limits : Bool) (opened : List Entry) → Opens limits opened → Began full opened
+    → Whole s config choices picks first full left → (limits : Bool) (opened : List Entry) → OpensSession limits opened → Began full opened
     → limits_told limits (answer full 0) ≡ limits_told limits (Some (limits_reply config.limits))
 limits_fixed s config choices picks first full left w false opened x b = refl
 limits_fixed s config choices picks first full left w true opened x b =

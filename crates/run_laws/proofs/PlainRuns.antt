@@ -15,7 +15,7 @@ use Rattle.session_model.specs.declared.turn.Turn.TheVariants as turn
 use Rattle.session_model.specs.Calls.{Setting, added, calls_of, current, lane_calls, move_of}
 use Rattle.session_model.specs.Journals.{MayTake, cancelled_end}
 use Rattle.session_model.specs.Readings.{asked, awaited, ended, sent}
-use Rattle.session_model.specs.Runs.{DrainsTo, EndsTo, IsRun, LetsGoTo, Opens, RoundsTo, TurnsTo, round_of}
+use Rattle.session_model.specs.Runs.{DrainsTo, EndsTo, IsRun, LetsGoTo, OpensSession, RoundsTo, TurnsTo, round_of}
 use Rattle.session_model.specs.Turns.{ClosesTo, MovesBy, RulesTo, RunProgress, TurnTo, begun_but, is_full}
 
 -- no call was added
@@ -91,7 +91,7 @@ drains_stay : (s : Setting) (n : ℕ) (before now : RunProgress) → DrainsTo s 
 drains_stay s zero before now e p = same_stays before now e p
 drains_stay s (suc n) before now to p = drains_stay s n to.1.0 now to.1.1.1 (turns_stay s (turn.Flush ∷ turn.Take ∷ []) before to.1.0 to.1.1.0 p)
 
-opens_plain : (b : Bool) (past : List Entry) → Opens b past → IsPlain past
+opens_plain : (b : Bool) (past : List Entry) → OpensSession b past → IsPlain past
 opens_plain false past e = subst IsPlain (sym e) tt
 opens_plain true past to = subst IsPlain (sym to.1.1.2) tt
 

@@ -10,7 +10,7 @@ use Rattle.sftp_model.specs.declared.request.Request.{Request}
 use Rattle.sftp_model.specs.declared.slot.Facts.{Facts}
 use Rattle.sftp_model.specs.declared.slot.Move.TheVariants.{Done}
 use Rattle.sftp_model.specs.declared.slot.Site.{Site}
-use Rattle.machine_model.specs.Changes.{ClosesHandle, Lists}
+use Rattle.machine_model.specs.Changes.{ClosesHandle, ListsEntries}
 use Rattle.machine_model.specs.Components.{Name}
 use Rattle.machine_model.specs.FileTree.{FileTree, bytes_of, node_at, opened_at}
 use Rattle.machine_model.specs.declared.node.Node.{Node}
@@ -67,7 +67,7 @@ StandListing choices config handle (asked ∷ later) tree [] = ⊥
 StandListing choices config handle (asked ∷ later) tree (s ∷ steps) =
     ((s.place ≡ asked.0) × (s.request ≡ asked.1) × choices s.choice
     × StandListing choices config handle later (answer_to config tree s).1 steps)
-    ⊎ ((ClosesHandle s.request handle → ⊥) × (Lists s.request handle → ⊥)
+    ⊎ ((ClosesHandle s.request handle → ⊥) × (ListsEntries s.request handle → ⊥)
     × StandListing choices config handle (asked ∷ later) (answer_to config tree s).1 steps)
 
 -- A call opens a directory by the first step, and its further requests bear the handle that this was granted: they

@@ -11,7 +11,7 @@ use Rattle.session_model.specs.declared.entry.Entry.TheVariants as entry
 use Rattle.session_model.specs.Readings.{awaited, unsent_bytes}
 use Rattle.session_model.specs.Calls.{Setting}
 use Rattle.session_model.specs.Journals.{IsFree, MayTake}
-use Rattle.session_model.specs.Runs.{Opens, queried}
+use Rattle.session_model.specs.Runs.{OpensSession, queried}
 use Rattle.ssh_encoding.specs.Writing.{string}
 use Rattle.sftp_core.specs.declared.errors.TakeError.{TakeError}
 use Rattle.sftp_core.specs.Take.{IsFirst}
@@ -38,7 +38,7 @@ use Rattle.session_driver.specs.Session.{
   IsOpened,
   OpensOn,
   Limited,
-  Tells,
+  TakesLimitsReply,
   queried_with,
 }
 use Rattle.session_driver.proofs.Greeting.{queried_holds}
@@ -98,10 +98,10 @@ one_query id other r may = elim (eqb_tells id other) [ inl t ↦ t.1 | inr t ↦
     none : (id == other) ≡ false → ⊥
     none e = let b = rw e at may.1.0.0 in absurd cc
 
-tells_opens : (read : Result (Option ℕ × Reply) FrameError) (id : ℕ) (now : List Entry) → IsFree [] id → Tells read (queried id) now → Opens true now
+tells_opens : (read : Result (Option ℕ × Reply) FrameError) (id : ℕ) (now : List Entry) → IsFree [] id → TakesLimitsReply read (queried id) now → OpensSession true now
 tells_opens read id now free t =
     let same : id ≡ t.0 = one_query id t.0 t.1.0 t.1.1.1 in
-    subst (λ (k : ℕ). Opens true now) same (
+    subst (λ (k : ℕ). OpensSession true now) same (
       t.0,
       (
         t.1.0,
@@ -125,8 +125,8 @@ opened_now read a now work w l given version =
     record {
       same = given;
       fixed = fixed;
-      opens = subst (λ (t : Bool). Opens t now.stage.past) (sym limits)
-          (tells_opens read b.1.0 now.stage.past b.1.1.0 (subst (λ (p : List Entry). Tells read (entry.Event Send ∷ p)
+      opens = subst (λ (t : Bool). OpensSession t now.stage.past) (sym limits)
+          (tells_opens read b.1.0 now.stage.past b.1.1.0 (subst (λ (p : List Entry). TakesLimitsReply read (entry.Event Send ∷ p)
           now.stage.past) b.1.1.1 l.tells));
       later = l.later;
       is_open = l.is_open;

@@ -10,7 +10,7 @@ use Rattle.session_model.specs.Calls.{Setting}
 use Rattle.session_driver.specs.declared.session.Phase.TheVariants.{Open}
 use Rattle.session_driver.specs.Session.{Seen, KeepsMade, IsLater, IsUnmoved, StaysInPhase, Continues}
 use Rattle.session_driver.specs.Logs.{KeepsTrace, even}
-use Rattle.session_driver.specs.Ongoing.{At, at, IsReady, Part, Went, MayStop, StoppedAs, Stopped, Ongoing}
+use Rattle.session_driver.specs.Ongoing.{At, at, IsReady, Part, RunsToEnd, MayStop, StoppedAs, Stopped, Ongoing}
 use Rattle.session_exchange.proofs.Joining.{caused_on, caused_self}
 use Rattle.session_driver.proofs.Journals.{later_self, later_on}
 use Rattle.session_driver.proofs.Stopping.{keeps_on, stops_here, stops_behind, keeps_quietly}
@@ -46,7 +46,7 @@ module _ {S : Type 0} where
   -- one part, and then another
   pub went_on : {p q r : Part} {a b c : At S} → (p.whole a.seen.setting a.seen.stage b.seen.stage
       → q.whole a.seen.setting b.seen.stage c.seen.stage → r.whole a.seen.setting a.seen.stage c.seen.stage)
-      → Went p a b → Went q b c → Went r a c
+      → RunsToEnd p a b → RunsToEnd q b c → RunsToEnd r a c
   went_on {p = p} {q = q} {r = r} {a = a} {b = b} {c = c} joins first second =
       let same = setting_stays a.seen b.seen first.stays in
       record {
@@ -62,7 +62,7 @@ module _ {S : Type 0} where
   pub stopped_on : (p q r : Part) (a b c : At S) (e : Error) →
       (p.whole a.seen.setting a.seen.stage b.seen.stage → (past : List Entry)
       → q.so_far a.seen.setting b.seen.stage past → r.so_far a.seen.setting a.seen.stage past)
-      → Went p a b → Stopped q b c e → Stopped r a c e
+      → RunsToEnd p a b → Stopped q b c e → Stopped r a c e
   stopped_on p q r a b c e joins first second =
       let same = setting_stays a.seen b.seen first.stays in
       record {
@@ -161,6 +161,6 @@ module _ {S : Type 0} where
       }
 
   -- what follows where a part went on to its end
-  pub went_of : {p : Part} {a b : At S} {result : Result (Unit {0}) Error} (P : Type 0) → Ongoing p a b result → (Went p a b → P) → OnOk result P
+  pub went_of : {p : Part} {a b : At S} {result : Result (Unit {0}) Error} (P : Type 0) → Ongoing p a b result → (RunsToEnd p a b → P) → OnOk result P
   went_of {p = p} {a = a} {b = b} {result = Ok y} P part f = f part.went
   went_of {p = p} {a = a} {b = b} {result = Err e} P part f = tt

@@ -24,7 +24,7 @@ use Rattle.session_model.specs.Runs.{LetGoTo}
 use Rattle.session_driver.specs.RunsSoFar.{TurnSoFar, LetGoSoFar}
 use Rattle.session_driver.specs.declared.session.Stepped.{Stepped}
 use Rattle.session_driver.specs.declared.session.Stepped.TheVariants as stepped
-use Rattle.session_driver.specs.Session.{Seen, HasRefused, IsLater, StaysInPhase, Continues, StepsTo, Cancels, TakesAndSettles, LetsGo, HandsOut}
+use Rattle.session_driver.specs.Session.{Seen, HasRefused, IsLater, StaysInPhase, Continues, StepsTo, CancelsCall, TakesAndSettles, LetsGo, HandsOut}
 use Rattle.session_exchange.specs.Causes.{Caused, SentBy}
 use Rattle.session_driver.specs.Refusals.{refuses}
 use Rattle.session_exchange.specs.Refusals.{error_of}
@@ -171,21 +171,21 @@ abbrev ended_stage : ℕ → RunProgress → RunProgress
 ended_stage lane a = record { past = a.past; begun = begun_but a.begun lane }
 
 abbrev pub cancelling : ℕ → Bool → Part
-cancelling lane event = record { whole = λ s a b. Cancels s lane a b event; so_far = Nothing }
+cancelling lane event = record { whole = λ s a b. CancelsCall s lane a b event; so_far = Nothing }
 
 pub cancelled_on : {S : Type 0} (lane : ℕ) (event : Bool) (a b : Seen) (x : LinkView S)
-    → Cancels a.setting lane a.stage b.stage event → Continues a b → IsReady (at a x)
+    → CancelsCall a.setting lane a.stage b.stage event → Continues a b → IsReady (at a x)
     → Ongoing (cancelling lane event) (at a x) (at b x) (Ok tt)
 cancelled_on lane event a b x t goes ready = quiet (cancelling lane event) a b x tt t goes (cancel_keeps a.setting lane a.stage b.stage event t) ready
 
-pub cancel_settles : (s : Setting) (lane : ℕ) (event : Bool) (a b c : RunProgress) → event ≡ true → Cancels s lane a b event
+pub cancel_settles : (s : Setting) (lane : ℕ) (event : Bool) (a b c : RunProgress) → event ≡ true → CancelsCall s lane a b event
     → Settled s b c → TurnTo s (turn.Cancel lane) a c
 cancel_settles s lane event a b c is t settled = cancels_settle s lane a b c (ended_stage lane a) _ event is t settled
 
-pub cancel_nothing : (s : Setting) (lane : ℕ) (event : Bool) (a b : RunProgress) → event ≡ false → Cancels s lane a b event → TurnTo s (turn.Cancel lane) a b
+pub cancel_nothing : (s : Setting) (lane : ℕ) (event : Bool) (a b : RunProgress) → event ≡ false → CancelsCall s lane a b event → TurnTo s (turn.Cancel lane) a b
 cancel_nothing s lane event a b is t = cancels_nothing s lane a b (ended_stage lane a) _ event is t
 
-pub half_cancel : (s : Setting) (lane : ℕ) (event : Bool) (a b : RunProgress) → Cancels s lane a b event → (past : List Entry)
+pub half_cancel : (s : Setting) (lane : ℕ) (event : Bool) (a b : RunProgress) → CancelsCall s lane a b event → (past : List Entry)
     → past ≡ b.past → TurnSoFar s (turn.Cancel lane) a past
 half_cancel s lane event a b t past is =
     inr (record { now = b; event = cancels_by s lane a b (ended_stage lane a) _ event t; is = sym is })
@@ -325,13 +325,13 @@ step_is lane event a b x {c = c} some t goes ready settled =
     settled
 
 pub cancel_none : {S : Type 0} (lane : ℕ) (event : Bool) (a b : Seen) (x : LinkView S) → event ≡ false
-    → Cancels a.setting lane a.stage b.stage event → Continues a b → IsReady (at a x)
+    → CancelsCall a.setting lane a.stage b.stage event → Continues a b → IsReady (at a x)
     → Ongoing (turn_of (turn.Cancel lane)) (at a x) (at b x) (Ok tt)
 cancel_none lane event a b x is t goes ready = as_part (λ u. cancel_nothing a.setting lane event a.stage b.stage is u)
     (λ past nothing. inl nothing) (cancelled_on lane event a b x t goes ready)
 
 pub cancel_is : {S : Type 0} (lane : ℕ) (event : Bool) (a b : Seen) (x : LinkView S) {c : At S}
-    {result : Result (Unit {0}) Error} → event ≡ true → Cancels a.setting lane a.stage b.stage event → Continues a b
+    {result : Result (Unit {0}) Error} → event ≡ true → CancelsCall a.setting lane a.stage b.stage event → Continues a b
     → IsReady (at a x)
     → Ongoing settling (at b x) c result → Ongoing (turn_of (turn.Cancel lane)) (at a x) c result
 cancel_is lane event a b x {c = c} is t goes ready settled =

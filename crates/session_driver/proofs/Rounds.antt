@@ -39,7 +39,7 @@ use Rattle.session_model.specs.Turns.{RunProgress, TurnTo, is_full}
 use Rattle.session_driver.specs.RunsSoFar.{TurnSoFar, TurnsSoFar, RoundsSoFar, drain_of}
 use Rattle.session_model.proofs.WholeRunLaws.{Keeps, closes_keep, sends_keep, turns_pass, ends_pass}
 use Rattle.session_driver.specs.Ongoing.{Part, Nothing}
-use Rattle.session_model.specs.Runs.{TurnsTo, RoundsTo, EndsTo, LetGoTo, LetsGoTo, DrainsTo, Opens, IsRun, at_first, round_of}
+use Rattle.session_model.specs.Runs.{TurnsTo, RoundsTo, EndsTo, LetGoTo, LetsGoTo, DrainsTo, OpensSession, IsRun, at_first, round_of}
 use Rattle.session_driver.specs.Session.{at_rest}
 
 pub turns_more : (s : Setting) (ts : List Turn) (t : Turn) (a b c : RunProgress) → TurnsTo s ts a b → TurnTo s t b c → TurnsTo s (ts ++ t ∷ []) a c
@@ -94,7 +94,7 @@ go_holds s (suc n) a b go k le held =
     ∙ (ap (λ (t : Bool). if t then true else was_let_go go.0.past k) (not_same n k (omega (arith, le))) ∙ go_holds s n a go.0 go.1.0 k (omega (arith, le)) held)
 
 -- an opened session has let go of no lane
-pub opened_holds : (b : Bool) (past : List Entry) → Opens b past → (k : ℕ) → was_let_go past k ≡ false
+pub opened_holds : (b : Bool) (past : List Entry) → OpensSession b past → (k : ℕ) → was_let_go past k ≡ false
 opened_holds false past opens k = subst (λ (w : List Entry). was_let_go w k ≡ false) (sym opens) refl
 opened_holds true past opens k = subst (λ (w : List Entry). was_let_go w k ≡ false) (sym opens.1.1.2) refl
 
@@ -172,7 +172,7 @@ begins_at_first a none = λ i. record { past = a.past; begun = none i }
 
 -- the parts of a run, each from where the one before it stopped
 pub is_run : (s : Setting) (schedule : List Turn) (opened turned ended let_go drained : RunProgress)
-    → Opens s.limits opened.past → opened.begun ≡ at_rest.begun → TurnsTo s schedule opened turned
+    → OpensSession s.limits opened.past → opened.begun ≡ at_rest.begun → TurnsTo s schedule opened turned
     → EndsTo s (length s.lanes) turned ended
     → LetsGoTo s (length s.lanes) ended let_go → (n : ℕ) × DrainsTo s n let_go drained → unanswered drained.past ≡ 0 → IsRun s schedule drained.past
 is_run s schedule opened turned ended let_go drained opens none turns ends lets_go drains answered = (

@@ -56,7 +56,7 @@ use Rattle.session_model.specs.Readings.{AskedRequest, asked_at, awaited, awaiti
 use Rattle.session_model.specs.Settings.{setting_of}
 use Rattle.session_model.proofs.RequestLaws.{is_awaiting}
 use Rattle.session_exchange.specs.Causes.{Cause, IsUnsent}
-use Rattle.session_driver.specs.Logs.{Behind, BehindHello, Ends, GotUnusable}
+use Rattle.session_driver.specs.Logs.{Behind, BehindHello, EndsSession, GotUnusable}
 use Rattle.session_driver.specs.Refusals.{awaited_at, refuses, refuses_hello, refuses_limits, refuses_reply, sent_at}
 use Rattle.session_driver.specs.ServingLinks.{GivesGood, IsAllowed, IsOne, IsVersion, Read, ServesLanes}
 use Rattle.session_driver.specs.Session.{Given, IsLater}
@@ -171,7 +171,7 @@ unsent_only other u why = absurd u
 
 -- over a link that serves, a run stops only for want of memory
 pub only_memory : (given : Given) (turns : List Turn) (ended : Bool) (e : Error) (log : List Piece)
-    → ServesLanes given log ended → Ends given turns ended e [] log → Cause {T = Unit {0}} 0 0 (Err e) → e
+    → ServesLanes given log ended → EndsSession given turns ended e [] log → Cause {T = Unit {0}} 0 0 (Err e) → e
     ≡ error.OutOfMemory
 only_memory given turns ended e log serves (inl (inl part)) why = unsent_only e part.0 why
 only_memory given turns ended e log serves (inl (inr h)) why = hello_only ended e h.0 log (λ bytes. serves.greets h.0 bytes h.1.0) h.1.1 why
@@ -186,9 +186,9 @@ no_cause before now other same why = refl
 
 -- how a run ends over a link whose log was empty
 pub completes : (given : Given) (turns : List Turn) (ended : Bool) (e : Error) (faults faults_now : ℕ) (x y : Option (List Piece))
-    → Told (Ends given turns ended e) x y → Cause {T = Unit {0}} faults faults_now (Err e) → (log : List Piece) → x ≡ Some []
+    → Told (EndsSession given turns ended e) x y → Cause {T = Unit {0}} faults faults_now (Err e) → (log : List Piece) → x ≡ Some []
     → y ≡ Some log → ServesLanes given log ended → faults_now ≡ faults → e ≡ error.OutOfMemory
 completes given turns ended e faults faults_now x y told why log empty shows serves same =
-    let ends : Ends given turns ended e [] log = subst (λ (w : Option (List Piece)). Told (Ends given turns ended e) (Some []) w) shows
-    (subst (λ (w : Option (List Piece)). Told (Ends given turns ended e) w y) empty told) in
+    let ends : EndsSession given turns ended e [] log = subst (λ (w : Option (List Piece)). Told (EndsSession given turns ended e) (Some []) w) shows
+    (subst (λ (w : Option (List Piece)). Told (EndsSession given turns ended e) w y) empty told) in
     only_memory given turns ended e log serves ends (no_cause faults faults_now e same why)

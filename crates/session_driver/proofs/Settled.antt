@@ -10,7 +10,7 @@ use Rattle.session_model.specs.Calls.{Setting}
 use Rattle.session_model.specs.Settings.{facts_of, limits_told}
 use Rattle.sftp_model.specs.Lengths.{offers_limits}
 use Rattle.session_model.specs.Journals.{IsNext}
-use Rattle.session_model.specs.Runs.{Opens, queried}
+use Rattle.session_model.specs.Runs.{OpensSession, queried}
 use Rattle.session_model.proofs.CallLaws.{next_take}
 use Rattle.session_model.proofs.RequestLaws.{answer_stays, answer_new}
 use Rattle.session_driver.specs.Session.{Given, IsFixed, IsLater}
@@ -32,7 +32,7 @@ later_answers s a (e ∷ past) p q (inl same) is = subst (λ (w : List Entry). a
 later_answers s a (e ∷ past) p q (inr l) is = next_answers s past e p q l.0 (later_answers s a past p q l.1 is)
 
 -- the reply to the query for limits
-answered : (past : List Entry) → Opens true past → (r : Reply) × (answer past 0 ≡ Some r)
+answered : (past : List Entry) → OpensSession true past → (r : Reply) × (answer past 0 ≡ Some r)
 answered past opens =
     let id = opens.0 in
     let r = opens.1.0 in
@@ -42,15 +42,15 @@ answered past opens =
     let borne : bearer (queried id) id ≡ Some 0 = may.1.0.0 ∙ ap (λ (n : ℕ). Some n) first in
     (r, ap (λ (w : List Entry). answer w 0) opens.1.1.2 ∙ answer_new (queried id) id 0 r borne)
 
-told_same : (l : Bool) (s : Setting) (a b : List Entry) → s.limits ≡ l → Opens s.limits a → IsLater s a b
+told_same : (l : Bool) (s : Setting) (a b : List Entry) → s.limits ≡ l → OpensSession s.limits a → IsLater s a b
     → limits_told l (answer a 0) ≡ limits_told l (answer b 0)
 told_same false s a b is opens later = refl
 told_same true s a b is opens later =
-    let came = answered a (subst (λ (l : Bool). Opens l a) is opens) in
+    let came = answered a (subst (λ (l : Bool). OpensSession l a) is opens) in
     ap (limits_told true) (came.1 ∙ sym (later_answers s a b 0 came.0 later came.1))
 
 pub still_fixed : (given : Given) (version : Option Reply) (a b : List Entry) (s : Setting) → IsFixed given version a s
-    → Opens s.limits a → IsLater s a b → IsFixed given version b s
+    → OpensSession s.limits a → IsLater s a b → IsFixed given version b s
 still_fixed given version a b s fixed opens later =
     let extensions = fixed.0 in
     let same = told_same (offers_limits extensions) s a b (ap (λ (t : Setting). t.limits) fixed.1.1) opens later in

@@ -41,7 +41,7 @@ use Rattle.session_model.specs.Readings.{asked, sent, awaited, ended}
 use Rattle.session_model.specs.Calls.{Setting, move_of}
 use Rattle.session_model.specs.Journals.{MayTake, cancelled_end}
 use Rattle.session_model.specs.Turns.{RunProgress, ClosesTo, SettlesTo, RulesTo, TurnTo, MovesBy, begun_but, is_full}
-use Rattle.session_model.specs.Runs.{TurnsTo, RoundsTo, EndsTo, LetsGoTo, DrainsTo, Opens, at_first, round_of}
+use Rattle.session_model.specs.Runs.{TurnsTo, RoundsTo, EndsTo, LetsGoTo, DrainsTo, OpensSession, at_first, round_of}
 use Rattle.session_model.specs.RowWords.{submit, open_of}
 use Rattle.session_model.specs.SlotRows.{two_lanes}
 use Rattle.session_driver.specs.RunsSoFar.{
@@ -194,7 +194,7 @@ so_far_drains s a past p = both a.past p.mid.past past (by_drains s p.drains a p
 abbrev BeginsWith : ℕ → Request → List Entry → Type 0
 BeginsWith lane r past = (id : ℕ) × Extends (submit lane 0 id r ∷ []) past
 
-none_opened : (limits : Bool) (past : List Entry) → limits ≡ false → Opens limits past → past ≡ []
+none_opened : (limits : Bool) (past : List Entry) → limits ≡ false → OpensSession limits past → past ≡ []
 none_opened true past is opens = absurd cc
 none_opened false past is opens = opens
 
@@ -213,10 +213,10 @@ goes_on : (lane : ℕ) (r : Request) (past now : List Entry) → BeginsWith lane
 goes_on lane r past now b more = (b.0, both (submit lane 0 b.0 r ∷ []) past now b.1 more)
 
 module _ (s : Setting) (lane : ℕ) (turns : List Turn) (r : Request) (unasked : s.limits ≡ false) (moves : move_of s [] lane ≡ Some (Ask r)) where
-  none_at_first : (opened : List Entry) → Opens s.limits opened → opened ≡ []
+  none_at_first : (opened : List Entry) → OpensSession s.limits opened → opened ≡ []
   none_at_first opened opens = none_opened s.limits opened unasked opens
 
-  turned_first : (opened : List Entry) (turned : RunProgress) → Opens s.limits opened
+  turned_first : (opened : List Entry) (turned : RunProgress) → OpensSession s.limits opened
       → TurnsTo s (turn.Step lane ∷ turns) (at_first opened) turned → BeginsWith lane r turned.past
   turned_first opened turned opens t =
       let none = none_at_first opened opens in
@@ -225,7 +225,7 @@ module _ (s : Setting) (lane : ℕ) (turns : List Turn) (r : Request) (unasked :
       (ap (λ (p : List Entry). move_of s p lane) none ∙ moves) t.1.0)
       (by_turns s turns t.0 turned t.1.1)
 
-  so_far_first : (opened past : List Entry) → Opens s.limits opened
+  so_far_first : (opened past : List Entry) → OpensSession s.limits opened
       → TurnsSoFar s (turn.Step lane ∷ turns) (at_first opened) past → (past ≡ []) ⊎ BeginsWith lane r past
   so_far_first opened past opens (inl (inl is)) = inl (is ∙ none_at_first opened opens)
   so_far_first opened past opens (inl (inr half)) =

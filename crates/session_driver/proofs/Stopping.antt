@@ -26,7 +26,7 @@ use Rattle.session_model.specs.Turns.{RunProgress, ClosesTo, SettlesTo}
 use Rattle.session_model.specs.Shown.{Shows, hello_frame}
 use Rattle.session_driver.specs.declared.session.Phase.{Phase}
 use Rattle.session_driver.specs.declared.session.Stepped.{Stepped}
-use Rattle.session_driver.specs.Session.{BeginsWithQuery, Given, IsLater, IsSoFar, StepsTo, Cancels, TakesAndSettles, Tells}
+use Rattle.session_driver.specs.Session.{BeginsWithQuery, Given, IsLater, IsSoFar, StepsTo, CancelsCall, TakesAndSettles, TakesLimitsReply}
 use Rattle.session_exchange.specs.Causes.{EndCause, IsUnsent}
 use Rattle.session_driver.specs.Refusals.{Notes, refuses, refuses_hello}
 use Rattle.session_exchange.specs.Refusals.{error_of}
@@ -74,7 +74,7 @@ cancels_keep s lane before now true event Begun t log hello first shown =
     closes_keep s (cancelled_end (entry.Event (Cancel lane) ∷ before.past) lane ∷ entry.Event (Cancel lane) ∷ before.past) now.past hello first log t.2.0 shown
 cancels_keep s lane before now false event Begun t log hello first shown = same_keep before now t.1 log hello first shown
 
-pub cancel_keeps : (s : Setting) (lane : ℕ) (before now : RunProgress) (event : Bool) → Cancels s lane before now event
+pub cancel_keeps : (s : Setting) (lane : ℕ) (before now : RunProgress) (event : Bool) → CancelsCall s lane before now event
     → (log : List Piece) → KeepsTrace before.past now.past log log
 cancel_keeps s lane before now event t = cancels_keep s lane before now _ event _ t
 
@@ -325,7 +325,7 @@ keeps_sent past now bytes x y is same told =
 
 -- its reply was got and taken
 pub keeps_told : (before now : List Entry) (body bytes : List ℕ) (x y : Option (List Piece))
-    → Tells (reply_at body) before now → bytes ≡ string body → length body ≤ 1048575 → Told (GotAll bytes) x y
+    → TakesLimitsReply (reply_at body) before now → bytes ≡ string body → length body ≤ 1048575 → Told (GotAll bytes) x y
     → Told (KeepsTrace before now) x y
 keeps_told before now body bytes x y t framed short told =
     told_as _ _ x y told

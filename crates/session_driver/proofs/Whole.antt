@@ -9,7 +9,7 @@ use Rattle.session_model.specs.declared.entry.Entry.{Entry}
 use Rattle.session_model.specs.Readings.{was_let_go}
 use Rattle.session_model.specs.Calls.{Setting, current}
 use Rattle.session_model.specs.Turns.{RunProgress}
-use Rattle.session_model.specs.Runs.{TurnsTo, EndsTo, LetsGoTo, Opens, IsRun, at_first}
+use Rattle.session_model.specs.Runs.{TurnsTo, EndsTo, LetsGoTo, OpensSession, IsRun, at_first}
 use Rattle.session_driver.specs.RunsSoFar.{OpensSoFar, RunSoFar, in_opening, in_turns, in_rounds, in_letting_go, in_drains}
 use Rattle.session_driver.specs.Session.{Given, Seen, IsFixed, IsOpened, IsSoFar, at_rest}
 use Rattle.session_exchange.specs.Causes.{Caused}
@@ -40,8 +40,8 @@ pub record Gone (schedule : List Turn) (s : Setting) (a c : RunProgress) : Type 
 -- a run from where the session was opened
 abbrev pub run_on : List Turn → Part
 run_on schedule = record {
-  whole = λ s a c. Opens s.limits a.past → a.begun ≡ at_rest.begun → IsRun s schedule c.past;
-  so_far = λ s a past. Opens s.limits a.past → a.begun ≡ at_rest.begun → RunSoFar s schedule past;
+  whole = λ s a c. OpensSession s.limits a.past → a.begun ≡ at_rest.begun → IsRun s schedule c.past;
+  so_far = λ s a past. OpensSession s.limits a.past → a.begun ≡ at_rest.begun → RunSoFar s schedule past;
 }
 
 abbrev pub to_ends : List Turn → Part
@@ -103,7 +103,7 @@ module _ {S : Type 0} where
       subst (λ (s : Setting). current s b.seen.stage.past k ≡ None) (sym same)
       (ended_done a.seen.setting (length a.seen.setting.lanes) r.turned b.seen.stage r.ends k (subst (λ (s : Setting). k < length s.lanes) same lt))
 
-  pub all_held : (schedule : List Turn) {a b : At S} {u : Unit {0}} → Opens a.seen.setting.limits a.seen.stage.past
+  pub all_held : (schedule : List Turn) {a b : At S} {u : Unit {0}} → OpensSession a.seen.setting.limits a.seen.stage.past
       → Ongoing (to_ends schedule) a b (Ok u) → (k : ℕ) → was_let_go b.seen.stage.past k ≡ false
   all_held schedule {a = a} {b = b} opens ended k =
       let r = ended.went.whole in

@@ -134,5 +134,5 @@ abbrev pub EndsAs : Given → (Setting → List Entry → Type 0) → Bool → E
 EndsAs given such ended e before after = HelloStops ended e before after ⊎ StopsOpen given such ended e before after
 
 -- where a session stops: VERSION was not taken, or the journal is a run so far of the lanes under the schedule
-abbrev pub Ends : Given → List Turn → Bool → Error → List Piece → List Piece → Type 0
-Ends given schedule = EndsAs given (λ s. RunSoFar s schedule)
+abbrev pub EndsSession : Given → List Turn → Bool → Error → List Piece → List Piece → Type 0
+EndsSession given schedule = EndsAs given (λ s. RunSoFar s schedule)

@@ -45,7 +45,7 @@ use Rattle.session_driver.specs.RunsSoFar.{
 use Rattle.session_driver.specs.declared.session.Phase.TheVariants.{Open}
 use Rattle.session_driver.specs.Session.{Seen, Flushed, KeepsMade, IsFixed, IsLater, IsSoFar, StaysInPhase}
 use Rattle.session_exchange.specs.Causes.{Caused}
-use Rattle.session_driver.specs.Logs.{Behind, Ends, HasRun, HelloStops, IsAhead, KeepsTrace, Showing, StopsAt}
+use Rattle.session_driver.specs.Logs.{Behind, EndsSession, HasRun, HelloStops, IsAhead, KeepsTrace, Showing, StopsAt}
 
 -- ---- where a run stands
 
@@ -126,7 +126,7 @@ draining = record { whole = Drained; so_far = DrainsSoFar }
 
 -- A part went on to its end: the journal by that part alone, and the link's log shows it, where it showed the journal
 -- before.
-pub record Went {Service : Type 0} (p : Part) (before now : At Service) : Type 0 where
+pub record RunsToEnd {Service : Type 0} (p : Part) (before now : At Service) : Type 0 where
   pub whole : p.whole before.seen.setting before.seen.stage now.seen.stage
   pub later : IsLater before.seen.setting before.seen.stage.past now.seen.stage.past
   pub stays : StaysInPhase before.seen now.seen
@@ -155,7 +155,7 @@ Stopped p before now e = StoppedAs (MayStop p before.seen) before now e
 -- A part of a run, whole or stopped.
 pub record Ongoing {Service : Type 0} (p : Part) (before now : At Service) (result : Result (Unit {0}) Error) : Type 0
   where
-    pub went : OnOk result (Went p before now)
+    pub went : OnOk result (RunsToEnd p before now)
     pub stopped : IfErr result (Stopped p before now)
     pub caused : Caused before.link now.link result
 
@@ -201,6 +201,7 @@ pub record Drives {Service : Type 0} (schedule : List Turn) (before now : At Ser
   pub left : IfErr result (HasStopped (λ s. RunSoFar s schedule) before now)
   pub caused : Caused before.link now.link result
   -- what follows: how the log ends, and that over a link that serves it stops only for want of memory
-  pub stops : IfErr result (λ e. Told (Ends before.seen.given schedule now.link.ended e) before.link.log now.link.log)
+  pub stops : IfErr result (λ e. Told (EndsSession before.seen.given schedule now.link.ended e) before.link.log
+      now.link.log)
   pub complete : IfErr result (λ e. (log : List Piece) → before.link.log ≡ Some [] → now.link.log ≡ Some log
       → ServesLanes before.seen.given log now.link.ended → now.link.faults ≡ before.link.faults → e ≡ error.OutOfMemory)

@@ -17,7 +17,7 @@ use Rattle.session_model.specs.Runs.{
   EndsTo,
   LetsGoTo,
   DrainsTo,
-  Opens,
+  OpensSession,
   IsRun,
   at_first,
   queried,
@@ -97,15 +97,15 @@ OpensSoFar true past =
 -- the journal of a run of the lanes under these turns, as far as it has come
 pub data RunSoFar (s : Setting) (schedule : List Turn) (past : List Entry) : Type 0 where
   in_opening : OpensSoFar s.limits past → RunSoFar s schedule past
-  in_turns : (opened : List Entry) → Opens s.limits opened → TurnsSoFar s schedule (at_first opened) past
+  in_turns : (opened : List Entry) → OpensSession s.limits opened → TurnsSoFar s schedule (at_first opened) past
       → RunSoFar s schedule past
-  in_rounds : (opened : List Entry) (turned : RunProgress) → Opens s.limits opened
+  in_rounds : (opened : List Entry) (turned : RunProgress) → OpensSession s.limits opened
       → TurnsTo s schedule (at_first opened) turned
       → EndsSoFar s (length s.lanes) turned past → RunSoFar s schedule past
-  in_letting_go : (opened : List Entry) (turned ended : RunProgress) → Opens s.limits opened
+  in_letting_go : (opened : List Entry) (turned ended : RunProgress) → OpensSession s.limits opened
       → TurnsTo s schedule (at_first opened) turned
       → EndsTo s (length s.lanes) turned ended → LetsGoSoFar s (length s.lanes) ended past → RunSoFar s schedule past
-  in_drains : (opened : List Entry) (turned ended let_go : RunProgress) → Opens s.limits opened
+  in_drains : (opened : List Entry) (turned ended let_go : RunProgress) → OpensSession s.limits opened
       → TurnsTo s schedule (at_first opened) turned
       → EndsTo s (length s.lanes) turned ended → LetsGoTo s (length s.lanes) ended let_go → DrainsSoFar s let_go past
       → RunSoFar s schedule past

@@ -42,7 +42,7 @@ use Rattle.session_model.specs.Settings.{greeting, setting_of}
 use Rattle.sftp_model.specs.Lengths.{offers_limits}
 use Rattle.session_model.specs.Grants.{next_due}
 use Rattle.session_model.specs.Journals.{IsNext, IsFree, MayTake, cancelled_end}
-use Rattle.session_model.specs.Runs.{Opens, at_first}
+use Rattle.session_model.specs.Runs.{OpensSession, at_first}
 use Rattle.session_model.specs.Turns.{RunProgress, SettlesTo, begun_with, begun_but}
 use Rattle.session_driver.specs.Refusals.{Notes}
 use Rattle.session_driver.specs.declared.session.Phase.{Phase}
@@ -117,8 +117,8 @@ pub record Greets (body_reads : Result (Option ℕ × Reply) FrameError) (given 
   pub reads : body_reads ≡ Ok (None, greeting welcomed.extensions)
 
 -- a body is the reply to the query for limits, and the session goes by it
-abbrev pub Tells : Result (Option ℕ × Reply) FrameError → List Entry → List Entry → Type 0
-Tells body_reads before now =
+abbrev pub TakesLimitsReply : Result (Option ℕ × Reply) FrameError → List Entry → List Entry → Type 0
+TakesLimitsReply body_reads before now =
     (id : ℕ) × ((r : Reply) × ((body_reads ≡ Ok (Some id, r)) × MayTake before id r
     × (now ≡ entry.Event (Take id r) ∷ before)))
 
@@ -126,7 +126,7 @@ Tells body_reads before now =
 pub record IsOpened (given : Given) (now : Seen) : Type 0 where
   pub same : now.given ≡ given
   pub fixed : IsFixed given now.version now.stage.past now.setting
-  pub opens : Opens now.setting.limits now.stage.past
+  pub opens : OpensSession now.setting.limits now.stage.past
   pub later : IsLater now.setting [] now.stage.past
   pub is_open : now.phase ≡ Open
   pub begun : now.stage.begun ≡ at_rest.begun
@@ -138,7 +138,7 @@ pub record OpensOn (before now : Seen) : Type 0 where
 
 -- a body is the reply to the query for limits, it was taken, and the session goes by it
 pub record Limited (body_reads : Result (Option ℕ × Reply) FrameError) (before now : Seen) : Type 0 where
-  pub tells : Tells body_reads before.stage.past now.stage.past
+  pub tells : TakesLimitsReply body_reads before.stage.past now.stage.past
   pub is_open : now.phase ≡ Open
   pub begun : now.stage.begun ≡ before.stage.begun
   pub later : IsLater now.setting [] now.stage.past
@@ -199,8 +199,8 @@ StepsTo s lane before now (Some (Done o site)) event =
     × SettlesTo s (entry.Event (End lane (ended before.past lane) o) ∷ before.past) now.past
 
 -- the call of a begun lane is cancelled, and the CLOSEs that are due then
-abbrev pub Cancels : Setting → ℕ → RunProgress → RunProgress → Bool → Type 0
-Cancels s lane before now event =
+abbrev pub CancelsCall : Setting → ℕ → RunProgress → RunProgress → Bool → Type 0
+CancelsCall s lane before now event =
     MatchBool (is_some (current s before.past lane) && before.begun lane)
     ((event ≡ true) × (now.begun ≡ begun_but before.begun lane)
     × SettlesTo s (cancelled_end (entry.Event (Cancel lane) ∷ before.past) lane ∷ entry.Event (Cancel lane) ∷

@@ -6,7 +6,7 @@ ghost use Rattle.session_model.specs.Calls.{current, move_of};
 ghost use Rattle.session_model.specs.Readings.{awaited, unanswered, unsent_bytes, was_let_go};
 ghost use Rattle.session_model.specs.Shown.{hello_frame};
 ghost use Rattle.session_model.specs.Turns.{is_full};
-ghost use Rattle.session_driver.specs.Session.{Seen, Continues, HasRefused, IsUnmoved, StaysInPhase, IsLater, Greets, Limited, StepsTo, Cancels, TakesAndSettles, HandsOut, LetsGo, IsGreeted, IsQueried, is_event, LessBy, at_rest};
+ghost use Rattle.session_driver.specs.Session.{Seen, Continues, HasRefused, IsUnmoved, StaysInPhase, IsLater, Greets, Limited, StepsTo, CancelsCall, TakesAndSettles, HandsOut, LetsGo, IsGreeted, IsQueried, is_event, LessBy, at_rest};
 ghost use Rattle.sftp_core.specs.Take.{IsFirst};
 ghost use Rattle.session_driver.specs.Refusals.{refuses, refuses_hello};
 
@@ -95,7 +95,7 @@ pub trait RunsLanes {
     /// Cancels the call of a lane that was begun, and answers whether it was. Refused for want of memory.
     fn cancel(&mut self, lane: u32) -> Result<bool, OutOfMemory>
         requires open { (seen self.old).phase ≡ Phase.Open }
-        ensures ok { IfOk result (λ event. Cancels (seen self.old).setting lane (seen self.old).stage (seen self.new).stage event) }
+        ensures ok { IfOk result (λ event. CancelsCall (seen self.old).setting lane (seen self.old).stage (seen self.new).stage event) }
         ensures goes { OnOk result (Continues (seen self.old) (seen self.new)) }
         ensures left { OnErr result (IsUnmoved (seen self.old) (seen self.new)) };
 

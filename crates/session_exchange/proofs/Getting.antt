@@ -39,7 +39,7 @@ use Rattle.sftp_link.specs.declared.device_error.DeviceError.TheVariants as devi
 use Rattle.sftp_link.specs.declared.piece.Piece.{Piece}
 use Rattle.sftp_link.specs.declared.piece.Piece.TheVariants.{Sent, Got}
 use Rattle.sftp_link.specs.Log.{AllSent, AllGot, SentOn, GotOn}
-use Rattle.sftp_link.specs.Told.{Told, GotLess, GotAll, Fills}
+use Rattle.sftp_link.specs.Told.{Told, GotLess, GotAll, FillsRoom}
 use Rattle.sftp_wire.specs.FrameReader.{Received, Pushed, nothing, need_of, need_where, fault_of, fault_of_len, fault_where, fault_with, missing, told_len}
 use Rattle.session_exchange.specs.Causes.{fault_of_link}
 use Rattle.session_exchange.specs.Reading.{Pulled, PullFails, ReadFails, Grown, IsFramePrefix, IsFramePart, IsPartway, IsOfOneFrame, IsBadLength}
@@ -217,10 +217,10 @@ pub first_part : (old new : Received) (x y : List Piece) → old ≡ nothing →
 first_part old new x y none more =
     subst (λ (w : List ℕ). GotOn x y w) (sym (more.1.0 ∙ ap (λ (r : Received). r.bytes ++ more.0) none)) more.1.1
 
-pub less_of : (room : List ℕ) (x y : Option (List Piece)) (full : Bool) → full ≡ false → Fills room x y (Ok full) → Told (GotLess room) x y
+pub less_of : (room : List ℕ) (x y : Option (List Piece)) (full : Bool) → full ≡ false → FillsRoom room x y (Ok full) → Told (GotLess room) x y
 less_of room x y true is f = absurd cc
 less_of room x y false is f = f
 
-pub all_of : (room : List ℕ) (x y : Option (List Piece)) (full : Bool) → full ≡ true → Fills room x y (Ok full) → Told (GotAll room) x y
+pub all_of : (room : List ℕ) (x y : Option (List Piece)) (full : Bool) → full ≡ true → FillsRoom room x y (Ok full) → Told (GotAll room) x y
 all_of room x y true is f = f
 all_of room x y false is f = absurd cc

@@ -48,9 +48,9 @@ use Rattle.session_lane.specs.Turning.{
   HoldsNamed,
   IsActive,
   MayAsk,
-  Settles,
+  SettlesMove,
   SettlesMeanwhile,
-  Submits,
+  SubmitsRequest,
   Turned,
   Replied,
   Unreplied,
@@ -70,7 +70,7 @@ no_close (ask.Close g) other = absurd (other g refl)
 no_close a other = tt
 
 plainly : (old new : Core) (tickets now : List Ticketed) (grants : List Held) (place id : ℕ) (a : Asked) (r : Request)
-    → IsNoClose a → Submits old new tickets now grants grants place a id r
+    → IsNoClose a → SubmitsRequest old new tickets now grants grants place a id r
     → AsksOrCloses old new tickets now grants grants place a id r
 plainly old new tickets now grants place id (ask.Close g) r other x = absurd other
 plainly old new tickets now grants place id a r other x = x
@@ -111,7 +111,7 @@ pub turned_replied : (c : Call) (facts : Facts) (place : ℕ) (core between new 
     → awaited r v.site ≡ Some p → Spent core between v.tickets tickets v.grants grants p y
     → WentOn r (Some y) c facts place v.site now.site n → GoesOnAsking (opened_after r (Some y)) place
     (reads_under (Some r)) v.site now.site n → GoesOnBy r (Some y) place facts n → now.ended ≡ v.ended
-    → IfOk o (λ m. Settles between new tickets now.tickets grants now.grants now.running place n m) → IfOk o (λ m. Turned c facts place core new v now m)
+    → IfOk o (λ m. SettlesMove between new tickets now.tickets grants now.grants now.running place n m) → IfOk o (λ m. Turned c facts place core new v now m)
 turned_replied c facts place core between new v now r p y tickets grants n (Err e) was looks spent ran asks by ended settles = settles
 turned_replied c facts place core between new v now r p y tickets grants n (Ok m) was looks spent ran asks by ended settles =
     Replied (record {
@@ -137,7 +137,7 @@ pub turned_unreplied : (c : Call) (facts : Facts) (place : ℕ) (core new : Core
     (n : Next) (o : Result Moved OutOfMemory) → v.running ≡ Some r → awaited r v.site ≡ None
     → WentOn r None c facts place v.site now.site n
     → GoesOnAsking (opened_after r None) place (reads_under (Some r)) v.site now.site n → GoesOnBy r None place facts n
-    → now.ended ≡ v.ended → IfOk o (λ m. Settles core new v.tickets now.tickets v.grants now.grants now.running
+    → now.ended ≡ v.ended → IfOk o (λ m. SettlesMove core new v.tickets now.tickets v.grants now.grants now.running
     place n m) → IfOk o (λ m. Turned c facts place core new v now m)
 turned_unreplied c facts place core new v now r n (Err e) was looks ran asks by ended settles = settles
 turned_unreplied c facts place core new v now r n (Ok m) was looks ran asks by ended settles =

@@ -82,7 +82,7 @@ use Rattle.session_laws.proofs.AskedLaws.{asks_on, read_on}
 use Rattle.session_laws.proofs.TransferLaws.{place_below}
 use Rattle.session_laws.proofs.CountedLaws.{counted_ask, counted_close, released_is, weigh_ask, weigh_close}
 use Rattle.session_lane.specs.Tokens.{Bears}
-use Rattle.session_lane.specs.Turning.{Releases, Submits}
+use Rattle.session_lane.specs.Turning.{ReleasesGrant, SubmitsRequest}
 use Rattle.session_lane.specs.Holding.{TurnTied}
 use Rattle.session_lane.specs.Rests.{AskedOwn as IsAsked}
 use Rattle.session_lane.specs.declared.lane.Moved.TheVariants as moved
@@ -128,7 +128,7 @@ pub record Under (past : List Entry) (core new : Core) (lane id : ℕ) (a : Ask_
 pub submitted_under : (s : Setting) (past : List Entry) (core c new : Core) (lanes : ℕ → LaneValue) (lane id : ℕ)
     (tickets now : List Ticketed) (grants held : List Held) (a : Ask_of) (q : Request)
     → SessionTied s past core lanes [] → Midway past core c → Bears grants (answer past)
-    → Submits c new tickets now grants held (asked past) a id q → Under past core new lane id a q
+    → SubmitsRequest c new tickets now grants held (asked past) a id q → Under past core new lane id a q
 submitted_under s past core c new lanes lane id tickets now grants held a q h m bears x =
     record {
       free = unwaiting_free past (among past (tickets_of lanes)) (among past (grants_of lanes)) (at core) id h.table
@@ -146,7 +146,7 @@ pub released_under : (s : Setting) (past : List Entry) (core new : Core) (lanes 
     (tickets now : List Ticketed) (grants held : List Held) (q : Request) → SessionTied s past core lanes []
     → Counted past core
     → ((k : ℕ) (h : Held) → slice_get grants k ≡ Some h → at core h.grant.id ≡ Some (Granted h.grant.handle 1))
-    → Releases core new tickets now grants held (asked past) g id q → Under past core new lane id (ask.Close g) q
+    → ReleasesGrant core new tickets now grants held (asked past) g id q → Under past core new lane id (ask.Close g) q
 released_under s past core new lanes lane g id tickets now grants held q h counted stands x =
     (let here : at core x.grant.id ≡ Some (Granted x.grant.handle 1) = stands x.k (record { place = g; grant = x.grant }) x.here in
     let there : at core id ≡ Some (Granted x.grant.handle 1) = ap (at core) x.same ∙ here in

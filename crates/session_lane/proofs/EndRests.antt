@@ -54,7 +54,7 @@ use Rattle.session_laws.specs.Rest.{AtRest, Counted, IsTransferAt, LaneAsks, awa
 use Rattle.session_laws.proofs.AskedLaws.{asks_on}
 use Rattle.plan_runner.specs.declared.next.Running.{Running}
 use Rattle.session_lane.specs.Holding.{TurnTied}
-use Rattle.session_lane.specs.Rests.{Ended, GoesWithoutEntry, Waits}
+use Rattle.session_lane.specs.Rests.{Ended, GoesWithoutEntry, LaneWaits}
 use Rattle.plan_model.specs.declared.call.Call.{Call}
 use Rattle.session_lane.specs.Turning.{TurnWaits}
 use Rattle.session_lane.specs.declared.lane.Moved.TheVariants as moved
@@ -140,7 +140,7 @@ pub waits_rest : (s : Setting) (past : List Entry) (core new : Core) (lanes : �
     (lane : ℕ) (c : Call) (now : LaneValue) → AtRest s past core lanes begun → lane < length s.lanes
     → TurnWaits c s.facts core new (lanes lane) now moved.Waits
     → TurnTied s past new (with_lane lanes lane) lane now moved.Waits → Spends s past new (with_lane lanes lane now)
-    → Waits s past core new (with_lane lanes lane now) begun lane
+    → LaneWaits s past core new (with_lane lanes lane now) begun lane
 waits_rest s past core new lanes begun lane c now h there x t spent =
     let b = h.between in
     let v : LaneValue = lanes lane in

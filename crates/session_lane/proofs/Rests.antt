@@ -65,7 +65,7 @@ use Rattle.session_laws.proofs.CountedLaws.{counted_polled, weigh_polled}
 use Rattle.session_lane.specs.Tokens.{Bears}
 use Rattle.session_lane.specs.Turning.{
   Began,
-  Settles,
+  SettlesMove,
   TurnReplied,
   TurnUnreplied,
   TurnWaits,
@@ -202,7 +202,7 @@ settles_on : (s : Setting) (past : List Entry) (core c new : Core) (lanes : ℕ 
     → ((p : ℕ) → is_in p (ticket_places tickets) ≡ true → IsTransferAt past p)
     → ((g : ℕ) → opened ≡ Some g → is_in g (grant_places grants) ≡ true)
     → GoesOnAsking opened (asked past) reads old now.site n → ((x : ReadAt) → IsAmong x reads → IsReadAt past x)
-    → now.ended ≡ (lanes lane).ended → Settles c new tickets now.tickets grants now.grants now.running (asked past) n m
+    → now.ended ≡ (lanes lane).ended → SettlesMove c new tickets now.tickets grants now.grants now.running (asked past) n m
     → TurnTied s past new (with_lane lanes lane) lane now m → SpendsOn s past new lanes lane now m
     → LeavesLane s past core new lanes begun lane now m
 settles_on s past core c new lanes begun lane now tickets grants opened reads old (step.Wait r) m h there small mid
@@ -254,7 +254,7 @@ begins_on : (s : Setting) (past : List Entry) (core new : Core) (lanes : ℕ →
     (now : LaneValue) (m : Moved) (n : Next) → AtRest s past core lanes begun → lane < length s.lanes → IsSmall m
     → GoesOnAsking None (asked past) [] (lanes lane).site now.site n
     → now.ended ≡ (lanes lane).ended → (lanes lane).running ≡ None
-    → Settles core new (lanes lane).tickets now.tickets (lanes lane).grants now.grants now.running (asked past) n m
+    → SettlesMove core new (lanes lane).tickets now.tickets (lanes lane).grants now.grants now.running (asked past) n m
     → TurnTied s past new (with_lane lanes lane) lane now m → SpendsOn s past new lanes lane now m
     → LeavesLane s past core new lanes begun lane now m
 begins_on s past core new lanes begun lane now m n h there small asks same idle settles t ids =
@@ -275,7 +275,7 @@ begins_waiting : (s : Setting) (past : List Entry) (core new : Core) (lanes : �
     (lane : ℕ) (c : Call) (now : LaneValue) (m : Moved) (r : Running) → AtRest s past core lanes begun
     → lane < length s.lanes → (lanes lane).running ≡ None
     → Looks None [] now.site r → now.site ≡ (lanes lane).site → Sound r (bytes_of c) now.site s.facts
-    → Settles core new (lanes lane).tickets now.tickets (lanes lane).grants now.grants now.running (asked past)
+    → SettlesMove core new (lanes lane).tickets now.tickets (lanes lane).grants now.grants now.running (asked past)
     (step.Wait r) m → TurnTied s past new (with_lane lanes lane) lane now m
     → SpendsOn s past new lanes lane now m → LeavesLane s past core new lanes begun lane now m
 begins_waiting s past core new lanes begun lane c now m r h there idle looks same sound settles t ids =
@@ -298,7 +298,7 @@ begins_rest : (s : Setting) (past : List Entry) (core new : Core) (lanes : ℕ �
     (c : Call) (now : LaneValue) (m : Moved) (n : Next) → AtRest s past core lanes begun → lane < length s.lanes
     → IsSmall m → Began c s.facts (asked past) (lanes lane).site now.site n
     → BeginsAsking None (asked past) (lanes lane).site now.site n → now.ended ≡ (lanes lane).ended
-    → (lanes lane).running ≡ None → Settles core new (lanes lane).tickets now.tickets (lanes lane).grants now.grants
+    → (lanes lane).running ≡ None → SettlesMove core new (lanes lane).tickets now.tickets (lanes lane).grants now.grants
     now.running (asked past) n m → TurnTied s past new (with_lane lanes lane) lane now m
     → SpendsOn s past new lanes lane now m → LeavesLane s past core new lanes begun lane now m
 begins_rest s past core new lanes begun lane c now (moved.Asked id q) (step.Ask (ask.Close g) r) h there small ran asks same idle settles t ids =

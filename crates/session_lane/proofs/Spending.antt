@@ -110,7 +110,7 @@ stands_last mine a = any_added (λ (x : ℕ × Request). x.0 == a.0) a mine ∙ 
 -- a new request is the last one
 new_last : (past : List Entry) (lane k : ℕ) (q : Request) → IsLast (own past lane k ++ (asked past, q) ∷ []) (asked past)
 new_last past lane k q = record {
-  front = own past lane k;
+  prefix = own past lane k;
   request = q;
   is = refl;
   below =

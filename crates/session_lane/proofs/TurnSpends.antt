@@ -63,7 +63,7 @@ use Rattle.session_lane.specs.Rests.{AsksFew}
 use Rattle.session_lane.specs.Turning.{
   AsksOrCloses,
   IsActive,
-  Settles,
+  SettlesMove,
   TurnBegins,
   TurnReplied,
   TurnUnreplied,
@@ -128,18 +128,18 @@ asks_kept old new tickets now grants held place other id q stands x = submits_ke
 only_one : (s : Setting) (past : List Entry) (lane p : ℕ) (a : AskedRequest) → IsJournal s past → asked_at past p ≡ Some a
     → is_grant past p ≡ true → is_asked_by (asked_at past p) lane (ended past lane) ≡ true
     → IsLast (own past lane (ended past lane)) p → length (own past lane (ended past lane)) ≡ 1
-only_one s past lane p a j there grant mine last = by_front last.front refl
+only_one s past lane p a j there grant mine last = by_front last.prefix refl
   where
     all : Own
     all = own past lane (ended past lane)
 
-    by_front : (front : Own) → last.front ≡ front → length all ≡ 1
+    by_front : (prefix : Own) → last.prefix ≡ prefix → length all ≡ 1
     by_front [] is = (let whole : all ≡ (p, last.request) ∷ [] = last.is ∙ ap (λ (f : Own). f ++ (p, last.request) ∷ []) is in ap length whole)
-    by_front (b ∷ front) is =
-        absurd (let in_front : stands_in last.front b.0 ≡ true = ap (λ (f : Own). stands_in f b.0) is ∙ self b front in
+    by_front (b ∷ prefix) is =
+        absurd (let in_front : stands_in last.prefix b.0 ≡ true = ap (λ (f : Own). stands_in f b.0) is ∙ self b prefix in
         let below : b.0 < p = last.below b.0 in_front in
-        let whole : all ≡ (b ∷ front) ++ (p, last.request) ∷ [] = last.is ∙ ap (λ (f : Own). f ++ (p, last.request) ∷ []) is in
-        let in_all : stands_in all b.0 ≡ true = ap (λ (f : Own). stands_in f b.0) whole ∙ self b (front ++ (p, last.request) ∷ []) in
+        let whole : all ≡ (b ∷ prefix) ++ (p, last.request) ∷ [] = last.is ∙ ap (λ (f : Own). f ++ (p, last.request) ∷ []) is in
+        let in_all : stands_in all b.0 ≡ true = ap (λ (f : Own). stands_in f b.0) whole ∙ self b (prefix ++ (p, last.request) ∷ []) in
         let asks : is_asked_by (asked_at past b.0) lane (ended past lane) ≡ true = own_asked past lane (ended past lane) b.0 in_all in
         let first : p ≤ b.0 = first_stands s past lane (ended past lane) p b.0 a j there (grant_expected s past p a j grant there) mine asks in
         omega (arith, below, first))
@@ -258,7 +258,7 @@ begun_spends s past core new lanes begun lane c now m h there is few move x = by
     stands k g got = grants_count s past core lanes [] lane k g h.between.tied there got
 
     by_answer : (n : Next) (m : Moved) → BeginsAsking None (asked past) v.site now.site n
-        → (makes_many c ≡ true → OwnOn (asked past) n) → Settles core new v.tickets now.tickets v.grants now.grants
+        → (makes_many c ≡ true → OwnOn (asked past) n) → SettlesMove core new v.tickets now.tickets v.grants now.grants
         now.running (asked past) n m → AskMoves s past lane m
         → SpendsOn s past new lanes lane now m
     by_answer (step.Ask a r) (moved.Asked id q) asks own_on settles move =
@@ -369,7 +369,7 @@ replied_spends s past core new lanes begun lane c now m h there is few move x = 
 
     by_answer : (n : Next) (m : Moved) → GoesOnAsking (opened_after x.running (Some x.reply)) (asked past)
         (reads_under (Some x.running)) v.site now.site n → GoesOnBy x.running (Some x.reply) (asked past) s.facts n
-        → Settles x.between new x.tickets now.tickets x.grants now.grants now.running (asked past) n m
+        → SettlesMove x.between new x.tickets now.tickets x.grants now.grants now.running (asked past) n m
         → AskMoves s past lane m → SpendsOn s past new lanes lane now m
     by_answer (step.Ask a r) (moved.Asked id q) asks by settles move =
         asked_by a r id q asks.0 by settles.1 (submits_kept x.between new x.tickets now.tickets x.grants now.grants (asked past) a id q asks.1 settles.0) move
@@ -402,7 +402,7 @@ unreplied_spends s past core new lanes begun lane c now m h there is few move x 
 
     by_answer : (n : Next) (m : Moved) → GoesOnAsking (opened_by x.running) (asked past) (reads_under (Some x.running))
         v.site now.site n → GoesOnBy x.running None (asked past) s.facts n
-        → Settles core new v.tickets now.tickets v.grants now.grants now.running (asked past) n m
+        → SettlesMove core new v.tickets now.tickets v.grants now.grants now.running (asked past) n m
         → AskMoves s past lane m → SpendsOn s past new lanes lane now m
     by_answer (step.Ask a r) (moved.Asked id q) asks by settles move =
         asked_spends s past core new lanes lane id c q a r now (opened_by x.running) (reads_under (Some x.running))
@@ -459,7 +459,7 @@ widened_spends s past core new lanes begun lane c now m h there is few move x = 
 
     by_answer : (n : Next) (m : Moved) → IsActive n → WidensAsking x.running (asked past) v.site n
         → (is_window x.running ≡ true → ReadsOn (asked past) (reads_under (Some x.running)) s.facts n)
-        → Settles core new v.tickets now.tickets v.grants now.grants now.running (asked past) n m
+        → SettlesMove core new v.tickets now.tickets v.grants now.grants now.running (asked past) n m
         → AskMoves s past lane m
         → SpendsOn s past new lanes lane now m
     by_answer (step.Ask a r) (moved.Asked id q) active asks reads settles move =

@@ -40,8 +40,8 @@ use Rattle.session_lane.specs.Turning.{
   IsOpen,
   IsSoundRun,
   AnswersByPlan,
-  Releases,
-  Settles,
+  ReleasesGrant,
+  SettlesMove,
   TurnReplied,
   TurnWaits,
   TurnWidens,
@@ -77,7 +77,7 @@ settled : (s : Setting) (past : List Entry) (c new : Core) (lanes : ℕ → Lane
     (n : Next) (m : Moved) → HoldsLane s past c lanes lane [] → Dues s past [] → IsJournal s past → last_cancel past ≡ None
     → ((p : ℕ) → is_in p (ticket_places (lanes lane).tickets) ≡ true → is_grant past p ≡ false) → now.ended
     ≡ (lanes lane).ended → LaneGoesOn s past lane (ticket_places (lanes lane).tickets) now.site n → ClosesNothing n
-    → Settles c new (lanes lane).tickets now.tickets (lanes lane).grants now.grants now.running (asked past) n m
+    → SettlesMove c new (lanes lane).tickets now.tickets (lanes lane).grants now.grants now.running (asked past) n m
     → TurnTied s past new (with_lane lanes lane) lane now m
 settled s past c new lanes lane now (step.Wait r) m h d j calm none ee goes on is =
     subst (λ (x : Moved). TurnTied s past new (with_lane lanes lane) lane now x) (sym is.2)
@@ -101,7 +101,7 @@ close_begun : (s : Setting) (past : List Entry) (c new : Core) (lanes : ℕ → 
     → RunsByPlan (next call (lanes lane).site s.facts) (asked past) (bytes_of call) now.site s.facts
     (step.Ask (ask.Close g) r) → now.ended ≡ (lanes lane).ended → now.running ≡ Some r
     → LaneGoesOn s past lane (ticket_places (lanes lane).tickets) now.site (step.Ask (ask.Close g) r)
-    → Releases c new (lanes lane).tickets now.tickets (lanes lane).grants now.grants (asked past) g id q
+    → ReleasesGrant c new (lanes lane).tickets now.tickets (lanes lane).grants now.grants (asked past) g id q
     → TurnTied s past new (with_lane lanes lane) lane now (moved.Asked id q)
 close_begun s past c new lanes lane g id call now r q h there is idle plan ee er goes x =
     let v : LaneValue = lanes lane in
@@ -150,7 +150,7 @@ begun_by : (s : Setting) (past : List Entry) (c new : Core) (lanes : ℕ → Lan
     → current s past lane ≡ Some call → HandlesAreAwaited past lane (lanes lane) → now.ended ≡ (lanes lane).ended
     → (lanes lane).running ≡ None → Began call s.facts (asked past) (lanes lane).site now.site n
     → LaneGoesOn s past lane (ticket_places (lanes lane).tickets) now.site n
-    → Settles c new (lanes lane).tickets now.tickets (lanes lane).grants now.grants now.running (asked past) n m
+    → SettlesMove c new (lanes lane).tickets now.tickets (lanes lane).grants now.grants now.running (asked past) n m
     → TurnTied s past new (with_lane lanes lane) lane now m
 begun_by s past c new lanes lane call now (step.Ask (ask.Close g) r) (moved.Asked id q) h there j calm d is only ee idle ran goes settles =
     close_begun s past c new lanes lane g id call now r q h there is idle ran.goes ee settles.1 goes settles.0
@@ -212,10 +212,10 @@ replied_by s past core new lanes lane call now m h there j calm d is only x =
     subst (λ (ps : List ℕ). LaneGoesOn s past lane ps now.site x.answer) (sym (ticket_without v.tickets k))
     (reply_lane s past lane k v [] call x.running t x.reply now.site x.answer l is x.was x.spent.here x.looks got
     (step_of s past call _ _ _ v.site now.site x.answer x.ran)) in
-    let settles : Settles (after_poll core t.ticket) new u.tickets now.tickets u.grants now.grants now.running (asked past) x.answer m =
-    subst (λ (y : Core). Settles y new u.tickets now.tickets u.grants now.grants now.running (asked past) x.answer m) x.spent.core
-    (subst (λ (ts : List Ticketed). Settles x.between new ts now.tickets u.grants now.grants now.running (asked past) x.answer m) x.spent.rest
-    (subst (λ (gs : List Held). Settles x.between new x.tickets now.tickets gs now.grants now.running (asked past) x.answer m) x.spent.now x.settles)) in
+    let settles : SettlesMove (after_poll core t.ticket) new u.tickets now.tickets u.grants now.grants now.running (asked past) x.answer m =
+    subst (λ (y : Core). SettlesMove y new u.tickets now.tickets u.grants now.grants now.running (asked past) x.answer m) x.spent.core
+    (subst (λ (ts : List Ticketed). SettlesMove x.between new ts now.tickets u.grants now.grants now.running (asked past) x.answer m) x.spent.rest
+    (subst (λ (gs : List Held). SettlesMove x.between new x.tickets now.tickets gs now.grants now.running (asked past) x.answer m) x.spent.now x.settles)) in
     let here : u ≡ after lane = sym (with_here lanes lane u) in
     let none : (q : ℕ) → is_in q (ticket_places u.tickets) ≡ true → is_grant past q ≡ false =
     none_left past lane k v t x.running only x.was x.looks x.spent.here l.holds.tied_rise in
@@ -225,7 +225,7 @@ replied_by s past core new lanes lane call now m h there j calm d is only x =
     (subst (λ (y : LaneValue). (q : ℕ) → is_in q (ticket_places y.tickets) ≡ true → is_grant past q ≡ false) here none)
     (x.ended ∙ ap (λ (y : LaneValue). y.ended) here)
     (subst (λ (y : LaneValue). LaneGoesOn s past lane (ticket_places y.tickets) now.site x.answer) here goes) (closes_nothing _ _ _ _ _ x.answer x.asks)
-    (subst (λ (y : LaneValue). Settles (after_poll core t.ticket) new y.tickets now.tickets y.grants now.grants
+    (subst (λ (y : LaneValue). SettlesMove (after_poll core t.ticket) new y.tickets now.tickets y.grants now.grants
     now.running (asked past) x.answer m) here settles))
 
 -- no reply is awaited, so no HANDLE is

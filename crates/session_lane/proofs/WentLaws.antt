@@ -10,7 +10,7 @@ use Rattle.plan_runner.specs.Runners.{awaited}
 use Rattle.session_laws.specs.Lanes.{Held, LaneValue, Ticketed}
 use Rattle.session_laws.specs.Places.{without}
 use Rattle.session_laws.specs.Rest.{awaited_in}
-use Rattle.session_lane.specs.Turning.{IsActive, Settles, Begun, Replied, Unreplied, Waiting, Widening}
+use Rattle.session_lane.specs.Turning.{IsActive, SettlesMove, Begun, Replied, Unreplied, Waiting, Widening}
 use Rattle.plan_window.specs.declared.window.ReadAt.{ReadAt}
 use Rattle.session_lane.specs.Rests.{AwaitsOne, WentTurnsAreFew}
 use Rattle.session_lane.specs.declared.lane.Moved.TheVariants as moved
@@ -38,14 +38,14 @@ on_looks opened place reads v now (step.Done o) asks = tt
 
 -- no call that goes on while a reply is missing goes on without an entry
 never_went : (place : ℕ) (core new : Core) (tickets : List Ticketed) (grants : List Held) (now : LaneValue) (n : Next)
-    → IsActive n → Settles core new tickets now.tickets grants now.grants now.running place n moved.Went → ⊥
+    → IsActive n → SettlesMove core new tickets now.tickets grants now.grants now.running place n moved.Went → ⊥
 never_went place core new tickets grants now (step.Wait r) active settles = active
 never_went place core new tickets grants now (step.Ask a r) active settles = settles
 never_went place core new tickets grants now (step.Done o) active settles = (let clash : moved.Went ≡ moved.Ended o = settles.2 in absurd cc)
 
 -- it awaits a reply then, and has the tickets that were left
 went_waits : (place : ℕ) (core new : Core) (tickets : List Ticketed) (grants : List Held) (now : LaneValue) (n : Next)
-    → Settles core new tickets now.tickets grants now.grants now.running place n moved.Went → LooksAt now n
+    → SettlesMove core new tickets now.tickets grants now.grants now.running place n moved.Went → LooksAt now n
     → AwaitsOne now × (now.tickets ≡ tickets)
 went_waits place core new tickets grants now (step.Wait r) settles looks =
     (ap (λ (o : Option Running). is_some (awaited_in o now.site)) settles.1 ∙ looks, settles.0.pushed)

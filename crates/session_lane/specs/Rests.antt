@@ -25,7 +25,7 @@ use Rattle.session_lane.specs.declared.lane.Moved.{Moved}
 use Rattle.session_lane.specs.declared.lane.Moved.TheVariants as moved
 
 -- the call waits for a reply
-pub record Waits (s : Setting) (past : List Entry) (core new : Core) (lanes : ℕ → LaneValue) (begun : ℕ → Bool)
+pub record LaneWaits (s : Setting) (past : List Entry) (core new : Core) (lanes : ℕ → LaneValue) (begun : ℕ → Bool)
     (lane : ℕ) : Type 0 where
   pub place : ℕ
   pub move : move_of s past lane ≡ Some (Wait place)
@@ -64,7 +64,7 @@ pub record Ended (s : Setting) (past : List Entry) (core new : Core) (lanes : �
 abbrev pub LeavesLane : Setting → List Entry → Core → Core → (ℕ → LaneValue) → (ℕ → Bool) → ℕ → LaneValue → Moved
     → Type 0
 LeavesLane s past core new lanes begun lane now moved.Waits =
-    Waits s past core new (with_lane lanes lane now) begun lane
+    LaneWaits s past core new (with_lane lanes lane now) begun lane
 LeavesLane s past core new lanes begun lane now moved.Went =
     GoesWithoutEntry s past core new (with_lane lanes lane now) begun
 LeavesLane s past core new lanes begun lane now (moved.Asked id r) =

@@ -99,7 +99,8 @@ pub record Widened (r : Running) (c : Call) (facts : Facts) (place : ℕ) (site 
 -- ---- what a lane asks
 
 -- a request was submitted under an id that was free
-pub record Submits (old new : Core) (tickets now : List Ticketed) (grants held : List Held) (place : ℕ) (a : Asked)
+pub record SubmitsRequest (old new : Core) (tickets now : List Ticketed) (grants held : List Held) (place : ℕ)
+    (a : Asked)
     (id : ℕ) (r : Request) : Type 0 where
   pub filled : IsFilledBy grants a r
   pub plain : is_close r ≡ false
@@ -109,7 +110,7 @@ pub record Submits (old new : Core) (tickets now : List Ticketed) (grants held :
   pub kept : held ≡ grants
 
 -- a grant was released, and its CLOSE stands in its place
-pub record Releases (old new : Core) (tickets now : List Ticketed) (grants held : List Held) (place g id : ℕ)
+pub record ReleasesGrant (old new : Core) (tickets now : List Ticketed) (grants held : List Held) (place g id : ℕ)
     (r : Request) : Type 0 where
   pub k : ℕ
   pub grant : GrantValue
@@ -123,8 +124,8 @@ pub record Releases (old new : Core) (tickets now : List Ticketed) (grants held 
 abbrev pub AsksOrCloses : Core → Core → List Ticketed → List Ticketed → List Held → List Held → ℕ → Asked → ℕ → Request
     → Type 0
 AsksOrCloses old new tickets now grants held place (asked.Close g) id r =
-    Releases old new tickets now grants held place g id r
-AsksOrCloses old new tickets now grants held place a id r = Submits old new tickets now grants held place a id r
+    ReleasesGrant old new tickets now grants held place g id r
+AsksOrCloses old new tickets now grants held place a id r = SubmitsRequest old new tickets now grants held place a id r
 
 -- a runner may answer this: what it asks bears handles of these grants
 abbrev pub MayAsk : List Held → Next → Type 0
@@ -159,13 +160,13 @@ pub record StaysSame (old new : Core) (tickets now : List Ticketed) (grants held
   pub pushed : now ≡ tickets
   pub kept : held ≡ grants
 
-abbrev pub Settles : Core → Core → List Ticketed → List Ticketed → List Held → List Held → Option Running → ℕ → Next
+abbrev pub SettlesMove : Core → Core → List Ticketed → List Ticketed → List Held → List Held → Option Running → ℕ → Next
     → Moved → Type 0
-Settles old new tickets now grants held running place (step.Ask a r) m =
+SettlesMove old new tickets now grants held running place (step.Ask a r) m =
     SettlesAsk old new tickets now grants held running place a r m
-Settles old new tickets now grants held running place (step.Wait r) m = StaysSame old new tickets now grants held
+SettlesMove old new tickets now grants held running place (step.Wait r) m = StaysSame old new tickets now grants held
     × (running ≡ Some r) × (m ≡ moved.Went)
-Settles old new tickets now grants held running place (step.Done o) m = StaysSame old new tickets now grants held
+SettlesMove old new tickets now grants held running place (step.Done o) m = StaysSame old new tickets now grants held
     × (running ≡ None) × (m ≡ moved.Ended o)
 
 -- the same while a reply is missing, where a call that waits goes on with what it went on with
@@ -175,7 +176,7 @@ SettlesMeanwhile old new tickets now grants held running place (step.Wait r) m =
     StaysSame old new tickets now grants held
     × (running ≡ Some r) × (m ≡ moved.Waits)
 SettlesMeanwhile old new tickets now grants held running place n m =
-    Settles old new tickets now grants held running place n m
+    SettlesMove old new tickets now grants held running place n m
 
 -- ---- a turn
 
@@ -239,7 +240,7 @@ pub record TurnBegins (c : Call) (facts : Facts) (place : ℕ) (old new : Core) 
     pub asks : BeginsAsking None place v.site now.site answer
     pub own : makes_many c ≡ true → OwnOn place answer
     pub ran : Began c facts place v.site now.site answer
-    pub settles : Settles old new v.tickets now.tickets v.grants now.grants now.running place answer m
+    pub settles : SettlesMove old new v.tickets now.tickets v.grants now.grants now.running place answer m
 
 -- it went on after the reply that it awaited
 pub record TurnReplied (c : Call) (facts : Facts) (place : ℕ) (old new : Core) (v now : LaneValue) (m : Moved) : Type 0
@@ -259,7 +260,7 @@ pub record TurnReplied (c : Call) (facts : Facts) (place : ℕ) (old new : Core)
     pub by : GoesOnBy running (Some reply) place facts answer
     pub spent : Spent old between v.tickets tickets v.grants grants awaits reply
     pub ran : WentOn running (Some reply) c facts place v.site now.site answer
-    pub settles : Settles between new tickets now.tickets grants now.grants now.running place answer m
+    pub settles : SettlesMove between new tickets now.tickets grants now.grants now.running place answer m
 
 -- it went on and awaited none
 pub record TurnUnreplied (c : Call) (facts : Facts) (place : ℕ) (old new : Core) (v now : LaneValue) (m : Moved) : Type
@@ -272,7 +273,7 @@ pub record TurnUnreplied (c : Call) (facts : Facts) (place : ℕ) (old new : Cor
   pub asks : GoesOnAsking (opened_after running None) place (reads_under (Some running)) v.site now.site answer
   pub by : GoesOnBy running None place facts answer
   pub ran : WentOn running None c facts place v.site now.site answer
-  pub settles : Settles old new v.tickets now.tickets v.grants now.grants now.running place answer m
+  pub settles : SettlesMove old new v.tickets now.tickets v.grants now.grants now.running place answer m
 
 -- the reply that it awaits has not come, and it asked for more or ended
 pub record TurnWidens (c : Call) (facts : Facts) (place : ℕ) (old new : Core) (v now : LaneValue) (m : Moved) : Type 0
@@ -291,7 +292,7 @@ pub record TurnWidens (c : Call) (facts : Facts) (place : ℕ) (old new : Core) 
     pub asks : WidensAsking running place v.site answer
     pub reads : is_window running ≡ true → ReadsOn place (reads_under (Some running)) facts answer
     pub ran : Widened running c facts place v.site answer
-    pub settles : Settles old new v.tickets now.tickets v.grants now.grants now.running place answer m
+    pub settles : SettlesMove old new v.tickets now.tickets v.grants now.grants now.running place answer m
 
 -- it has not come, and the call waits
 pub record TurnWaits (c : Call) (facts : Facts) (old new : Core) (v now : LaneValue) (m : Moved) : Type 0 where

@@ -9,7 +9,7 @@ ghost use Rattle.session_lane.specs.Tokens.{AreGrants, IsFilledBy, NamesHeld};
 ghost use Rattle.plan_runner.specs.Asking.{IsNoClose, IsOfCall};
 ghost use Rattle.session_lane.specs.Rests.{IsSmall};
 ghost use Rattle.session_lane.specs.Premises.{CanSubmit};
-ghost use Rattle.session_lane.specs.Turning.{AsksOrCloses, IsOpen, MayAsk, Releases, Settles, SettlesMeanwhile};
+ghost use Rattle.session_lane.specs.Turning.{AsksOrCloses, IsOpen, MayAsk, ReleasesGrant, SettlesMove, SettlesMeanwhile};
 ghost use Rattle.session_model.specs.Grants.{is_close};
 
 use crate::lane::Moved;
@@ -93,7 +93,7 @@ fn close(core: &mut Core, grant: u64, place: u64, tokens: &mut Tokens) -> (u32, 
     requires room { vec_len tokens.old.tickets < vec_capacity tokens.old.tickets }
     requires held { AreGrants core.old tokens.old.grants.items }
     requires named { is_in grant (grant_places tokens.old.grants.items) ≡ true }
-    ensures { Releases core.old core.new tokens.old.tickets.items tokens.new.tickets.items tokens.old.grants.items tokens.new.grants.items place grant result.0 result.1 }
+    ensures { ReleasesGrant core.old core.new tokens.old.tickets.items tokens.new.tickets.items tokens.old.grants.items tokens.new.grants.items place grant result.0 result.1 }
 {
     let Some(k) = grant_at(&tokens.grants, grant) else {
         unreachable!()
@@ -144,7 +144,7 @@ pub(crate) fn settle(
     requires may { MayAsk tokens.old.grants.items next }
     ensures err { OnErr result (core.new ≡ core.old) }
     ensures small { IfOk result IsSmall }
-    ensures settled { IfOk result (λ m. Settles core.old core.new tokens.old.tickets.items tokens.new.tickets.items tokens.old.grants.items tokens.new.grants.items running.new place next m) }
+    ensures settled { IfOk result (λ m. SettlesMove core.old core.new tokens.old.tickets.items tokens.new.tickets.items tokens.old.grants.items tokens.new.grants.items running.new place next m) }
 {
     match next {
         Next::Ask(asked, then) => {

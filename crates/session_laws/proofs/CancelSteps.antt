@@ -70,7 +70,7 @@ use Rattle.session_laws.proofs.RestLaws.{cancel_dues, cancelled_dues, ended_dues
 use Rattle.session_laws.proofs.SessionLaws.{each_with}
 use Rattle.session_laws.proofs.TurnLaws.{dropped_keeps, granted_due_keeps}
 use Rattle.session_laws.specs.Budgets.{Spends, kept}
-use Rattle.session_laws.specs.Ends.{Cancels, Dropped, Kept, Polled, cancelled_past, GivesUp, LeavesSite}
+use Rattle.session_laws.specs.Ends.{CancelsRunning, Dropped, Kept, Polled, cancelled_past, GivesUp, LeavesSite}
 use Rattle.session_laws.specs.Rest.{AtRest, Counted, IsTransferAt, LaneAsks}
 use Rattle.session_laws.proofs.AskedLaws.{asks_on, awaits_own, granted_own, idle_asks, none_own, other_transfers}
 use Rattle.session_laws.proofs.BudgetLaws.{spending_end, spends_end}
@@ -232,7 +232,7 @@ now_between : (s : Setting) (past : List Entry) (core new : Core) (lanes : ℕ �
     → Dues s (cancelled_past past lane) (unheld_of y.site (grant_places y.grants))
     → SessionTied s (cancelled_past past lane) new (with_lane lanes lane y)
     (unheld_of y.site (grant_places y.grants)) → Counted past new → kept new ≤ kept core
-    → Cancels s past new lanes begun lane y
+    → CancelsRunning s past new lanes begun lane y
 now_between s past core new lanes begun lane site y h e idle transfers due tied counted less =
     let now : List Entry = cancelled_past past lane in
     let b = h.between in
@@ -310,7 +310,7 @@ goes_without s past core lanes begun lane k t g =
 drop_cancels : (s : Setting) (past : List Entry) (core : Core) (lanes : ℕ → LaneValue) (begun : ℕ → Bool) (lane k : ℕ)
     (t : Ticketed) → GivenUp s past core lanes begun lane k t →
     ((handle : List ℕ) → reply_in (at core t.ticket) ≢ Some (reply.Handle handle))
-    → Cancels s past (abandoned core t.ticket) lanes begun lane (ended_lane (spent_lane (lanes lane) k None (lanes lane).site) (lanes lane).site)
+    → CancelsRunning s past (abandoned core t.ticket) lanes begun lane (ended_lane (spent_lane (lanes lane) k None (lanes lane).site) (lanes lane).site)
 drop_cancels s past core lanes begun lane k t g ungranted =
     let middle : List Entry = entry.Event (Cancel lane) ∷ past in
     let now : List Entry = cancelled_past past lane in
@@ -354,7 +354,7 @@ drop_cancels s past core lanes begun lane k t g ungranted =
 poll_cancels : (s : Setting) (past : List Entry) (core : Core) (lanes : ℕ → LaneValue) (begun : ℕ → Bool) (lane k : ℕ)
     (t : Ticketed) (handle : List ℕ) → GivenUp s past core lanes begun lane k t → reply_in (at core t.ticket)
     ≡ Some (reply.Handle handle)
-    → Cancels s past (after_poll core t.ticket) lanes begun lane (ended_lane (granted_lane (lanes lane) k t handle None (lanes lane).site) (lanes lane).site)
+    → CancelsRunning s past (after_poll core t.ticket) lanes begun lane (ended_lane (granted_lane (lanes lane) k t handle None (lanes lane).site) (lanes lane).site)
 poll_cancels s past core lanes begun lane k t handle g came =
     let middle : List Entry = entry.Event (Cancel lane) ∷ past in
     let now : List Entry = cancelled_past past lane in
@@ -399,7 +399,7 @@ poll_cancels s past core lanes begun lane k t handle g came =
 
 keep_cancels : (s : Setting) (past : List Entry) (core : Core) (lanes : ℕ → LaneValue) (begun : ℕ → Bool) (lane : ℕ)
     (site : Site) → AtRest s past core lanes begun → lane < length s.lanes → own_place (lanes lane).running ≡ None
-    → Ended s past core lanes begun lane site → Cancels s past core lanes begun lane (ended_lane (lanes lane) site)
+    → Ended s past core lanes begun lane site → CancelsRunning s past core lanes begun lane (ended_lane (lanes lane) site)
 keep_cancels s past core lanes begun lane site h there none e =
     let middle : List Entry = entry.Event (Cancel lane) ∷ past in
     let now : List Entry = cancelled_past past lane in
@@ -418,22 +418,22 @@ pub cancels_keep : (s : Setting) (past : List Entry) (core new : Core) (lanes : 
     (lane : ℕ) (c : Call) (now : LaneValue) → AtRest s past core lanes begun → lane < length s.lanes
     → current s past lane ≡ Some c
     → begun lane ≡ true → is_some (lanes lane).running ≡ true → LeavesSite past s c (lanes lane) now
-    → GivesUp core new (lanes lane) now → Cancels s past new lanes begun lane now
+    → GivesUp core new (lanes lane) now → CancelsRunning s past new lanes begun lane now
 cancels_keep s past core new lanes begun lane c now h there is any runs leaves (Dropped d) =
     let v : LaneValue = lanes lane in
     let ends : Ended s past core lanes begun lane v.site = same_entries s past core lanes begun lane c h there is any
     runs (λ r running. leaves r running ∙ ap (λ (x : LaneValue). x.site) d.lane) in
-    subst (λ (x : Core). Cancels s past x lanes begun lane now) (sym d.left)
-    (subst (λ (x : LaneValue). Cancels s past (abandoned core d.ticket.ticket) lanes begun lane x) (sym d.lane)
+    subst (λ (x : Core). CancelsRunning s past x lanes begun lane now) (sym d.left)
+    (subst (λ (x : LaneValue). CancelsRunning s past (abandoned core d.ticket.ticket) lanes begun lane x) (sym d.lane)
     (drop_cancels s past core lanes begun lane d.k d.ticket (record { rest = h; there = there; here = d.here; own = d.own; ended = ends }) d.ungranted))
 cancels_keep s past core new lanes begun lane c now h there is any runs leaves (Polled d) =
     let v : LaneValue = lanes lane in
     let ends : Ended s past core lanes begun lane v.site = same_entries s past core lanes begun lane c h there is any
     runs (λ r running. leaves r running ∙ ap (λ (x : LaneValue). x.site) d.lane) in
-    subst (λ (x : Core). Cancels s past x lanes begun lane now) (sym d.left)
-    (subst (λ (x : LaneValue). Cancels s past (after_poll core d.ticket.ticket) lanes begun lane x) (sym d.lane)
+    subst (λ (x : Core). CancelsRunning s past x lanes begun lane now) (sym d.left)
+    (subst (λ (x : LaneValue). CancelsRunning s past (after_poll core d.ticket.ticket) lanes begun lane x) (sym d.lane)
     (poll_cancels s past core lanes begun lane d.k d.ticket d.handle (record { rest = h; there = there; here = d.here; own = d.own; ended = ends }) d.came))
 cancels_keep s past core new lanes begun lane c now h there is any runs leaves (Kept d) =
-    subst (λ (x : Core). Cancels s past x lanes begun lane now) (sym d.left) (subst (λ (x : LaneValue). Cancels s past core lanes begun lane x) (sym d.lane)
+    subst (λ (x : Core). CancelsRunning s past x lanes begun lane now) (sym d.left) (subst (λ (x : LaneValue). CancelsRunning s past core lanes begun lane x) (sym d.lane)
     (keep_cancels s past core lanes begun lane now.site h there d.none
     (both_entries s past core lanes begun lane c now.site h there is any runs leaves d.fewer (d.stays s.facts))))

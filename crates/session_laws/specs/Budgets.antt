@@ -108,10 +108,10 @@ stands_in own place = list_any (λ (a : ℕ × Request). a.0 == place) own
 
 -- the request at a place is the last of these
 pub record IsLast (own : Own) (p : ℕ) : Type 0 where
-  pub front : Own
+  pub prefix : Own
   pub request : Request
-  pub is : own ≡ front ++ (p, request) ∷ []
-  pub below : (q : ℕ) → stands_in front q ≡ true → q < p
+  pub is : own ≡ prefix ++ (p, request) ∷ []
+  pub below : (q : ℕ) → stands_in prefix q ≡ true → q < p
 
 -- the READs that a whole read has under way are requests of its own, behind its OPEN, and no more than it may keep
 pub record ReadsFit (facts : Facts) (c : Call) (own : Own) (reads : List ReadAt) : Type 0 where

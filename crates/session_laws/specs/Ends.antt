@@ -78,7 +78,8 @@ abbrev pub cancelled_past : List Entry → ℕ → List Entry
 cancelled_past past lane = cancelled_end (entry.Event (Cancel lane) ∷ past) lane ∷ entry.Event (Cancel lane) ∷ past
 
 -- The call of a lane was cancelled, and these grants of the lane are due then.
-pub record Cancels (s : Setting) (past : List Entry) (core : Core) (lanes : ℕ → LaneValue) (begun : ℕ → Bool) (lane : ℕ)
+pub record CancelsRunning (s : Setting) (past : List Entry) (core : Core) (lanes : ℕ → LaneValue) (begun : ℕ → Bool)
+    (lane : ℕ)
     (v : LaneValue) : Type 0 where
   pub first : IsNext s past (entry.Event (Cancel lane))
   pub second : IsNext s (entry.Event (Cancel lane) ∷ past) (cancelled_end (entry.Event (Cancel lane) ∷ past) lane)
@@ -96,7 +97,7 @@ pub record Drops (core new : Core) (v now : LaneValue) : Type 0 where
   pub lane : now ≡ ended_lane (spent_lane v k None v.site) v.site
 
 -- the HANDLE that it awaited had come: it is polled, and is a grant of the lane
-pub record Polls (core new : Core) (v now : LaneValue) : Type 0 where
+pub record PollsHandle (core new : Core) (v now : LaneValue) : Type 0 where
   pub k : ℕ
   pub ticket : Ticketed
   pub handle : List ℕ
@@ -117,7 +118,7 @@ pub record KeepsTickets (core new : Core) (v now : LaneValue) : Type 0 where
 -- A lane gives up what its call awaits.
 pub data GivesUp (core new : Core) (v now : LaneValue) : Type 0 where
   Dropped : Drops core new v now → GivesUp core new v now
-  Polled : Polls core new v now → GivesUp core new v now
+  Polled : PollsHandle core new v now → GivesUp core new v now
   Kept : KeepsTickets core new v now → GivesUp core new v now
 
 -- what the lane's call leaves that is cancelled from here is what its slots have then

@@ -43,7 +43,7 @@ use Rattle.session_model.specs.Calls.{Setting, current}
 use Rattle.session_model.specs.Grants.{is_granted, is_grant, is_due, closed, IsSettled}
 use Rattle.session_model.specs.Journals.{IsJournal, IsNext, MayTake, MayReply, IsFree, brings_limits, is_opened, IsOver}
 use Rattle.session_model.specs.Turns.{RunProgress, is_full}
-use Rattle.session_model.specs.Runs.{Opens, queried, LetGoTo, LetsGoTo, at_first, IsRun}
+use Rattle.session_model.specs.Runs.{OpensSession, queried, LetGoTo, LetsGoTo, at_first, IsRun}
 use Rattle.session_model.proofs.CallLaws.{may_next}
 use Rattle.session_model.proofs.GrantLaws.{none_below}
 use Rattle.session_model.proofs.LetGoLaws.{let_go_settled}
@@ -104,7 +104,7 @@ query_good s id r e free may =
       still = record { settled = plain; plain = plain };
     }
 
-opens_by : (s : Setting) (b : Bool) (past : List Entry) → s.limits ≡ b → Opens b past → GoodStage s (at_first past)
+opens_by : (s : Setting) (b : Bool) (past : List Entry) → s.limits ≡ b → OpensSession b past → GoodStage s (at_first past)
     × ((lane : ℕ) → was_let_go past lane ≡ false)
 opens_by s false past e is =
     subst (λ (p : List Entry). GoodStage s (at_first p) × ((lane : ℕ) → was_let_go p lane ≡ false)) (sym is) (
@@ -118,7 +118,7 @@ opens_by s true past e to =
     subst (λ (p : List Entry). GoodStage s (at_first p) × ((lane : ℕ) → was_let_go p lane ≡ false)) (sym to.1.1.2)
     (query_good s to.0 to.1.0 e to.1.1.0 to.1.1.1, λ lane. refl)
 
-pub opens_good : (s : Setting) (past : List Entry) → Opens s.limits past → GoodStage s (at_first past) × ((lane : ℕ) → was_let_go past lane ≡ false)
+pub opens_good : (s : Setting) (past : List Entry) → OpensSession s.limits past → GoodStage s (at_first past) × ((lane : ℕ) → was_let_go past lane ≡ false)
 opens_good s past to = opens_by s s.limits past refl to
 
 -- ---- the letting go

@@ -24,9 +24,9 @@ abbrev pub queried : ℕ → List Entry
 queried id = entry.Event Send ∷ entry.Event (Submit owner.Setup id request.LimitsQuery) ∷ []
 
 -- Where the server offers to tell its limits, they are asked for, and the reply is taken.
-abbrev pub Opens : Bool → List Entry → Type 0
-Opens false past = past ≡ []
-Opens true past = (id : ℕ) × ((r : Reply) × (IsFree [] id × MayTake (queried id) id r
+abbrev pub OpensSession : Bool → List Entry → Type 0
+OpensSession false past = past ≡ []
+OpensSession true past = (id : ℕ) × ((r : Reply) × (IsFree [] id × MayTake (queried id) id r
     × (past ≡ entry.Event (Take id r) ∷ queried id)))
 
 -- a step of a lane, a flush and a take
@@ -79,7 +79,7 @@ at_first past = record { past = past; begun = none_begun }
 
 -- the parts of a run, each from where the one before it stopped
 pub record GoesBy (s : Setting) (schedule : List Turn) (at : Stages) : Type 0 where
-  pub opens : Opens s.limits at.opened
+  pub opens : OpensSession s.limits at.opened
   pub turns : TurnsTo s schedule (at_first at.opened) at.turned
   pub ends : EndsTo s (length s.lanes) at.turned at.ended
   pub lets_go : LetsGoTo s (length s.lanes) at.ended at.let_go

@@ -45,7 +45,7 @@ use Rattle.session_laws.specs.Dues.{unheld_of}
 use Rattle.session_laws.specs.Places.{IsRising}
 use Rattle.session_laws.specs.Lanes.{AtTied, LaneValue, grant_places, ticket_places}
 use Rattle.session_laws.proofs.LaneLaws.{replies_agree}
-use Rattle.session_laws.specs.Ends.{Cancels as IsCancelled, GivesUp, Dropped, Kept, LeavesSite, Polled, cancelled_past}
+use Rattle.session_laws.specs.Ends.{CancelsRunning as IsCancelled, GivesUp, Dropped, Kept, LeavesSite, Polled, cancelled_past}
 use Rattle.session_laws.specs.Rest.{Between}
 use Rattle.session_laws.proofs.CancelSteps.{cancels_keep}
 use Rattle.session_work.specs.Closing.{Closing, IsClosed}

@@ -46,20 +46,20 @@ use Rattle.session_laws.specs.Ends.{LettingGo, StaysOpen, close_entry, let_go}
 use Rattle.session_laws.proofs.LettingSteps.{at_rest, letting_begins, letting_ends, slots_closed, slots_passed}
 use Rattle.session_laws.specs.Rest.{begun_of}
 use Rattle.session_work.specs.Closing.{closed_in}
-use Rattle.session_work.specs.Letting.{IsLetGo, Letting}
+use Rattle.session_work.specs.Letting.{IsLetGo, LettingLane}
 use Rattle.session_work.specs.Working.{LanesValue, LetsGoIn, Works, lane_in}
 use Rattle.session_work.proofs.BegunLaws.{begun_same}
 use Rattle.session_work.proofs.Contents.{lane_set, set_here}
 
 -- ---- slot by slot
 
-pub letting_there : (s : Setting) (before : List Entry) (lane : ℕ) (c : LanesValue) (rest : List Slot) → Letting s before lane c rest → lane < length c.states
+pub letting_there : (s : Setting) (before : List Entry) (lane : ℕ) (c : LanesValue) (rest : List Slot) → LettingLane s before lane c rest → lane < length c.states
 letting_there s before lane c rest h = (let there = h.there in let count = h.stands.count in omega (arith, there, count))
 
 -- a slot is passed
 pub letting_passes : (s : Setting) (before : List Entry) (lane : ℕ) (c : LanesValue) (slot : Slot) (rest : List Slot)
-    → Letting s before lane c (slot ∷ rest) → StaysOpen (lane_in c.states lane).grants slot rest
-    → Letting s before lane c rest
+    → LettingLane s before lane c (slot ∷ rest) → StaysOpen (lane_in c.states lane).grants slot rest
+    → LettingLane s before lane c rest
 letting_passes s before lane c slot rest h stays =
     record {
       stands = h.stands;
@@ -74,9 +74,9 @@ letting_passes s before lane c slot rest h stays =
 
 -- or its grant is closed
 pub letting_closes : (s : Setting) (before : List Entry) (lane k : ℕ) (c : LanesValue) (g : Held) (slot : Slot)
-    (rest : List Slot) → Letting s before lane c (slot ∷ rest) → grant_of slot ≡ Some g.place
+    (rest : List Slot) → LettingLane s before lane c (slot ∷ rest) → grant_of slot ≡ Some g.place
     → list_any (slot_has g.place) rest ≡ false
-    → slice_get (lane_in c.states lane).grants k ≡ Some g → g.grant.id < 2 ^ 32 → Letting s before lane (closed_in c lane k g) rest
+    → slice_get (lane_in c.states lane).grants k ≡ Some g → g.grant.id < 2 ^ 32 → LettingLane s before lane (closed_in c lane k g) rest
 letting_closes s before lane k c g slot rest h grant none here small =
     let lt = letting_there s before lane c (slot ∷ rest) h in
     let v : LaneValue = lane_in c.states lane in
@@ -99,7 +99,7 @@ letting_closes s before lane k c g slot rest h grant none here small =
       later = inr (x.next, h.later);
     }
 
-pub letting_over : (s : Setting) (before : List Entry) (lane : ℕ) (old c : LanesValue) → Letting s before lane c [] → c.begun ≡ old.begun → IsLetGo s before old c
+pub letting_over : (s : Setting) (before : List Entry) (lane : ℕ) (old c : LanesValue) → LettingLane s before lane c [] → c.begun ≡ old.begun → IsLetGo s before old c
 letting_over s before lane old c h begun =
     record {
       works = record {
@@ -132,7 +132,7 @@ let_go_begun s lane c now w lt none is =
     sym (begun_same c.states lane now lt (ap (λ (y : LaneValue). is_some y.running) (sym is) ∙ sym (ap is_some (idle_over s lane c w there none))))
 
 pub letting_starts : (s : Setting) (lane : ℕ) (c : LanesValue) → Works s c → lane < length s.lanes → current s c.past lane
-    ≡ None → was_let_go c.past lane ≡ false → Letting s (entry.LetGo lane ∷ c.past) lane (let_go_in c lane)
+    ≡ None → was_let_go c.past lane ≡ false → LettingLane s (entry.LetGo lane ∷ c.past) lane (let_go_in c lane)
     (lane_in c.states lane).site.slots
 letting_starts s lane c w there none held =
     let lt : lane < length c.states = (let count = w.stands.count in omega (arith, there, count)) in
@@ -188,7 +188,7 @@ lets_none_go s lane c w out =
 
 -- the core counts one user of each grant of the lane
 pub letting_grants : (s : Setting) (before : List Entry) (lane : ℕ) (c : LanesValue) (rest : List Slot)
-    → Letting s before lane c rest → AreGrants c.core (lane_in c.states lane).grants
+    → LettingLane s before lane c rest → AreGrants c.core (lane_in c.states lane).grants
 letting_grants s before lane c rest h k g got = grants_count s c.past c.core (lane_in c.states) _ lane k g h.going.tied h.there got
 
 -- a list by its first item and those behind it

@@ -27,7 +27,7 @@ use Rattle.session_laws.specs.Dues.{unheld_of}
 use Rattle.session_laws.specs.Lanes.{LaneValue, grant_places}
 use Rattle.session_laws.specs.Running.{own_request}
 use Rattle.session_laws.specs.Rest.{AtRest, Between, begun_of, weigh}
-use Rattle.session_lane.specs.Rests.{AskedOwn, Ended, GoesWithoutEntry, Waits}
+use Rattle.session_lane.specs.Rests.{AskedOwn, Ended, GoesWithoutEntry, LaneWaits}
 use Rattle.session_lane.specs.declared.lane.Moved.{Moved}
 use Rattle.session_lane.specs.declared.lane.Moved.TheVariants as moved
 use Rattle.session_lane.proofs.Holding.{with_again}
@@ -101,7 +101,7 @@ pub waits_in : (s : Setting) (lane : ℕ) (old c : LanesValue) → Turning s lan
 waits_in s lane old c t =
     let a = at_call old lane t.call t.calls in
     let lt : lane < length old.states = within_states old lane t.call a in
-    let x : Waits s old.past old.core t.new (with_lane (lane_in old.states) lane t.now) old.begun lane = t.leaves in
+    let x : LaneWaits s old.past old.core t.new (with_lane (lane_in old.states) lane t.now) old.begun lane = t.leaves in
     let made : LanesValue = record old { core = t.new; states = slice_set old.states lane t.now; begun = begun_with old.begun lane } in
     subst (λ (y : LanesValue). StepsIn s lane old (record y { begun = begun_with y.begun lane }) stepped.Nothing) (sym t.is) (record {
       steps = subst (λ (m : Option Move). StepsTo s lane (stage_in old) (stage_in made) m stepped.Nothing) (sym x.move) (refl, refl);
@@ -236,7 +236,7 @@ ended_step s lane o old c new t closed =
 pub waits_runs : (s : Setting) (lane : ℕ) (old c : LanesValue) → Turning s lane old c moved.Waits → is_some (lane_in c.states lane).running ≡ true
 waits_runs s lane old c t =
     let lt : lane < length old.states = within_states old lane t.call (at_call old lane t.call t.calls) in
-    let x : Waits s old.past old.core t.new (with_lane (lane_in old.states) lane t.now) old.begun lane = t.leaves in
+    let x : LaneWaits s old.past old.core t.new (with_lane (lane_in old.states) lane t.now) old.begun lane = t.leaves in
     ap (λ (y : LanesValue). is_some (lane_in y.states lane).running) t.is
     ∙ ap (λ (f : ℕ → LaneValue). is_some (f lane).running) (lane_set old.states lane t.now lt) ∙ x.runs
 

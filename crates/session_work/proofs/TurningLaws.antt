@@ -22,7 +22,7 @@ use Rattle.session_lane.specs.Premises.{MayTurn}
 use Rattle.session_lane.specs.Rests.{AwaitsReplies, IsSmall}
 use Rattle.session_lane.specs.Holding.{MayGoOn}
 use Rattle.session_lane.specs.Tokens.{grants_with}
-use Rattle.session_lane.specs.Turning.{AllInRange, AsksOrCloses, IsOpen, IsSafe, Settles, Turned, Begun, Replied, Unreplied, Waiting, Widening}
+use Rattle.session_lane.specs.Turning.{AllInRange, AsksOrCloses, IsOpen, IsSafe, SettlesMove, Turned, Begun, Replied, Unreplied, Waiting, Widening}
 use Rattle.session_lane.specs.declared.lane.Moved.{Moved}
 use Rattle.session_lane.specs.declared.lane.Moved.TheVariants as moved
 use Rattle.session_lane.proofs.Awaiting.{lanes_await}
@@ -62,7 +62,7 @@ asked_short core new tickets now gs held place (ask.Close g) id r x =
 asked_short core new tickets now gs held place a id r x = subst (λ (hs : List Held). length hs ≤ length gs) (sym x.kept) (omega arith)
 
 settled_short : (core new : Core) (tickets now : List Ticketed) (gs held : List Held) (running : Option Running)
-    (place : ℕ) (n : Next) (m : Moved) → Settles core new tickets now gs held running place n m
+    (place : ℕ) (n : Next) (m : Moved) → SettlesMove core new tickets now gs held running place n m
     → length held ≤ length gs
 settled_short core new tickets now gs held running place (step.Ask a r) (moved.Asked id q) x = asked_short core new tickets now gs held place a id q x.0
 settled_short core new tickets now gs held running place (step.Ask a r) moved.Waits x = absurd x

@@ -13,7 +13,7 @@ use Rattle.session_work.specs.Working.{LanesValue, IsWorking, Stands, Works, con
 
 -- A lane is being let go, and of the slots that it had these are left; the journal went on from `before` by CLOSEs of
 -- grants that were to be closed.
-pub record Letting (s : Setting) (before : List Entry) (lane : ℕ) (c : LanesValue) (rest : List Slot) : Type 0 where
+pub record LettingLane (s : Setting) (before : List Entry) (lane : ℕ) (c : LanesValue) (rest : List Slot) : Type 0 where
   pub stands : Stands s c
   pub there : lane < length s.lanes
   pub idle : (lane_in c.states lane).running ≡ None
@@ -22,7 +22,7 @@ pub record Letting (s : Setting) (before : List Entry) (lane : ℕ) (c : LanesVa
   pub later : IsLater s before c.past
 
 abbrev pub IsLetting : ℕ → Lanes → List Slot → Type 0
-IsLetting lane w rest = (s : Setting) × ((before : List Entry) × Letting s before lane (contents_of w) rest)
+IsLetting lane w rest = (s : Setting) × ((before : List Entry) × LettingLane s before lane (contents_of w) rest)
 
 -- a lane is noted as let go, and nothing else has changed
 abbrev pub gone_in : LanesValue → ℕ → LanesValue
@@ -41,4 +41,4 @@ pub record IsLetGo (s : Setting) (before : List Entry) (old new : LanesValue) : 
   pub begun : new.begun ≡ old.begun
 
 abbrev pub LetGo : Setting → List Entry → ℕ → LanesValue → LanesValue → List Slot → Type 0
-LetGo s before lane old new rest = Letting s before lane old rest → IsLetGo s before old new
+LetGo s before lane old new rest = LettingLane s before lane old rest → IsLetGo s before old new

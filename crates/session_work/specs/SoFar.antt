@@ -98,7 +98,8 @@ pub record RefusesFrame (body_reads : Result (Option ℕ × Reply) FrameError) (
 
 -- What the lanes of an open session leave where a frame was refused: this is the first thing that is wrong with it by
 -- the journal, or there was no memory; the fault that it keeps is the newest entry, and the calls are as before.
-pub record Refuses (body_reads : Result (Option ℕ × Reply) FrameError) (e : TakeError) (old new : Lanes) : Type 0 where
+pub record RefusesWhileOpen (body_reads : Result (Option ℕ × Reply) FrameError) (e : TakeError) (old new : Lanes) : Type
+    0 where
   pub first : IsFirst e (refuses (past_of old) body_reads)
   pub stays : StaysSoFar old new
   pub noted : past_of new ≡ refused_past (fault_of e) (past_of old)

@@ -38,7 +38,16 @@ use Rattle.plan_model.specs.Lanes.{are_ok}
 use Rattle.session_model.specs.Readings.{asked, ended, own, unanswered}
 use Rattle.session_model.specs.Turns.{RunProgress}
 use Rattle.session_driver.specs.declared.session.Stepped.{Stepped}
-use Rattle.session_driver.specs.Session.{IsLater, StepsTo, Cancels, LetsGo, TakesAndSettles, HandsOut, LessBy, is_event}
+use Rattle.session_driver.specs.Session.{
+  IsLater,
+  StepsTo,
+  CancelsCall,
+  LetsGo,
+  TakesAndSettles,
+  HandsOut,
+  LessBy,
+  is_event,
+}
 use Rattle.session_laws.specs.Changes.{fresh_lane}
 use Rattle.session_laws.specs.Lanes.{LaneValue}
 use Rattle.session_laws.specs.Rest.{AtRest, begun_of, weigh}
@@ -155,7 +164,7 @@ abbrev pub StepsLane : Setting → ℕ → Lanes → Lanes → Stepped → Type 
 StepsLane s lane old new event = StepsIn s lane (contents_of old) (contents_of new) event
 
 pub record CancelsIn (s : Setting) (lane : ℕ) (old new : LanesValue) (event : Bool) : Type 0 where
-  pub cancels : Cancels s lane (stage_in old) (stage_in new) event
+  pub cancels : CancelsCall s lane (stage_in old) (stage_in new) event
   pub later : IsLater s old.past new.past
   pub working : Works s new
 

@@ -4,7 +4,7 @@ ghost use Rattle.std.specs.Option.{option_map};
 ghost use Rattle.sftp_model.specs.Pieces.{joined};
 ghost use Rattle.sftp_model.specs.ReplyReadings.{reply_at};
 ghost use Rattle.session_model.specs.Calls.{Setting};
-ghost use Rattle.session_work.specs.SoFar.{IsIntact, IsLeft, Refuses};
+ghost use Rattle.session_work.specs.SoFar.{IsIntact, IsLeft, RefusesWhileOpen};
 ghost use Rattle.session_work.specs.Working.{IsOpened, IsWorking, HandsAll, TakesBody};
 
 use crate::closing::{add_entry, note_close};
@@ -37,7 +37,7 @@ impl Lanes {
         requires opened { IsOpened self.old }
         requires intact { IsIntact (length self.old.calls) self.old }
         ensures takes { (s : Setting) → IsWorking s self.old → OnOk result (TakesBody s (reply_at body.now) self.old self.new) }
-        ensures refused { IfErr result (λ e. Refuses (reply_at body.now) e self.old self.new) }
+        ensures refused { IfErr result (λ e. RefusesWhileOpen (reply_at body.now) e self.old self.new) }
         ensures intact { IsIntact (length self.old.calls) self.new }
     {
         let before = self.core.queued();

@@ -47,12 +47,12 @@ use Rattle.call_state.specs.Calls.{IsUnfinished}
 use Rattle.call_state.specs.declared.poll.Poll.TheVariants as poll
 use Rattle.sftp_buffered.specs.declared.file.ReadUnderWay.{ReadUnderWay}
 use Rattle.sftp_buffered.specs.Buffered.{CompatValue, Defers, IsTold, lane_of}
-use Rattle.sftp_buffered.specs.Polls.{AnyCut, Ends, Polls, Waits}
+use Rattle.sftp_buffered.specs.Polls.{AnyCut, Ends, PollsPlan, PlanWaits}
 use Rattle.sftp_buffered.specs.Reads.{
   AwaitsFill,
   BeginsRead,
-  Begun,
-  Fills,
+  BeganRead,
+  FillsBuffer,
   TookRead,
   appended,
   end_of,
@@ -95,8 +95,8 @@ unread_waits plan len go answers old p r h d is none =
     h.waits r is ∙ missing_waits (answers r.place) r.place go (read_told old p answers r d is ∙ (sym (ap (read_reply old) is) ∙ none))
 
 pub fills_pending : (plan : Plan) (len : ℕ) (go : Reply → Move) (answers : Answers) (old new : Core) (p q : CompatValue)
-    → ReadsBy plan len go answers p → Defers old p answers → Fills len old new p q poll.Pending
-    → Waits plan answers old (IsLeft old new p q) ⊎ Begun plan answers old new p q
+    → ReadsBy plan len go answers p → Defers old p answers → FillsBuffer len old new p q poll.Pending
+    → PlanWaits plan answers old (IsLeft old new p q) ⊎ BeganRead plan answers old new p q
 fills_pending plan len go answers old new p q h d (inl b) =
     inr (record {
       len = len;
@@ -154,8 +154,8 @@ took_goes plan len go answers old new p q value h d t = h.waits t.read t.under_w
 
 begins_stop : {V : Type 0} (o : V → Outcome) (plan : Plan) (len : ℕ) (go : Reply → Move) (answers : Answers)
     (old new : Core) (p q : CompatValue) (e : Error) → ReadsBy plan len go answers p → p.reading ≡ None
-    → BeginsRead len old new p q (poll.Ready (Err e)) → Polls {V = V}
-    (Waits plan answers old (IsLeft old new p q) ⊎ Begun plan answers old new p q) (IsLeft old new p q) AnyCut plan
+    → BeginsRead len old new p q (poll.Ready (Err e)) → PollsPlan {V = V}
+    (PlanWaits plan answers old (IsLeft old new p q) ⊎ BeganRead plan answers old new p q) (IsLeft old new p q) AnyCut plan
     o answers old new p q (poll.Ready (Err e))
 begins_stop o plan len go answers old new p q error.OutOfMemory h none b = b
 begins_stop o plan len go answers old new p q (error.BackgroundTaskFailure fault) h none b =
@@ -196,7 +196,7 @@ awaits_stop : {V : Type 0} (o : V → Outcome) (plan : Plan) (len : ℕ) (go : R
     (old new : Core) (p q : CompatValue) (e : Error) (r : ReadUnderWay) → ReadsBy plan len go answers p
     → Defers old p answers
     → EndsRefused go p → p.reading ≡ Some r → AwaitsFill old new p q (poll.Ready (Err e))
-    → Polls {V = V} (Waits plan answers old (IsLeft old new p q) ⊎ Begun plan answers old new p q) (IsLeft old new p q)
+    → PollsPlan {V = V} (PlanWaits plan answers old (IsLeft old new p q) ⊎ BeganRead plan answers old new p q) (IsLeft old new p q)
     AnyCut plan o answers old new p q (poll.Ready (Err e))
 awaits_stop o plan len go answers old new p q error.OutOfMemory r h d ends is a = a
 awaits_stop o plan len go answers old new p q (error.BackgroundTaskFailure fault) r h d ends is a =
@@ -205,14 +205,14 @@ awaits_stop o plan len go answers old new p q e r h d ends is a = took_refused p
 
 pub fills_stop : {V : Type 0} (o : V → Outcome) (plan : Plan) (len : ℕ) (go : Reply → Move) (answers : Answers)
     (old new : Core) (p q : CompatValue) (e : Error) → ReadsBy plan len go answers p → Defers old p answers
-    → EndsRefused go p → Fills len old new p q (poll.Ready (Err e))
-    → Polls {V = V} (Waits plan answers old (IsLeft old new p q) ⊎ Begun plan answers old new p q) (IsLeft old new p q)
+    → EndsRefused go p → FillsBuffer len old new p q (poll.Ready (Err e))
+    → PollsPlan {V = V} (PlanWaits plan answers old (IsLeft old new p q) ⊎ BeganRead plan answers old new p q) (IsLeft old new p q)
     AnyCut plan o answers old new p q (poll.Ready (Err e))
 fills_stop o plan len go answers old new p q e h d ends (inl b) = begins_stop o plan len go answers old new p q e h b.none b.begins
 fills_stop o plan len go answers old new p q e h d ends (inr a) = awaits_stop o plan len go answers old new p q e a.read h d ends a.under_way a.awaits
 
 -- where it goes well the reply was taken
-pub fills_took : (len : ℕ) (old new : Core) (p q : CompatValue) → Fills len old new p q (poll.Ready (Ok tt)) → TookRead old new p q (Ok tt)
+pub fills_took : (len : ℕ) (old new : Core) (p q : CompatValue) → FillsBuffer len old new p q (poll.Ready (Ok tt)) → TookRead old new p q (Ok tt)
 fills_took len old new p q (inl b) = absurd b.begins
 fills_took len old new p q (inr e) = e.awaits
 

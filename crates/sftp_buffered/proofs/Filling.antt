@@ -69,7 +69,7 @@ use Rattle.sftp_buffered.specs.Reads.{
   AwaitsFill,
   BeginsRead,
   EndsFill,
-  Fills,
+  FillsBuffer,
   IsAllowedRead,
   LooksAtRead,
   TookRead,
@@ -272,7 +272,7 @@ awaits_sound old new p q (poll.Ready (Err (error.BackgroundTaskFailure fault))) 
 awaits_sound old new p q (poll.Ready (Err e)) s a = took_sound old new p q (Err e) s a
 
 pub fills_sound : (len : ℕ) (old new : Core) (p q : CompatValue) (result : Poll (Result (Unit {0}) Error))
-    → IsSound old p → Fills len old new p q result → IsSound new q
+    → IsSound old p → FillsBuffer len old new p q result → IsSound new q
 fills_sound len old new p q result s (inl b) = begins_sound len old new p q result s b.begins
 fills_sound len old new p q result s (inr e) = awaits_sound old new p q result s e.awaits
 
@@ -302,6 +302,6 @@ awaits_others old new p q (poll.Ready (Err (error.BackgroundTaskFailure fault)))
 awaits_others old new p q (poll.Ready (Err e)) s a = took_others old new p q (Err e) s a
 
 pub fills_others : (len : ℕ) (old new : Core) (p q : CompatValue) (result : Poll (Result (Unit {0}) Error))
-    → IsSound old p → Fills len old new p q result → LeavesOthers old new p
+    → IsSound old p → FillsBuffer len old new p q result → LeavesOthers old new p
 fills_others len old new p q result s (inl b) = begins_others len old new p q result b.begins
 fills_others len old new p q result s (inr e) = awaits_others old new p q result s e.awaits

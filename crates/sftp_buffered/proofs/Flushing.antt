@@ -64,8 +64,8 @@ use Rattle.sftp_buffered.specs.Buffered.{
   lane_of,
   writes_of,
 }
-use Rattle.sftp_buffered.specs.Flushes.{FlushesTo, IsFlushed, Settles, flush_plan, unsettled, with_writes}
-use Rattle.sftp_buffered.specs.Polls.{AnyCut, Polls, Waits}
+use Rattle.sftp_buffered.specs.Flushes.{FlushesTo, IsFlushed, SettlesWrites, flush_plan, unsettled, with_writes}
+use Rattle.sftp_buffered.specs.Polls.{AnyCut, PollsPlan, PlanWaits}
 use Rattle.sftp_buffered.specs.Steps.{AreTaken, IsLeft, IsRestOf, LooksAtOldest, WasRefused, oldest_len, oldest_polled, oldest_reply, without_oldest}
 use Rattle.sftp_buffered.proofs.Resting.{others_taken, rest_at, rest_by, rest_same, taken_more, taken_none}
 use Rattle.sftp_buffered.proofs.Holding.{other_kind}
@@ -212,7 +212,7 @@ settled_left old p core c s bad =
     ∙ ap (λ (ds : List DeferredWrite). with_writes p ds) (settled_is old p core c s bad))
 
 pub settles_all : (old : Core) (p : CompatValue) (core : Core) (c : CompatValue) → SettlesSoFar old p core c
-    → is_good (oldest_reply core c.deferred) ≡ false → Settles old core p c
+    → is_good (oldest_reply core c.deferred) ≡ false → SettlesWrites old core p c
 settles_all old p core c s bad =
     let left : c ≡ with_writes p (unsettled old p.deferred) = settled_left old p core c s bad in
     record {
@@ -263,7 +263,7 @@ writable_flush core p answers may = (λ i. if not (may i) then refuses kind.NotW
     flush_next 0 (file_at p.file) (buffer_of p) (lane_of p) answers (writes_of p.deferred))
 
 -- the plan of the start, as it looks at what is left
-plan_at : (old new : Core) (p q : CompatValue) (answers : Answers) → p.file.writable ≡ true → Settles old new p q → Defers old p answers
+plan_at : (old new : Core) (p q : CompatValue) (answers : Answers) → p.file.writable ≡ true → SettlesWrites old new p q → Defers old p answers
     → flush_plan old p [] answers ≡ flush_next 0 (file_at p.file) (buffer_of p) (lane_of q) answers (writes_of q.deferred)
 plan_at old new p q answers may s d =
     writable_flush old p answers may ∙ (flush_rest old p answers d.writes
@@ -281,7 +281,7 @@ left_over p r answers ds = flush_next 0 (file_at p.file) (buffer_of p)
     (with_deferred 0 (file_at p.file) (buffer_of p) (lane_of r) (writes_of ds)) answers (writes_of ds)
 
 plan_here : (old mid : Core) (p r : CompatValue) (answers : Answers) (d : DeferredWrite) (ds : List DeferredWrite)
-    → p.file.writable ≡ true → Settles old mid p r → Defers old p answers → r.deferred ≡ d ∷ ds
+    → p.file.writable ≡ true → SettlesWrites old mid p r → Defers old p answers → r.deferred ≡ d ∷ ds
     → flush_plan old p [] answers ≡ once_answered d.place (oldest_reply mid r.deferred)
     (λ x. on_status x (lane_of (without_oldest r)) (left_over p r answers ds))
 plan_here old mid p r answers d ds may s deferred is =
@@ -295,18 +295,18 @@ plan_here old mid p r answers d ds may s deferred is =
 -- ---- the poll
 
 -- what was settled, with the READ as it was
-rest_settled : (old mid : Core) (p r : CompatValue) → Settles old mid p r → IsRestOf old mid p r
+rest_settled : (old mid : Core) (p r : CompatValue) → SettlesWrites old mid p r → IsRestOf old mid p r
 rest_settled old mid p r s =
     rest_by old mid p r s.rest (ap (λ (x : CompatValue). x.reading) s.left) (ap (λ (x : CompatValue). x.place) s.left)
     (ap (λ (x : CompatValue). x.capacity) s.left)
 
-left_flushed : (old mid new : Core) (p r q : CompatValue) (answers : Answers) → Settles old mid p r → IsLeft mid new r q
+left_flushed : (old mid new : Core) (p r q : CompatValue) (answers : Answers) → SettlesWrites old mid p r → IsLeft mid new r q
     → Defers old p answers → IsFlushed old new p q answers
 left_flushed old mid new p r q answers s l d =
     record { lane = ap lane_of l.same ∙ s.lane answers d; rest = rest_at old mid new p r q (rest_settled old mid p r s) l.core l.same }
 
 -- and a refusal behind it
-rest_refused : (old mid new : Core) (p r q : CompatValue) (e : Error) → Settles old mid p r → WasRefused mid new r q e → IsRestOf old new p q
+rest_refused : (old mid new : Core) (p r q : CompatValue) (e : Error) → SettlesWrites old mid p r → WasRefused mid new r q e → IsRestOf old new p q
 rest_refused old mid new p r q e s w =
     rest_at old (oldest_polled mid r.deferred) new p (without_oldest r) q
     (rest_by old (oldest_polled mid r.deferred) p (without_oldest r) (taken_more old mid p r s.rest) (ap (λ (x : CompatValue). x.reading) s.left)
@@ -316,9 +316,9 @@ unfinished_wait : (m : Move) (place : ℕ) → m ≡ Wait place → IsUnfinished
 unfinished_wait m place e = subst IsUnfinished (sym e) tt
 
 flush_polls : (old mid new : Core) (p r q : CompatValue) (d : DeferredWrite) (ds : List DeferredWrite)
-    (result : Poll (Result (Unit {0}) Error)) → p.file.writable ≡ true → Settles old mid p r → r.deferred ≡ d ∷ ds
+    (result : Poll (Result (Unit {0}) Error)) → p.file.writable ≡ true → SettlesWrites old mid p r → r.deferred ≡ d ∷ ds
     → LooksAtOldest mid new r q result → (answers : Answers) → Defers old p answers
-    → Polls (Waits (flush_plan old p) answers old (IsFlushed old new p q answers)) (IsFlushed old new p q answers) AnyCut
+    → PollsPlan (PlanWaits (flush_plan old p) answers old (IsFlushed old new p q answers)) (IsFlushed old new p q answers) AnyCut
     (flush_plan old p) (λ u. outcome.Done) answers old new p q result
 flush_polls old mid new p r q d ds poll.Pending may s is l answers told =
     record {
@@ -359,7 +359,7 @@ flush_others old new p q (poll.Ready (Ok u)) l s = others_left old new p l.1.cor
 flush_others old new p q (poll.Ready (Err e)) l s = others_looked old new p q e l s
 
 flushes_at : (old mid new : Core) (p r q : CompatValue) (ds : List DeferredWrite)
-    (result : Poll (Result (Unit {0}) Error)) → p.file.writable ≡ true → Settles old mid p r → r.deferred ≡ ds
+    (result : Poll (Result (Unit {0}) Error)) → p.file.writable ≡ true → SettlesWrites old mid p r → r.deferred ≡ ds
     → (slice_get ds 0 ≡ None → ⊥)
     → LooksAtOldest mid new r q result → FlushesTo old new p q result
 flushes_at old mid new p r q [] result may s is some l = absurd (some refl)
@@ -374,7 +374,7 @@ flushes_at old mid new p r q (d ∷ ds) result may s is some l =
 
 -- a status is left, which the look answered
 pub flushes : (old mid new : Core) (p r q : CompatValue) (result : Poll (Result (Unit {0}) Error)) → p.file.writable
-    ≡ true → Settles old mid p r → (slice_get r.deferred 0 ≡ None → ⊥) → LooksAtOldest mid new r q result
+    ≡ true → SettlesWrites old mid p r → (slice_get r.deferred 0 ≡ None → ⊥) → LooksAtOldest mid new r q result
     → FlushesTo old new p q result
 flushes old mid new p r q result may s some l = flushes_at old mid new p r q r.deferred result may s refl some l
 
@@ -383,7 +383,7 @@ none_left [] none = refl
 none_left (d ∷ ds) none = absurd cc
 
 -- none is left
-pub flushes_all : (old new : Core) (p q : CompatValue) → p.file.writable ≡ true → Settles old new p q
+pub flushes_all : (old new : Core) (p q : CompatValue) → p.file.writable ≡ true → SettlesWrites old new p q
     → slice_get q.deferred 0 ≡ None → FlushesTo old new p q (poll.Ready (Ok tt))
 flushes_all old new p q may s none =
     record {

@@ -93,7 +93,7 @@ use Rattle.sftp_buffered.specs.Buffered.{
   write_of,
   writes_of,
 }
-use Rattle.sftp_buffered.specs.Polls.{AsksAndEnds, Polls, Waits}
+use Rattle.sftp_buffered.specs.Polls.{AsksAndEnds, PollsPlan, PlanWaits}
 use Rattle.sftp_buffered.specs.Steps.{
   IsLeft,
   IsRestOf,
@@ -386,7 +386,7 @@ unfinished_ask plan answers asked e = subst IsUnfinished (sym e) tt
 polls_unsent : (Cut : Asking → Type 0) (full : Bool) (plan : Plan) (facts : Facts) (bytes : List ℕ) (answers : Answers) (old new : Core)
     (p q : CompatValue) (parts : List (List ℕ)) (n : ℕ) (e : Error) → GoesAs plan facts bytes answers (freed full p)
     → IsPartOf facts bytes (freed full p) parts n → (freed full p).file ≡ p.file → Unsent full n old new p q e
-    → Polls {V = ℕ} (Waits plan answers old (IsLeft old new p q)) (IsLeft old new p q) Cut plan (λ k. outcome.Count k) answers old new p q (poll.Ready (Err e))
+    → PollsPlan {V = ℕ} (PlanWaits plan answers old (IsLeft old new p q)) (IsLeft old new p q) Cut plan (λ k. outcome.Count k) answers old new p q (poll.Ready (Err e))
 polls_unsent Cut full plan facts bytes answers old new p q parts n error.OutOfMemory g h same u = u
 polls_unsent Cut full plan facts bytes answers old new p q parts n (error.BackgroundTaskFailure fault) g h same u = (
   u.1,
@@ -411,7 +411,7 @@ pub polls_result : (Cut : Asking → Type 0) (full : Bool) (plan : Plan) (facts 
     → IsPartOf facts bytes (freed full p) parts n → (full ≡ true → is_good (oldest_reply old p.deferred) ≡ true)
     → Cut (parts_of p parts) → IfOk result (λ k. (k ≡ n) × Sent full parts old new p q n)
     → IfErr result (Unsent full n old new p q)
-    → Polls {V = ℕ} (Waits plan answers old (IsLeft old new p q)) (IsLeft old new p q) Cut plan (λ k. outcome.Count k) answers old new p q (poll.Ready result)
+    → PollsPlan {V = ℕ} (PlanWaits plan answers old (IsLeft old new p q)) (IsLeft old new p q) Cut plan (λ k. outcome.Count k) answers old new p q (poll.Ready result)
 polls_result Cut full plan facts bytes answers old new p q parts n (Ok k) g h good cut ok err =
     inr (subst (λ (x : ℕ). AsksAndEnds plan (outcome.Count x) Cut answers old new p q) (sym ok.0)
     (polls_sent Cut full plan facts bytes answers old new p q parts n g h good cut ok.1))

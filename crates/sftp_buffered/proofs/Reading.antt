@@ -57,10 +57,10 @@ use Rattle.call_state.specs.declared.poll.Poll.{Poll}
 use Rattle.call_state.specs.declared.poll.Poll.TheVariants as poll
 use Rattle.sftp_file.specs.Files.{facts_of, file_at}
 use Rattle.sftp_buffered.specs.Buffered.{CompatValue, Defers, IsSound, buffer_of, lane_of, len_of, place_of}
-use Rattle.sftp_buffered.specs.Polls.{AnyCut, Polls, Waits}
+use Rattle.sftp_buffered.specs.Polls.{AnyCut, PollsPlan, PlanWaits}
 use Rattle.sftp_buffered.specs.Reads.{
-  Begun,
-  Fills,
+  BeganRead,
+  FillsBuffer,
   ReadsTo,
   TookRead,
   append_next,
@@ -131,8 +131,8 @@ append_ends p (reply.Attrs attrs) is = absurd cc
 append_ends p (reply.Extended content) is = absurd cc
 
 fills_by : (plan : Plan) (len : ℕ) (old new : Core) (p q : CompatValue) (result : Poll (Result (Unit {0}) Error))
-    (answers : Answers) → ReadsBy plan len (append_go p) answers p → Defers old p answers → Fills len old new p q result
-    → Polls (Waits plan answers old (IsLeft old new p q) ⊎ Begun plan answers old new p q) (IsLeft old new p q) AnyCut
+    (answers : Answers) → ReadsBy plan len (append_go p) answers p → Defers old p answers → FillsBuffer len old new p q result
+    → PollsPlan (PlanWaits plan answers old (IsLeft old new p q) ⊎ BeganRead plan answers old new p q) (IsLeft old new p q) AnyCut
     plan (λ (u : Unit {0}). outcome.Done) answers old new p q result
 fills_by plan len old new p q poll.Pending answers h d f = fills_pending plan len (append_go p) answers old new p q h d f
 fills_by plan len old new p q (poll.Ready (Ok u)) answers h d f =
@@ -147,7 +147,7 @@ fills_by plan len old new p q (poll.Ready (Err e)) answers h d f =
 
 fills_to : (plan : Plan) (len : ℕ) (old new : Core) (p q : CompatValue) (result : Poll (Result (Unit {0}) Error))
     → ((answers : Answers) → Defers old p answers → ReadsBy plan len (append_go p) answers p) → IsSound old p
-    → Fills len old new p q result → ReadsTo plan (λ (u : Unit {0}). outcome.Done) old new p q result
+    → FillsBuffer len old new p q result → ReadsTo plan (λ (u : Unit {0}). outcome.Done) old new p q result
 fills_to plan len old new p q result by s f =
     record {
       polled = λ answers d. fills_by plan len old new p q result answers (by answers d) d f;
@@ -156,7 +156,7 @@ fills_to plan len old new p q result by s f =
     }
 
 pub fill_reads : (amt : ℕ) (old new : Core) (p q : CompatValue) (result : Poll (Result (Unit {0}) Error))
-    → p.file.readable ≡ true → IsSound old p → Fills (min amt (facts_of old).read_len) old new p q result
+    → p.file.readable ≡ true → IsSound old p → FillsBuffer (min amt (facts_of old).read_len) old new p q result
     → ReadsTo (fill_plan amt old p) (λ (u : Unit {0}). outcome.Done) old new p q result
 fill_reads amt old new p q result may s f =
     fills_to (fill_plan amt old p) (min amt (facts_of old).read_len) old new p q result (λ answers d. fill_by amt (facts_of old) answers p may d.brought) s f
@@ -172,7 +172,7 @@ ready_is old p answers none = ap (λ (xs : List ℕ). ready_next 0 (lane_of p) (
 
 pub ready_reads : (old new : Core) (p q : CompatValue) (result : Poll (Result (Unit {0}) Error)) → p.file.readable
     ≡ true → (length p.buffered == 0) ≡ true → IsSound old p
-    → Fills (min p.buffer_len (facts_of old).read_len) old new p q result → ReadsTo (ready_plan old p) (λ (u : Unit {0}). outcome.Done) old new p q result
+    → FillsBuffer (min p.buffer_len (facts_of old).read_len) old new p q result → ReadsTo (ready_plan old p) (λ (u : Unit {0}). outcome.Done) old new p q result
 ready_reads old new p q result may none s f =
     fills_to (ready_plan old p) (min p.buffer_len (facts_of old).read_len) old new p q result
     (λ answers d. (let h = fill_by p.buffer_len (facts_of old) answers p may d.brought in record {
@@ -403,7 +403,7 @@ read_gives n k len p (reply.Extended content) old new some none fits is h = absu
 
 -- the reply was taken, and its first bytes were given
 pub filled_reads : (n k : ℕ) (core next : Core) (p m q : CompatValue) (old new : List ℕ) → MayRead n p
-    → (length p.buffered == 0) ≡ true → IsSound core p → Fills (min (max n p.buffer_len) (facts_of core).read_len) core
+    → (length p.buffered == 0) ≡ true → IsSound core p → FillsBuffer (min (max n p.buffer_len) (facts_of core).read_len) core
     next p m (poll.Ready (Ok tt))
     → IsPut n k m.buffered old new → q ≡ consumed m k → ReadsTo (read_plan n core p) (room_outcome n new) core next p q (poll.Ready (Ok k))
 filled_reads n k core next p m q old new h empty s f put left =
@@ -425,7 +425,7 @@ filled_reads n k core next p m q old new h empty s f put left =
     }
 
 pub pending_reads : (n : ℕ) (core next : Core) (p q : CompatValue) (room : List ℕ) → MayRead n p
-    → (length p.buffered == 0) ≡ true → IsSound core p → Fills (min (max n p.buffer_len) (facts_of core).read_len) core
+    → (length p.buffered == 0) ≡ true → IsSound core p → FillsBuffer (min (max n p.buffer_len) (facts_of core).read_len) core
     next p q poll.Pending
     → ReadsTo (read_plan n core p) (room_outcome n room) core next p q poll.Pending
 pending_reads n core next p q room h empty s f =
@@ -438,7 +438,7 @@ pending_reads n core next p q room h empty s f =
     }
 
 pub refused_reads : (n : ℕ) (core next : Core) (p q : CompatValue) (room : List ℕ) (e : Error) → MayRead n p
-    → (length p.buffered == 0) ≡ true → IsSound core p → Fills (min (max n p.buffer_len) (facts_of core).read_len) core
+    → (length p.buffered == 0) ≡ true → IsSound core p → FillsBuffer (min (max n p.buffer_len) (facts_of core).read_len) core
     next p q (poll.Ready (Err e))
     → ReadsTo (read_plan n core p) (room_outcome n room) core next p q (poll.Ready (Err e))
 refused_reads n core next p q room e h empty s f =

@@ -45,7 +45,7 @@ use Rattle.sftp_model.specs.declared.error.IoKind.{IoKind}
 use Rattle.sftp_core.specs.Core.{Core}
 use Rattle.sftp_file.specs.Files.{file_at}
 use Rattle.sftp_buffered.specs.Buffered.{CompatValue, IsSound, buffer_of, lane_of, len_of}
-use Rattle.sftp_buffered.specs.Seeks.{Seeks, stood}
+use Rattle.sftp_buffered.specs.Seeks.{SeeksTo, stood}
 use Rattle.sftp_buffered.specs.Steps.{read_dropped}
 use Rattle.sftp_buffered.proofs.Resting.{rest_same}
 use Rattle.sftp_buffered.proofs.Others.{others_dropped, others_same}
@@ -71,7 +71,7 @@ other_test a b other = grind (arith, nat_tests)
 
 -- the file stands there
 pub seek_same : (position : SeekFrom) (core : Core) (c : CompatValue) (to : ℕ) → LeadsTo position c.file.offset to → to
-    ≡ c.file.offset → IsSound core c → Seeks position core core c c (Ok tt)
+    ≡ c.file.offset → IsSound core c → SeeksTo position core core c c (Ok tt)
 seek_same position core c to leads same s =
     record {
       seeks = λ facts answers. seek_goes position c to facts answers leads
@@ -110,9 +110,9 @@ stood_sound core c to below s =
 -- it stands elsewhere
 pub seek_moved : (position : SeekFrom) (old new : Core) (p q : CompatValue) (to : ℕ) → LeadsTo position p.file.offset to
     → (to ≡ p.file.offset → ⊥) → to < 2 ^ 64 → IsSound old p → q ≡ stood p to → new ≡ read_dropped old p.reading
-    → Seeks position old new p q (Ok tt)
+    → SeeksTo position old new p q (Ok tt)
 seek_moved position old new p q to leads other below s left core =
-    let now : Seeks position old (read_dropped old p.reading) p (stood p to) (Ok tt) = record {
+    let now : SeeksTo position old (read_dropped old p.reading) p (stood p to) (Ok tt) = record {
       seeks = λ facts answers. seek_goes position p to facts answers leads
           ∙ (λ i. Done (outcome.Count to) (with_slot (lane_of p) 0 (if other_test to p.file.offset other i then Buffered (file_at p.file) (buffer_of p)
           else Buffered (record (file_at p.file) { offset = to }) (sought_buffer p.file.offset to (buffer_of p)))));
@@ -127,15 +127,15 @@ seek_moved position old new p q to leads other below s left core =
       sound = stood_sound old p to below s;
       others = others_dropped old p.reading p (λ ticket apart. apart.read) s.held.read;
     } in
-    subst (λ (x : CompatValue). Seeks position old new p x (Ok tt)) (sym left)
-    (subst (λ (x : Core). Seeks position old x p (stood p to) (Ok tt)) (sym core) now)
+    subst (λ (x : CompatValue). SeeksTo position old new p x (Ok tt)) (sym left)
+    (subst (λ (x : Core). SeeksTo position old x p (stood p to) (Ok tt)) (sym core) now)
 
 -- a position leads to no offset
 abbrev pub LeadsNowhere : SeekFrom → ℕ → IoKind → Type 0
 LeadsNowhere position from why = (site : Site) (go : ℕ → Move) → on_seek position from site go ≡ refuses why site
 
 pub seek_refused : (position : SeekFrom) (core : Core) (c : CompatValue) (why : IoKind)
-    → LeadsNowhere position c.file.offset why → IsSound core c → Seeks position core core c c (Err (error.IOError why))
+    → LeadsNowhere position c.file.offset why → IsSound core c → SeeksTo position core core c c (Err (error.IOError why))
 seek_refused position core c why leads s =
     record {
       seeks = λ facts answers. leads (lane_of c) (λ k. Done (outcome.Count k) (sought_site c k));

@@ -14,11 +14,11 @@ use Rattle.call_state.specs.declared.poll.Poll.TheVariants as poll
 use Rattle.sftp_buffered.specs.declared.file.DeferredWrite.{DeferredWrite}
 use Rattle.sftp_buffered.specs.Buffered.{AreApart, CompatValue, Defers, IsApart, IsSound}
 use Rattle.sftp_buffered.specs.Flushes.{FlushesTo, flush_plan}
-use Rattle.sftp_buffered.specs.Polls.{AnyCut, AsksAndEnds, Polls, Waits}
-use Rattle.sftp_buffered.specs.Reads.{Begun, ReadsTo}
-use Rattle.sftp_buffered.specs.Seeks.{Seeks}
+use Rattle.sftp_buffered.specs.Polls.{AnyCut, AsksAndEnds, PollsPlan, PlanWaits}
+use Rattle.sftp_buffered.specs.Reads.{BeganRead, ReadsTo}
+use Rattle.sftp_buffered.specs.Seeks.{SeeksTo}
 use Rattle.sftp_buffered.specs.Steps.{IsLeft}
-use Rattle.sftp_buffered.specs.Writes.{Writes, write_plan}
+use Rattle.sftp_buffered.specs.Writes.{WritesBuffered, write_plan}
 use Rattle.sftp_buffered.proofs.Holding.{not_free}
 use Rattle.sftp_buffered.proofs.Keeping.{replies_told}
 use Rattle.sftp_buffered.proofs.Resting.{apart_rest}
@@ -44,7 +44,7 @@ apart_asks ticket kind plan o Cut answers old new p q held apart a =
 apart_polls : {V : Type 0} (ticket : ℕ) (kind : Expected) (Pending Left : Type 0) (Cut : Asking → Type 0) (plan : Plan)
     (o : V → Outcome) (answers : Answers) (old new : Core) (p q : CompatValue) (result : Poll (Result V Error))
     → (Pending → IsApart ticket q) → (Left → IsApart ticket q) → HoldsTicket old ticket kind → IsApart ticket p
-    → Polls Pending Left Cut plan o answers old new p q result → IsApart ticket q
+    → PollsPlan Pending Left Cut plan o answers old new p q result → IsApart ticket q
 apart_polls ticket kind Pending Left Cut plan o answers old new p q poll.Pending pending left held apart h = pending h
 apart_polls ticket kind Pending Left Cut plan o answers old new p q (poll.Ready (Err error.OutOfMemory)) pending left held apart h = left h
 apart_polls ticket kind Pending Left Cut plan o answers old new p q (poll.Ready (Err (error.BackgroundTaskFailure fault))) pending left held apart h = left h.2
@@ -55,7 +55,7 @@ apart_polls ticket kind Pending Left Cut plan o answers old new p q (poll.Ready 
 apart_polls ticket kind Pending Left Cut plan o answers old new p q (poll.Ready (Err e)) pending left held apart h = apart_rest ticket old new p q h.rest apart
 
 pub writes_apart : (Cut : Asking → Type 0) (bytes : List ℕ) (old new : Core) (p q : CompatValue) (result : Poll (Result ℕ Error)) (ticket : ℕ) (kind : Expected)
-    → IsSound old p → HoldsTicket old ticket kind → IsApart ticket p → Writes Cut bytes old new p q result → IsApart ticket q
+    → IsSound old p → HoldsTicket old ticket kind → IsApart ticket p → WritesBuffered Cut bytes old new p q result → IsApart ticket q
 writes_apart Cut bytes old new p q result ticket kind s held apart w =
     let told : (answers : Answers) × Defers old p answers = replies_told old p s in
     apart_polls ticket kind _ _ Cut (write_plan bytes old p) _ told.0 old new p q result
@@ -72,12 +72,12 @@ flushes_apart old new p q result ticket kind s held apart f =
     (λ left. apart_rest ticket old new p q left.rest apart) held apart (f.polled told.0 told.1)
 
 apart_begun : (ticket : ℕ) (kind : Expected) (plan : Plan) (answers : Answers) (old new : Core) (p q : CompatValue)
-    → HoldsTicket old ticket kind → IsApart ticket p → Begun plan answers old new p q → IsApart ticket q
+    → HoldsTicket old ticket kind → IsApart ticket p → BeganRead plan answers old new p q → IsApart ticket q
 apart_begun ticket kind plan answers old new p q held apart b =
     subst (IsApart ticket) (sym b.left) (record { writes = apart.writes; read = not_free old ticket b.ticket kind held b.submitted.free })
 
 apart_pending : (ticket : ℕ) (kind : Expected) (plan : Plan) (answers : Answers) (old new : Core) (p q : CompatValue) → HoldsTicket old ticket kind → IsApart ticket p
-    → Waits plan answers old (IsLeft old new p q) ⊎ Begun plan answers old new p q → IsApart ticket q
+    → PlanWaits plan answers old (IsLeft old new p q) ⊎ BeganRead plan answers old new p q → IsApart ticket q
 apart_pending ticket kind plan answers old new p q held apart (inl w) = apart_left ticket old new p q w.left apart
 apart_pending ticket kind plan answers old new p q held apart (inr b) = apart_begun ticket kind plan answers old new p q held apart b
 
@@ -91,5 +91,5 @@ reads_apart plan o old new p q result ticket kind s held apart r =
     (λ left. apart_left ticket old new p q left apart) held apart (r.polled told.0 told.1)
 
 pub seeks_apart : (position : SeekFrom) (old new : Core) (p q : CompatValue) (result : Result (Unit {0}) Error)
-    (ticket : ℕ) → IsApart ticket p → Seeks position old new p q result → IsApart ticket q
+    (ticket : ℕ) → IsApart ticket p → SeeksTo position old new p q result → IsApart ticket q
 seeks_apart position old new p q result ticket apart s = apart_rest ticket old new p q s.rest apart

@@ -39,7 +39,7 @@ use Rattle.sftp_file.specs.Files.{facts_of, file_at}
 use Rattle.sftp_buffered.proofs.Holding.{parts_of}
 use Rattle.sftp_buffered.specs.declared.window.Window.{Window}
 use Rattle.sftp_buffered.specs.Buffered.{CompatValue, Defers, IsSound, buffer_of, lane_of}
-use Rattle.sftp_buffered.specs.Polls.{Polls, Waits}
+use Rattle.sftp_buffered.specs.Polls.{PollsPlan, PlanWaits}
 use Rattle.sftp_buffered.specs.Steps.{
   IsLeft,
   LooksAtOldest,
@@ -51,7 +51,7 @@ use Rattle.sftp_buffered.specs.Steps.{
   without_oldest,
 }
 use Rattle.sftp_buffered.proofs.Resting.{rest_at, rest_freed}
-use Rattle.sftp_buffered.specs.Writes.{HasRoom, IsWindow, Sent, Unsent, Writes, write_plan}
+use Rattle.sftp_buffered.specs.Writes.{HasRoom, IsWindow, Sent, Unsent, WritesBuffered, write_plan}
 use Rattle.sftp_buffered.proofs.Sound.{sound_left, sound_looked, sound_send}
 use Rattle.sftp_buffered.proofs.Windows.{window_left, window_looked, window_same, window_send}
 use Rattle.sftp_buffered.proofs.Others.{others_left, others_looked, others_same, others_send}
@@ -82,7 +82,7 @@ pub record MayWrite (bytes : List ℕ) (c : CompatValue) : Type 0 where
 
 window_waits : (bytes : List ℕ) (old new : Core) (p q : CompatValue) → MayWrite bytes p → IsSound old p
     → IsWindow old new p q poll.Pending → (answers : Answers) → Defers old p answers
-    → Waits (write_plan bytes old p) answers old (IsLeft old new p q)
+    → PlanWaits (write_plan bytes old p) answers old (IsLeft old new p q)
 window_waits bytes old new p q m s w answers d =
     let o : Oldest p = has_oldest p (facts_of old) w.0 in
     record {
@@ -95,7 +95,7 @@ window_waits bytes old new p q m s w answers d =
 
 -- the window was full, and the oldest status isn't good
 pub pending_writes : (Cut : Asking → Type 0) (bytes : List ℕ) (old new : Core) (p q : CompatValue) → MayWrite bytes p → IsSound old p
-    → IsWindow old new p q poll.Pending → Writes Cut bytes old new p q poll.Pending
+    → IsWindow old new p q poll.Pending → WritesBuffered Cut bytes old new p q poll.Pending
 pending_writes Cut bytes old new p q m s w = record {
   polled = window_waits bytes old new p q m s w;
   sound =
@@ -107,7 +107,7 @@ pending_writes Cut bytes old new p q m s w = record {
 refused_polls : (Cut : Asking → Type 0) (bytes : List ℕ) (old new : Core) (p q : CompatValue) (e : Error) → MayWrite bytes p → IsSound old p
     → must_wait (facts_of old) p ≡ true → LooksAtOldest old new p q (poll.Ready (Err e))
     → (answers : Answers) → Defers old p answers
-    → Polls {V = ℕ} (Waits (write_plan bytes old p) answers old (IsLeft old new p q)) (IsLeft old new p q) Cut
+    → PollsPlan {V = ℕ} (PlanWaits (write_plan bytes old p) answers old (IsLeft old new p q)) (IsLeft old new p q) Cut
     (write_plan bytes old p) (λ k. outcome.Count k) answers old new p q (poll.Ready (Err e))
 refused_polls Cut bytes old new p q (error.BackgroundTaskFailure fault) m s full w answers d =
     let o : Oldest p = has_oldest p (facts_of old) full in
@@ -123,7 +123,7 @@ refused_polls Cut bytes old new p q e m s full w answers d =
     }
 
 pub refused_writes : (Cut : Asking → Type 0) (bytes : List ℕ) (old new : Core) (p q : CompatValue) (e : Error) → MayWrite bytes p
-    → IsSound old p → IsWindow old new p q (poll.Ready (Err e)) → Writes Cut bytes old new p q (poll.Ready (Err e))
+    → IsSound old p → IsWindow old new p q (poll.Ready (Err e)) → WritesBuffered Cut bytes old new p q (poll.Ready (Err e))
 refused_writes Cut bytes old new p q e m s w = record {
   polled = refused_polls Cut bytes old new p q e m s w.0 w.1;
   sound =
@@ -142,7 +142,7 @@ pub record SendsPart (Cut : Asking → Type 0) (bytes : List ℕ) (core : Core) 
 sent_writes_here : (Cut : Asking → Type 0) (bytes : List ℕ) (old new : Core) (p q : CompatValue) (w : Window) (parts : List (List ℕ)) (n : ℕ)
     (result : Result ℕ Error) → MayWrite bytes p → IsSound old p → SendsPart Cut bytes old p w parts n
     → IfOk result (λ k. (k ≡ n) × Sent w.is_full parts old new p q n) → IfErr result (Unsent w.is_full n old new p q)
-    → Writes Cut bytes old new p q (poll.Ready result)
+    → WritesBuffered Cut bytes old new p q (poll.Ready result)
 sent_writes_here Cut bytes old new p q w parts n result m s h ok err =
     let part : IsPartOf (facts_of old) bytes (freed w.is_full p) parts n =
     record { len = h.len ∙ ap (λ (k : ℕ). min (length bytes) k) h.room.len; first = h.first } in
@@ -158,7 +158,7 @@ pub sent_writes : (Cut : Asking → Type 0) (bytes : List ℕ) (old now new : Co
     (n : ℕ) (result : Result ℕ Error) → MayWrite bytes p → IsSound old p → IsLeft old now p r
     → SendsPart Cut bytes old p w parts n
     → IfOk result (λ k. (k ≡ n) × Sent w.is_full parts now new r q n) → IfErr result (Unsent w.is_full n now new r q)
-    → Writes Cut bytes old new p q (poll.Ready result)
+    → WritesBuffered Cut bytes old new p q (poll.Ready result)
 sent_writes Cut bytes old now new p r q w parts n result m s l h ok err =
     sent_writes_here Cut bytes old new p q w parts n result m s h
     (subst (λ (x : CompatValue). IfOk result (λ k. (k ≡ n) × Sent w.is_full parts old new x q n)) l.same
@@ -168,7 +168,7 @@ sent_writes Cut bytes old now new p r q w parts n result m s l h ok err =
 
 -- want of memory behind the window
 pub short_writes : (Cut : Asking → Type 0) (bytes : List ℕ) (old new : Core) (p q : CompatValue) → IsSound old p → IsLeft old new p q
-    → Writes Cut bytes old new p q (poll.Ready (Err error.OutOfMemory))
+    → WritesBuffered Cut bytes old new p q (poll.Ready (Err error.OutOfMemory))
 short_writes Cut bytes old new p q s l = record {
   polled = λ answers d. l;
   sound = sound_left old new p q l s;
@@ -180,7 +180,7 @@ short_writes Cut bytes old new p q s l = record {
 -- ---- before the window
 
 pub unwritable_writes : (Cut : Asking → Type 0) (bytes : List ℕ) (core : Core) (c : CompatValue) → c.file.writable ≡ false → IsSound core c
-    → Writes Cut bytes core core c c (poll.Ready (Err (error.IOError kind.NotWritable)))
+    → WritesBuffered Cut bytes core core c c (poll.Ready (Err (error.IOError kind.NotWritable)))
 unwritable_writes Cut bytes core c not_so s =
     record {
       polled = λ answers d. record {
@@ -195,7 +195,7 @@ unwritable_writes Cut bytes core c not_so s =
     }
 
 pub empty_writes : (Cut : Asking → Type 0) (bytes : List ℕ) (core : Core) (c : CompatValue) → c.file.writable ≡ true → (length bytes == 0)
-    ≡ true → IsSound core c → Writes Cut bytes core core c c (poll.Ready (Ok 0))
+    ≡ true → IsSound core c → WritesBuffered Cut bytes core core c c (poll.Ready (Ok 0))
 empty_writes Cut bytes core c may none s =
     record {
       polled = λ answers d. inl (record {

@@ -11,7 +11,7 @@ use Rattle.call_state.specs.declared.poll.Poll.TheVariants as poll
 use Rattle.sftp_file.specs.Files.{facts_of}
 use Rattle.sftp_buffered.specs.declared.file.DeferredWrite.{DeferredWrite}
 use Rattle.sftp_buffered.specs.Buffered.{CompatValue, Defers, IsSound, LeavesOthers, lane_of, writes_of}
-use Rattle.sftp_buffered.specs.Polls.{AnyCut, Polls, Waits}
+use Rattle.sftp_buffered.specs.Polls.{AnyCut, PollsPlan, PlanWaits}
 use Rattle.sftp_buffered.specs.Steps.{AreTaken, IsRestOf, oldest_reply}
 
 -- the writes from the first on whose STATUS of OK wasn't taken
@@ -25,7 +25,7 @@ with_writes c ds = record c { deferred = ds; pending = pending (writes_of ds) }
 
 -- The writes before the first whose STATUS of OK wasn't taken are gone, as after a flush that was cancelled; what the
 -- core has for the rest is as before, as is the kept fault.
-pub record Settles (old new : Core) (p q : CompatValue) : Type 0 where
+pub record SettlesWrites (old new : Core) (p q : CompatValue) : Type 0 where
   pub left : q ≡ with_writes p (unsettled old p.deferred)
   pub rest : AreTaken old new p q
   pub lane : (answers : Answers) → Defers old p answers
@@ -50,7 +50,8 @@ pub record IsFlushed (old new : Core) (p q : CompatValue) (answers : Answers) : 
 -- taken.
 pub record FlushesTo (old new : Core) (p q : CompatValue) (result : Poll (Result (Unit {0}) Error)) : Type 0 where
   pub polled : (answers : Answers) → Defers old p answers
-      → Polls (Waits (flush_plan old p) answers old (IsFlushed old new p q answers)) (IsFlushed old new p q answers)
+      → PollsPlan (PlanWaits (flush_plan old p) answers old (IsFlushed old new p q answers))
+      (IsFlushed old new p q answers)
       AnyCut
       (flush_plan old p) (λ u. outcome.Done) answers old new p q result
   pub memory : result ≡ poll.Ready (Err error.OutOfMemory) → ⊥

@@ -16,7 +16,7 @@ use Rattle.sftp_buffered.specs.Buffered.{CompatValue, lane_of}
 use Rattle.sftp_buffered.specs.Steps.{IsRestOf, after_written, deferring, read_dropped}
 
 -- the plan waits for a reply, no fault is kept, and this is what is left
-pub record Waits (plan : Plan) (answers : Answers) (old : Core) (Left : Type 0) : Type 0 where
+pub record PlanWaits (plan : Plan) (answers : Answers) (old : Core) (Left : Type 0) : Type 0 where
   pub place : ℕ
   pub waits : plan [] answers ≡ Wait place
   pub unfailed : old.fault ≡ None
@@ -52,13 +52,13 @@ pub record AsksAndEnds (plan : Plan) (o : Outcome) (Cut : Asking → Type 0) (an
 
 -- What a poll answered, where `Pending`, want of memory and a kept fault leave what is said of them; a fault is
 -- answered where the plan is not at its end.
-abbrev pub Polls : {V : Type 0} → Type 0 → Type 0 → (Asking → Type 0) → Plan → (V → Outcome) → Answers → Core → Core
+abbrev pub PollsPlan : {V : Type 0} → Type 0 → Type 0 → (Asking → Type 0) → Plan → (V → Outcome) → Answers → Core → Core
     → CompatValue → CompatValue → Poll (Result V Error) → Type 0
-Polls Due Left Cut plan o answers old new p q poll.Pending = Due
-Polls Due Left Cut plan o answers old new p q (poll.Ready (Err error.OutOfMemory)) = Left
-Polls Due Left Cut plan o answers old new p q (poll.Ready (Err (error.BackgroundTaskFailure fault))) =
+PollsPlan Due Left Cut plan o answers old new p q poll.Pending = Due
+PollsPlan Due Left Cut plan o answers old new p q (poll.Ready (Err error.OutOfMemory)) = Left
+PollsPlan Due Left Cut plan o answers old new p q (poll.Ready (Err (error.BackgroundTaskFailure fault))) =
     (old.fault ≡ Some fault) × IsUnfinished (plan [] answers) × Left
-Polls Due Left Cut plan o answers old new p q (poll.Ready (Ok value)) = Ends plan (o value) answers old new p q
+PollsPlan Due Left Cut plan o answers old new p q (poll.Ready (Ok value)) = Ends plan (o value) answers old new p q
     ⊎ AsksAndEnds plan (o value) Cut answers old new p q
-Polls Due Left Cut plan o answers old new p q (poll.Ready (Err e)) =
+PollsPlan Due Left Cut plan o answers old new p q (poll.Ready (Err e)) =
     Ends plan (outcome.Refused e) answers old new p q

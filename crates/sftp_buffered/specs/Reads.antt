@@ -69,7 +69,7 @@ use Rattle.call_state.specs.declared.poll.Poll.TheVariants as poll
 use Rattle.sftp_file.specs.Files.{facts_of}
 use Rattle.sftp_buffered.specs.declared.file.ReadUnderWay.{ReadUnderWay}
 use Rattle.sftp_buffered.specs.Buffered.{CompatValue, Defers, IsSound, LeavesOthers, lane_of}
-use Rattle.sftp_buffered.specs.Polls.{AnyCut, Polls, Waits}
+use Rattle.sftp_buffered.specs.Polls.{AnyCut, PollsPlan, PlanWaits}
 use Rattle.sftp_buffered.specs.Steps.{IsLeft}
 
 -- ---- the plan of a read into the buffer
@@ -199,13 +199,13 @@ pub record EndsFill (old new : Core) (p q : CompatValue) (result : Poll (Result 
   pub under_way : p.reading ≡ Some read
   pub awaits : AwaitsFill old new p q result
 
-abbrev pub Fills : ℕ → Core → Core → CompatValue → CompatValue → Poll (Result (Unit {0}) Error) → Type 0
-Fills len old new p q result = BeginsFill len old new p q result ⊎ EndsFill old new p q result
+abbrev pub FillsBuffer : ℕ → Core → Core → CompatValue → CompatValue → Poll (Result (Unit {0}) Error) → Type 0
+FillsBuffer len old new p q result = BeginsFill len old new p q result ⊎ EndsFill old new p q result
 
 -- ---- the polls
 
 -- the plan asks for a READ, which was submitted and is under way, as after a read that is cancelled then
-pub record Begun (plan : Plan) (answers : Answers) (old new : Core) (p q : CompatValue) : Type 0 where
+pub record BeganRead (plan : Plan) (answers : Answers) (old new : Core) (p q : CompatValue) : Type 0 where
   pub len : ℕ
   pub ticket : ℕ
   pub asks : plan [] answers ≡ Ask (read_behind p len)
@@ -219,7 +219,8 @@ pub record Begun (plan : Plan) (answers : Answers) (old new : Core) (p q : Compa
 pub record ReadsTo {V : Type 0} (plan : Plan) (o : V → Outcome) (old new : Core) (p q : CompatValue)
     (result : Poll (Result V Error)) : Type 0 where
   pub polled : (answers : Answers) → Defers old p answers
-      → Polls (Waits plan answers old (IsLeft old new p q) ⊎ Begun plan answers old new p q) (IsLeft old new p q) AnyCut
+      → PollsPlan (PlanWaits plan answers old (IsLeft old new p q) ⊎ BeganRead plan answers old new p q)
+      (IsLeft old new p q) AnyCut
       plan o answers old new p q result
   pub sound : IsSound new q
   pub others : LeavesOthers old new p

@@ -32,7 +32,8 @@ IsLeftByErr old new p q (Ok u) = Unit {0}
 IsLeftByErr old new p q (Err e) = IsLeft old new p q
 
 -- The seek did what its plan says, the file may be polled on, and others find the core as it was.
-pub record Seeks (position : SeekFrom) (old new : Core) (p q : CompatValue) (result : Result (Unit {0}) Error) : Type 0
+pub record SeeksTo (position : SeekFrom) (old new : Core) (p q : CompatValue) (result : Result (Unit {0}) Error) : Type
+    0
   where
     pub seeks : (facts : Facts) (answers : Answers)
         → buf_seek_next 0 position (lane_of p) facts [] answers ≡ seek_ended result q

@@ -18,7 +18,7 @@ use Rattle.sftp_file.specs.Files.{facts_of}
 use Rattle.sftp_file.specs.Parts.{cut_at}
 use Rattle.sftp_buffered.specs.declared.window.Window.{Window}
 use Rattle.sftp_buffered.specs.Buffered.{CompatValue, Defers, IsSound, LeavesOthers, lane_of}
-use Rattle.sftp_buffered.specs.Polls.{Polls, Waits}
+use Rattle.sftp_buffered.specs.Polls.{PollsPlan, PlanWaits}
 use Rattle.sftp_buffered.specs.Steps.{
   IsLeft,
   LooksAtOldest,
@@ -86,10 +86,10 @@ IsCutOut pieces c asking = (n : ℕ) × (asking ≡ Parts c.file.grant.handle c.
 
 -- The poll did the next move of the write of these bytes, whatever the replies to come, the file may be polled on, and
 -- others find the core as it was. `Pending`, want of memory and a kept fault leave core and file as they were.
-pub record Writes (Cut : Asking → Type 0) (bytes : List ℕ) (old new : Core) (p q : CompatValue)
+pub record WritesBuffered (Cut : Asking → Type 0) (bytes : List ℕ) (old new : Core) (p q : CompatValue)
     (result : Poll (Result ℕ Error)) : Type 0 where
   pub polled : (answers : Answers) → Defers old p answers
-      → Polls (Waits (write_plan bytes old p) answers old (IsLeft old new p q)) (IsLeft old new p q) Cut
+      → PollsPlan (PlanWaits (write_plan bytes old p) answers old (IsLeft old new p q)) (IsLeft old new p q) Cut
       (write_plan bytes old p) (λ n. outcome.Count n) answers old new p q result
   pub window : q.pending ≤ max p.pending (facts_of old).write_limit
   pub sound : IsSound new q

@@ -8,7 +8,7 @@ ghost use Rattle.call_state.specs.Asked.{IsReady, Submitted};
 ghost use Rattle.call_state.specs.declared.asking.Asking.TheVariants as asking;
 ghost use Rattle.sftp_file.specs.Files.{facts_of};
 ghost use Rattle.sftp_buffered.specs.Buffered.{IsHeldRead, IsSound};
-ghost use Rattle.sftp_buffered.specs.Reads.{BeginsRead, Fills, IsAllowedRead, LooksAtRead, ReadsTo, end_of, fill_plan, fill_value, read_reply, without_read};
+ghost use Rattle.sftp_buffered.specs.Reads.{BeginsRead, FillsBuffer, IsAllowedRead, LooksAtRead, ReadsTo, end_of, fill_plan, fill_value, read_reply, without_read};
 ghost use Rattle.sftp_buffered.specs.Steps.{IsStopped, read_taken};
 
 use crate::file::{ReadUnderWay, TokioCompatFile};
@@ -141,7 +141,7 @@ impl TokioCompatFile {
     pub(crate) fn fill(&mut self, core: &mut Core, len: usize) -> Poll<Result<(), Error>>
         requires ready { IsReady core.old }
         requires sound { IsSound core.old self.old }
-        ensures { Fills (min len (facts_of core.old).read_len) core.old core.new self.old self.new result }
+        ensures { FillsBuffer (min len (facts_of core.old).read_len) core.old core.new self.old self.new result }
     {
         if self.reading.is_none() {
             let most = read_len(core);

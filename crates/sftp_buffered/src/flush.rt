@@ -2,7 +2,7 @@
 ghost use Rattle.std.specs.Prelude.{◌≡◌};
 ghost use Rattle.plan_model.specs.BufferPlans.{is_good};
 ghost use Rattle.sftp_buffered.specs.Buffered.{AreHeld, IsSound};
-ghost use Rattle.sftp_buffered.specs.Flushes.{FlushesTo, Settles};
+ghost use Rattle.sftp_buffered.specs.Flushes.{FlushesTo, SettlesWrites};
 ghost use Rattle.sftp_buffered.specs.Steps.{oldest_reply};
 
 use crate::file::TokioCompatFile;
@@ -25,7 +25,7 @@ impl TokioCompatFile {
     /// Takes out, oldest first, the deferred writes whose STATUS of OK was taken, up to the first other.
     pub fn settle(&mut self, core: &mut Core)
         requires { IsSound core.old self.old }
-        ensures { Settles core.old core.new self.old self.new }
+        ensures { SettlesWrites core.old core.new self.old self.new }
     {
         while self.is_oldest_good(core) {
             self.make_way(core, true);

@@ -11,8 +11,8 @@ ghost use Rattle.call_state.specs.declared.poll.Poll.{Poll};
 ghost use Rattle.sftp_buffered.specs.Flushes.{FlushesTo};
 ghost use Rattle.sftp_buffered.specs.Polls.{AnyCut};
 ghost use Rattle.sftp_buffered.specs.Reads.{ReadsTo};
-ghost use Rattle.sftp_buffered.specs.Seeks.{Seeks};
-ghost use Rattle.sftp_buffered.specs.Writes.{IsCutOut, Writes};
+ghost use Rattle.sftp_buffered.specs.Seeks.{SeeksTo};
+ghost use Rattle.sftp_buffered.specs.Writes.{IsCutOut, WritesBuffered};
 ghost use Rattle.call_state.specs.Keeping.{KeepsHeld};
 ghost use Rattle.plan_model.specs.Moves.{Answers, Plan};
 ghost use Rattle.sftp_buffered.specs.Buffered.{CompatValue, Defers, IsApart, IsSound, LeavesOthers, ShareNoTicket};
@@ -43,10 +43,10 @@ pub fn replies_can_be_told()
 pub fn tickets_stay_apart()
     ensures writes { (bytes : List ℕ) (old new : Core) (p q : CompatValue) (result : Poll (Result ℕ Error)) (ticket : ℕ)
         (kind : Expected) → IsSound old p → HoldsTicket old ticket kind → IsApart ticket p
-        → Writes AnyCut bytes old new p q result → IsApart ticket q }
+        → WritesBuffered AnyCut bytes old new p q result → IsApart ticket q }
     ensures vectored { (pieces : List (List ℕ)) (bytes : List ℕ) (old new : Core) (p q : CompatValue)
         (result : Poll (Result ℕ Error)) (ticket : ℕ) (kind : Expected) → IsSound old p → HoldsTicket old ticket kind
-        → IsApart ticket p → Writes (IsCutOut pieces p) bytes old new p q result → IsApart ticket q }
+        → IsApart ticket p → WritesBuffered (IsCutOut pieces p) bytes old new p q result → IsApart ticket q }
     ensures flushes { (old new : Core) (p q : CompatValue) (result : Poll (Result (Unit {0}) Error)) (ticket : ℕ)
         (kind : Expected) → IsSound old p → HoldsTicket old ticket kind → IsApart ticket p
         → FlushesTo old new p q result → IsApart ticket q }
@@ -57,5 +57,5 @@ pub fn tickets_stay_apart()
         (result : Poll (Result ℕ Error)) (ticket : ℕ) (kind : Expected) → IsSound old p → HoldsTicket old ticket kind
         → IsApart ticket p → ReadsTo plan o old new p q result → IsApart ticket q }
     ensures seeks { (position : SeekFrom) (old new : Core) (p q : CompatValue) (result : Result (Unit {0}) Error)
-        (ticket : ℕ) → IsApart ticket p → Seeks position old new p q result → IsApart ticket q }
+        (ticket : ℕ) → IsApart ticket p → SeeksTo position old new p q result → IsApart ticket q }
 {}

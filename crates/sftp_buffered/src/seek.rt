@@ -1,7 +1,7 @@
 //! Seeks, which need no request.
 ghost use Rattle.std.specs.Prelude.{◌≡◌};
 ghost use Rattle.sftp_buffered.specs.Buffered.{IsSound};
-ghost use Rattle.sftp_buffered.specs.Seeks.{Seeks, stood};
+ghost use Rattle.sftp_buffered.specs.Seeks.{SeeksTo, stood};
 ghost use Rattle.sftp_buffered.specs.Steps.{read_dropped};
 
 use crate::file::TokioCompatFile;
@@ -17,7 +17,7 @@ impl TokioCompatFile {
     /// over 18446744073709551615, and `SeekUnderflow` where it would be below 0. Refused, core and file are as before.
     pub fn start_seek(&mut self, core: &mut Core, position: SeekFrom) -> Result<(), Error>
         requires { IsSound core.old self.old }
-        ensures { Seeks position core.old core.new self.old self.new result }
+        ensures { SeeksTo position core.old core.new self.old self.new result }
     {
         let from = self.file.offset();
         match sought(from, position) {

@@ -9,7 +9,7 @@ ghost use Rattle.call_state.specs.declared.asking.Asking.TheVariants as asking;
 ghost use Rattle.sftp_buffered.specs.Buffered.{IsCounted, IsHeld, IsSound};
 ghost use Rattle.sftp_buffered.specs.Polls.{AnyCut};
 ghost use Rattle.sftp_buffered.specs.Steps.{IsLeft, IsStopped, freed, oldest_reply};
-ghost use Rattle.sftp_buffered.specs.Writes.{IsCutOut, IsDeferred, Sent, Unsent, Writes};
+ghost use Rattle.sftp_buffered.specs.Writes.{IsCutOut, IsDeferred, Sent, Unsent, WritesBuffered};
 
 use crate::file::{DeferredWrite, TokioCompatFile};
 use bytes::Bytes;
@@ -110,7 +110,7 @@ impl TokioCompatFile {
     pub fn poll_write(&mut self, core: &mut Core, buf: &[u8]) -> Poll<Result<usize, Error>>
         requires ready { IsReady core.old }
         requires sound { IsSound core.old self.old }
-        ensures { Writes AnyCut buf.now core.old core.new self.old self.new result }
+        ensures { WritesBuffered AnyCut buf.now core.old core.new self.old self.new result }
     {
         if !self.file.is_writable() {
             return Poll::Ready(Err(Error::IOError(IoKind::NotWritable)));
@@ -140,7 +140,7 @@ impl TokioCompatFile {
     ) -> Poll<Result<usize, Error>>
         requires ready { IsReady core.old }
         requires sound { IsSound core.old self.old }
-        ensures { Writes (IsCutOut bufs.now self.old) (joined bufs.now) core.old core.new self.old self.new result }
+        ensures { WritesBuffered (IsCutOut bufs.now self.old) (joined bufs.now) core.old core.new self.old self.new result }
     {
         if !self.file.is_writable() {
             return Poll::Ready(Err(Error::IOError(IoKind::NotWritable)));

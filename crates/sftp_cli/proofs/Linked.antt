@@ -13,7 +13,7 @@ use Rattle.session_model.specs.Settings.{greeting}
 use Rattle.session_model.specs.Shown.{Shows}
 use Rattle.sftp_text.specs.Texts.{text_of}
 use Rattle.session_exchange.specs.Causes.{Cause, EndCause}
-use Rattle.session_driver.specs.Logs.{Ends}
+use Rattle.session_driver.specs.Logs.{EndsSession}
 use Rattle.sftp_lanes.specs.Reported.{IsReport}
 use Rattle.sftp_lanes.specs.Seen.{given}
 use Rattle.sftp_text.specs.Traces.{journal_of}
@@ -45,7 +45,7 @@ is_shown script before log faults ended report text none run is =
 pub run_stopped : (script : Script) (lanes : List Lane) (turns : List Turn) (before log : List Piece)
     (first faults : ℕ) (ended : Bool) (e : Error) (r : Result Printed OutOfMemory) → lanes ≡ script.lanes
     → turns ≡ script.turns → before ≡ [] → first ≡ 0
-    → Told (Ends (given lanes script.options) turns ended e) (Some (reverse before)) (Some log)
+    → Told (EndsSession (given lanes script.options) turns ended e) (Some (reverse before)) (Some log)
     → Cause {T = Report} first faults (Err e) → EndCause {T = Report} ended (Err e)
     → IfOk r (λ reply. (reply.answered ≡ Stopped) × IsErrorLine e reply.text.items)
     → IfOk r (λ reply. RunsOver (Some (record { log = log; faults = faults; ended = ended })) script reply.answered
@@ -53,6 +53,6 @@ pub run_stopped : (script : Script) (lanes : List Lane) (turns : List Turn) (bef
 run_stopped script lanes turns before log first faults ended e r same order none zero stops cause end is =
     stopped_over Report (RunsOver (Some (record { log = log; faults = faults; ended = ended })) script)
     (given script.lanes script.options) script.turns before log first faults ended e r none zero
-    (subst (λ (t : List Turn). Told (Ends (given script.lanes script.options) t ended e) (Some (reverse before)) (Some log)) order
-    (subst (λ (l : List Lane). Told (Ends (given l script.options) turns ended e) (Some (reverse before)) (Some log)) same stops))
+    (subst (λ (t : List Turn). Told (EndsSession (given script.lanes script.options) t ended e) (Some (reverse before)) (Some log)) order
+    (subst (λ (l : List Lane). Told (EndsSession (given l script.options) turns ended e) (Some (reverse before)) (Some log)) same stops))
     cause end is (λ text h. h)

@@ -22,7 +22,7 @@ use Rattle.session_driver.specs.Session.{IsFixed, IsLater}
 use Rattle.session_driver.proofs.Journals.{later_self}
 use Rattle.session_work.specs.declared.lanes.Lanes.{Lanes}
 use Rattle.session_work.specs.Reports.{lane_report, reports_of}
-use Rattle.session_work.specs.SoFar.{HasRoom, IsIntact, IsLeft, Refuses, StaysSoFar, kept_past, refused_past}
+use Rattle.session_work.specs.SoFar.{HasRoom, IsIntact, IsLeft, RefusesWhileOpen, StaysSoFar, kept_past, refused_past}
 use Rattle.session_work.specs.Working.{LanesValue, HandsIn, IsWorking, past_of}
 use Rattle.session_work.proofs.FaultLaws.{kept_so_far, left_so_far, stands_so_far}
 use Rattle.session_work.proofs.ReportLaws.{leaves_intact, refused_told}
@@ -92,7 +92,7 @@ left_fails old new left = record {
 }
 
 pub refused_fails : (body_reads : Result (Option ℕ × Reply) FrameError) (e : TakeError) (old new : Lanes)
-    → Refuses body_reads e old new → Fails old new
+    → RefusesWhileOpen body_reads e old new → Fails old new
 refused_fails body_reads e old new r = record { fault = fault_of e; calls = r.calls; noted = r.noted; stays = r.stays }
 
 pub fails_by : (lanes : List Lane) (options : SftpOptions) (version : Option Reply) (known : Option Info)

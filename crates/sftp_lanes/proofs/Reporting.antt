@@ -26,7 +26,7 @@ use Rattle.session_model.specs.Calls.{Setting}
 use Rattle.session_model.specs.Journals.{IsJournal}
 use Rattle.session_model.proofs.OverLaws.{runs_are_journals}
 use Rattle.session_model.specs.Runs.{IsRun}
-use Rattle.session_driver.specs.Logs.{Ends, HasRun, Showing}
+use Rattle.session_driver.specs.Logs.{EndsSession, HasRun, Showing}
 use Rattle.session_driver.specs.RunsSoFar.{whole}
 use Rattle.session_driver.specs.Session.{Given, IsFixed, IsLater, Seen}
 use Rattle.run_laws.proofs.KeepsFilesLaws.{run_keeps_files}
@@ -38,13 +38,13 @@ later_all s (e ∷ past) j = inr (j.0, later_all s past j.1)
 -- the log shows the whole run, and then nothing
 pub reported_stops : (first given : Given) (now : Seen) (schedule : List Turn) (ended : Bool)
     (before after : Option (List Piece)) → first ≡ given → HasRun first schedule now before after
-    → Told (Ends given schedule ended OutOfMemory) before after
+    → Told (EndsSession given schedule ended OutOfMemory) before after
 reported_stops first given now schedule ended before after same ran = stops before after ran.shows
   where
     fixed : IsFixed given now.version now.stage.past now.setting
     fixed = subst (λ (x : Given). IsFixed x now.version now.stage.past now.setting) same ran.fixed
 
-    stops : (b a : Option (List Piece)) → Told (Showing now.version now.stage.past) b a → Told (Ends given schedule ended OutOfMemory) b a
+    stops : (b a : Option (List Piece)) → Told (Showing now.version now.stage.past) b a → Told (EndsSession given schedule ended OutOfMemory) b a
     stops None a shows = tt
     stops (Some b) None shows = absurd shows
     stops (Some b) (Some a) shows =

@@ -3,7 +3,7 @@ ghost use Rattle.std.specs.Prelude.{◌≡◌, ◌<◌, ◌^◌, ◌-◌, true, 
 ghost use Rattle.sftp_link.specs.Told.{Told};
 ghost use Rattle.plan_model.specs.Lanes.{are_ok};
 ghost use Rattle.session_exchange.specs.Causes.{Caused};
-ghost use Rattle.session_driver.specs.Logs.{Ends};
+ghost use Rattle.session_driver.specs.Logs.{EndsSession};
 ghost use Rattle.sftp_lanes.specs.Complete.{StopsForMemory};
 ghost use Rattle.sftp_lanes.specs.Seen.{given};
 ghost use Rattle.sftp_lanes.specs.Reported.{IsReport};
@@ -39,7 +39,7 @@ pub fn run_lanes<L: Link>(
     requires lanes { are_ok lanes.now ≡ true }
     requires count { (L.LinkState.state link.old).faults < 2 ^ 64 - 1 }
     ensures run { IfOk result (λ report. IsReport lanes.now options.now schedule.now (L.LinkState.state link.old).log (L.LinkState.state link.new).log report) }
-    ensures stops { IfErr result (λ e. Told (Ends (given lanes.now options.now) schedule.now (L.LinkState.state link.new).ended e) (L.LinkState.state link.old).log (L.LinkState.state link.new).log) }
+    ensures stops { IfErr result (λ e. Told (EndsSession (given lanes.now options.now) schedule.now (L.LinkState.state link.new).ended e) (L.LinkState.state link.old).log (L.LinkState.state link.new).log) }
     ensures caused { Caused (L.LinkState.state link.old) (L.LinkState.state link.new) result }
     ensures complete { IfErr result (StopsForMemory (given lanes.now options.now) (L.LinkState.state link.old) (L.LinkState.state link.new)) }
 {

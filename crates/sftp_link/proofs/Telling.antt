@@ -34,7 +34,7 @@ use borrow.Rule.Slice.PartMut.{put_mid, post_of}
 use Rattle.sftp_link.specs.declared.piece.Piece.{Piece}
 use Rattle.sftp_link.specs.declared.piece.Piece.TheVariants.{Sent, Got}
 use Rattle.sftp_link.specs.Log.{SentOn, GotOn}
-use Rattle.sftp_link.specs.Told.{Told, Same, OneMore, Went, SentLess, WentLess, GotLess, CameIntoRoom}
+use Rattle.sftp_link.specs.Told.{Told, Same, OneMore, WroteBytes, SentLess, WentLess, GotLess, CameIntoRoom}
 
 pub told_self : {A : Type 0} (R : A → A → Type 0) (a : Option A) → ((x : A) → R x x) → Told R a a
 told_self R None f = tt
@@ -55,8 +55,8 @@ pub sent_nothing : (b : List Piece) → SentOn b b []
 sent_nothing b = ([], refl, refl)
 
 -- one more piece was sent
-pub sent_more : (b n m : List Piece) (front piece : List ℕ) → SentOn b n front → m ≡ Sent piece ∷ n → SentOn b m (front ++ piece)
-sent_more b n m front piece s e = (Sent piece ∷ s.0, e ∙ ap (λ (w : List Piece). Sent piece ∷ w) s.1, (front, refl, s.2))
+pub sent_more : (b n m : List Piece) (prefix piece : List ℕ) → SentOn b n prefix → m ≡ Sent piece ∷ n → SentOn b m (prefix ++ piece)
+sent_more b n m prefix piece s e = (Sent piece ∷ s.0, e ∙ ap (λ (w : List Piece). Sent piece ∷ w) s.1, (prefix, refl, s.2))
 
 -- what `&bytes[at..]` is
 abbrev pub rest_of : List ℕ → ℕ → List ℕ
@@ -65,7 +65,7 @@ rest_of bytes at = take (length bytes - at) (drop at bytes)
 pub rest_is : (bytes : List ℕ) (at : ℕ) → rest_of bytes at ≡ drop at bytes
 rest_is bytes at = take_all (length bytes - at) (drop at bytes) (omega (arith, length-drop at bytes))
 
--- a front of the bytes, and then a piece of what is left
+-- a prefix of the bytes, and then a piece of what is left
 pub sent_piece : (bytes : List ℕ) (at n : ℕ) (b x y : List Piece) → SentOn b x (take at bytes)
     → OneMore Sent (take n (rest_of bytes at)) x y → SentOn b y (take (at + n) bytes)
 sent_piece bytes at n b x y s e =
@@ -82,31 +82,31 @@ sent_less_before bytes at lt b x y s e = (
   subst (λ (w : List Piece). SentOn b w (take at bytes)) (sym e) s,
 )
 
-pub went_piece : (bytes : List ℕ) (at n : ℕ) (b x y : List ℕ) → Went (take at bytes) b x → Went (take n (rest_of bytes at)) x y → Went (take (at + n) bytes) b y
+pub went_piece : (bytes : List ℕ) (at n : ℕ) (b x y : List ℕ) → WroteBytes (take at bytes) b x → WroteBytes (take n (rest_of bytes at)) x y → WroteBytes (take (at + n) bytes) b y
 went_piece bytes at n b x y s e =
     let piece : take n (rest_of bytes at) ≡ take n (drop at bytes) = ap (λ (w : List ℕ). take n w) (rest_is bytes at) in
     let all : take at bytes ++ take n (rest_of bytes at) ≡ take (at + n) bytes = ap (λ (w : List ℕ). take at bytes ++ w) piece ∙ sym (take-add at n bytes) in
     e ∙ (ap (λ (w : List ℕ). w ++ take n (rest_of bytes at)) s ∙ (append_assoc b (take at bytes) (take n (rest_of bytes at)) ∙ ap (λ (w : List ℕ). b ++ w) all))
 
-pub went_less_before : (bytes : List ℕ) (at : ℕ) → at < length bytes → (b x y : List ℕ) → Went (take at bytes) b x → Same x y → WentLess bytes b y
+pub went_less_before : (bytes : List ℕ) (at : ℕ) → at < length bytes → (b x y : List ℕ) → WroteBytes (take at bytes) b x → Same x y → WentLess bytes b y
 went_less_before bytes at lt b x y s e = (take at bytes, drop at bytes, sym (take-append-drop at bytes), omega (arith, length-drop at bytes), e ∙ s)
 
--- what was copied stood at the front of what was left
+-- what was copied stood at the prefix of what was left
 pub came : (items copied rest : List ℕ) (room at n : ℕ) → at ≤ length items → 0 < room → n
     ≡ min room (length items - at) → copied ≡ take n (drop at items)
     → CameIntoRoom (copied ++ rest) n (drop at items) (drop (at + n) items)
 came items copied rest room at n le some is copy =
     let len : length copied ≡ n = grind (arith, copy, length-take {A = ℕ}, length-drop {A = ℕ}) in
-    let front : take n (copied ++ rest) ≡ copied = subst (λ (k : ℕ). take k (copied ++ rest) ≡ copied) len (take-append_seam copied rest) in
+    let prefix : take n (copied ++ rest) ≡ copied = subst (λ (k : ℕ). take k (copied ++ rest) ≡ copied) len (take-append_seam copied rest) in
     let cut : take n (drop at items) ++ drop n (drop at items) ≡ drop at items = take-append-drop n (drop at items) in (
-      sym cut ∙ (ap (λ (w : List ℕ). w ++ drop n (drop at items)) (sym copy ∙ sym front)
+      sym cut ∙ (ap (λ (w : List ℕ). w ++ drop n (drop at items)) (sym copy ∙ sym prefix)
           ∙ ap (λ (w : List ℕ). take n (copied ++ rest) ++ w) (drop-drop n at items)),
       λ none. nil_from_length (drop at items) (omega (arith, length-drop at items)),
     )
 
 -- one more piece was got
-pub got_more : (b n m : List Piece) (front piece : List ℕ) → GotOn b n front → m ≡ Got piece ∷ n → GotOn b m (front ++ piece)
-got_more b n m front piece s e = (Got piece ∷ s.0, e ∙ ap (λ (w : List Piece). Got piece ∷ w) s.1, (front, refl, s.2))
+pub got_more : (b n m : List Piece) (prefix piece : List ℕ) → GotOn b n prefix → m ≡ Got piece ∷ n → GotOn b m (prefix ++ piece)
+got_more b n m prefix piece s e = (Got piece ∷ s.0, e ∙ ap (λ (w : List Piece). Got piece ∷ w) s.1, (prefix, refl, s.2))
 
 -- a list, the first of what follows it, and the rest
 pub take_seam : (xs ys zs : List ℕ) (at n : ℕ) → length xs ≡ at → n ≤ length ys → take (at + n) (xs ++ (ys ++ zs)) ≡ xs ++ take n ys
@@ -127,7 +127,7 @@ got_piece room put at n le within b x y s e =
     got_more b x y (take at room) (take n put) s e
     )
 
--- what was got so far stands in front of the rest of the room
+-- what was got so far stands in prefix of the rest of the room
 pub got_less : (room put : List ℕ) (at : ℕ) → 0 < length put → (b x y : List Piece) → GotOn b x (take at room) → Same x y → GotLess (put_from room at put) b y
 got_less room put at some b x y s e =
     let more : 0 < length (put ++ post_of at (length room - at) room) = omega (arith, length-append {A = ℕ}) in

@@ -6,13 +6,13 @@ use Rattle.sftp_link.specs.declared.piece.Piece.TheVariants.{Sent, Got}
 -- every piece was sent, and joined they are these bytes
 abbrev pub AllSent : List Piece → List ℕ → Type 0
 AllSent [] bytes = bytes ≡ []
-AllSent (Sent piece ∷ before) bytes = (front : List ℕ) × (bytes ≡ front ++ piece) × AllSent before front
+AllSent (Sent piece ∷ before) bytes = (prefix : List ℕ) × (bytes ≡ prefix ++ piece) × AllSent before prefix
 AllSent (Got piece ∷ before) bytes = ⊥
 
 -- every piece was got, and joined they are these bytes
 abbrev pub AllGot : List Piece → List ℕ → Type 0
 AllGot [] bytes = bytes ≡ []
-AllGot (Got piece ∷ before) bytes = (front : List ℕ) × (bytes ≡ front ++ piece) × AllGot before front
+AllGot (Got piece ∷ before) bytes = (prefix : List ℕ) × (bytes ≡ prefix ++ piece) × AllGot before prefix
 AllGot (Sent piece ∷ before) bytes = ⊥
 
 -- the log is the earlier log, and then pieces that were sent and joined are these bytes

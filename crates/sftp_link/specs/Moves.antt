@@ -18,7 +18,7 @@ pub record HasSent (Service : Type 0) (bytes : List ℕ) (before now : LinkView 
   pub cause : Cause before.faults now.faults result
   pub same : now.service ≡ before.service
 
--- A recv: some bytes came into the front of the room, none only at the end, or it failed and none came.
+-- A recv: some bytes came into the start of the room, none only at the end, or it failed and none came.
 pub record HasReceived (Service : Type 0) (room : List ℕ) (before now : LinkView Service)
     (result : Result ℕ DeviceError) : Type 0 where
   pub within : IfOk result (λ n. n ≤ length room)
@@ -29,7 +29,7 @@ pub record HasReceived (Service : Type 0) (room : List ℕ) (before now : LinkVi
 
 -- ---- sources and sinks
 
--- A read: some bytes came into the front of the room, none only where none was left, or it failed and none came.
+-- A read: some bytes came into the start of the room, none only where none was left, or it failed and none came.
 pub record HasRead (room : List ℕ) (before now : SourceView) (result : Result ℕ DeviceError) : Type 0 where
   pub within : IfOk result (λ n. n ≤ length room)
   pub bytes : TellsRead before.left now.left room result

@@ -40,7 +40,7 @@ Told R (Some before) (Some now) = R before now
 abbrev pub Same : {A : Type 0} → A → A → Type 0
 Same before now = now ≡ before
 
--- n bytes came into the front of the room, none only where none was left
+-- n bytes came into the start of the room, none only where none was left
 abbrev pub CameIntoRoom : List ℕ → ℕ → List ℕ → List ℕ → Type 0
 CameIntoRoom room n before now = (before ≡ take n room ++ now) × (n ≡ 0 → before ≡ [])
 
@@ -50,12 +50,12 @@ TellsRead before now room (Ok n) = Told (CameIntoRoom room n) before now
 TellsRead before now room (Err e) = Told Same before now
 
 -- these bytes were written
-abbrev pub Went : List ℕ → List ℕ → List ℕ → Type 0
-Went bytes before now = now ≡ before ++ bytes
+abbrev pub WroteBytes : List ℕ → List ℕ → List ℕ → Type 0
+WroteBytes bytes before now = now ≡ before ++ bytes
 
 -- what is written after a write: the first n bytes more, or it failed and nothing is
 abbrev pub TellsWrite : Option (List ℕ) → Option (List ℕ) → List ℕ → Result ℕ DeviceError → Type 0
-TellsWrite before now bytes (Ok n) = Told (Went (take n bytes)) before now
+TellsWrite before now bytes (Ok n) = Told (WroteBytes (take n bytes)) before now
 TellsWrite before now bytes (Err e) = Told Same before now
 
 -- a log has one piece more
@@ -67,7 +67,7 @@ abbrev pub TellsSend : Option (List Piece) → Option (List Piece) → List ℕ 
 TellsSend before now bytes (Ok n) = Told (OneMore Sent (take n bytes)) before now
 TellsSend before now bytes (Err e) = Told Same before now
 
--- the log after a recv: n bytes were got, which stand at the front of the room, or it failed and nothing was
+-- the log after a recv: n bytes were got, which stand at the start of the room, or it failed and nothing was
 abbrev pub Receives : Option (List Piece) → Option (List Piece) → List ℕ → Result ℕ DeviceError → Type 0
 Receives before now room (Ok n) = Told (OneMore Got (take n room)) before now
 Receives before now room (Err e) = Told Same before now
@@ -82,28 +82,28 @@ IsEnd ended (Err e) = ended ≡ false
 abbrev pub SentAll : List ℕ → List Piece → List Piece → Type 0
 SentAll bytes before now = SentOn before now bytes
 
--- the pieces since were sent, and join to a front of the bytes
+-- the pieces since were sent, and join to a prefix of the bytes
 abbrev pub SentFront : List ℕ → List Piece → List Piece → Type 0
-SentFront bytes before now = (front : List ℕ) × (rest : List ℕ) × (bytes ≡ front ++ rest) × SentOn before now front
+SentFront bytes before now = (prefix : List ℕ) × (rest : List ℕ) × (bytes ≡ prefix ++ rest) × SentOn before now prefix
 
--- the pieces since were sent, and join to a front of the bytes which is not the whole
+-- the pieces since were sent, and join to a prefix of the bytes which is not the whole
 abbrev pub SentLess : List ℕ → List Piece → List Piece → Type 0
 SentLess bytes before now =
-    (front : List ℕ) × (rest : List ℕ) × (bytes ≡ front ++ rest) × (0 < length rest) × SentOn before now front
+    (prefix : List ℕ) × (rest : List ℕ) × (bytes ≡ prefix ++ rest) × (0 < length rest) × SentOn before now prefix
 
 -- the log after all of a piece was to be sent: all was, or the link failed with bytes unsent
 abbrev pub SendsAll : {T : Type 0} → List ℕ → Option (List Piece) → Option (List Piece) → Result T DeviceError → Type 0
 SendsAll bytes before now (Ok x) = Told (SentAll bytes) before now
 SendsAll bytes before now (Err e) = Told (SentLess bytes) before now
 
--- a front of the bytes was written which is not the whole
+-- a prefix of the bytes was written which is not the whole
 abbrev pub WentLess : List ℕ → List ℕ → List ℕ → Type 0
 WentLess bytes before now =
-    (front : List ℕ) × (rest : List ℕ) × (bytes ≡ front ++ rest) × (0 < length rest) × (now ≡ before ++ front)
+    (prefix : List ℕ) × (rest : List ℕ) × (bytes ≡ prefix ++ rest) × (0 < length rest) × (now ≡ before ++ prefix)
 
 -- what is written after all of a piece was to be: all of it, or the sink failed with bytes unwritten
 abbrev pub WritesAll : {T : Type 0} → List ℕ → Option (List ℕ) → Option (List ℕ) → Result T DeviceError → Type 0
-WritesAll bytes before now (Ok x) = Told (Went bytes) before now
+WritesAll bytes before now (Ok x) = Told (WroteBytes bytes) before now
 WritesAll bytes before now (Err e) = Told (WentLess bytes) before now
 
 -- all that was left, or as many bytes of it as the limit, and never more
@@ -123,16 +123,16 @@ GivesUpTo limit before now (Err e) = Told (ReadSome limit) before now
 abbrev pub GotAll : List ℕ → List Piece → List Piece → Type 0
 GotAll bytes before now = GotOn before now bytes
 
--- the pieces since were got, and join to a front of the bytes which is not the whole
+-- the pieces since were got, and join to a prefix of the bytes which is not the whole
 abbrev pub GotLess : List ℕ → List Piece → List Piece → Type 0
 GotLess bytes before now =
-    (front : List ℕ) × (rest : List ℕ) × (bytes ≡ front ++ rest) × (0 < length rest) × GotOn before now front
+    (prefix : List ℕ) × (rest : List ℕ) × (bytes ≡ prefix ++ rest) × (0 < length rest) × GotOn before now prefix
 
--- the log after a room was to be filled: all its bytes were got, or fewer, which stand at its front
-abbrev pub Fills : List ℕ → Option (List Piece) → Option (List Piece) → Result Bool DeviceError → Type 0
-Fills room before now (Ok true) = Told (GotAll room) before now
-Fills room before now (Ok false) = Told (GotLess room) before now
-Fills room before now (Err e) = Told (GotLess room) before now
+-- the log after a room was to be filled: all its bytes were got, or fewer, which stand at its start
+abbrev pub FillsRoom : List ℕ → Option (List Piece) → Option (List Piece) → Result Bool DeviceError → Type 0
+FillsRoom room before now (Ok true) = Told (GotAll room) before now
+FillsRoom room before now (Ok false) = Told (GotLess room) before now
+FillsRoom room before now (Err e) = Told (GotLess room) before now
 
 -- the flag of the end after that: where the room was not filled it says why, and no room at all leaves it
 abbrev pub FillsEnd : List ℕ → Bool → Bool → Result Bool DeviceError → Type 0

@@ -9,7 +9,7 @@ pub trait Source {
     // The bytes that are left, where it tells them, and how often it failed.
     ghost state: { Self → SourceView };
 
-    /// Reads some bytes into the front of the room and answers how many, 0 only where none is left.
+    /// Reads some bytes into the start of the room and answers how many, 0 only where none is left.
     /// `OutOfMemory` and `Failed`: none was read, and `Failed` only where the count of faults rose.
     fn read(&mut self, room: &mut [u8]) -> Result<usize, DeviceError>
         requires some { 0 < length room.old }

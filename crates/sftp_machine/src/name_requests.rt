@@ -129,8 +129,8 @@ impl Store {
         while let [earlier @ .., pair] = left {
             if is_child(name, pair.0.parts()) {
                 let entry = self.entry_of(pair.0.parts(), pair.1)?;
-                let place = place_of(&entries, entry.filename.as_bytes());
-                entries.insert(place, entry)?;
+                let index = index_of(&entries, entry.filename.as_bytes());
+                entries.insert(index, entry)?;
             }
             left = earlier;
         }
@@ -300,17 +300,17 @@ fn first_copies(
 }
 
 /// Where an entry belongs among those in order.
-fn place_of(entries: &[NameEntry], filename: &[u8]) -> usize
+fn index_of(entries: &[NameEntry], filename: &[u8]) -> usize
     ensures within { result ≤ length entries.now }
-    ensures place { (entry : Entry) → entry.filename ≡ filename.now
+    ensures index { (entry : Entry) → entry.filename ≡ filename.now
         → insert entries.now result entry ≡ placed entry entries.now }
 {
-    let mut place = 0;
-    while place < entries.len() {
-        if !is_before(entries[place].filename.as_bytes(), filename) {
-            return place;
+    let mut index = 0;
+    while index < entries.len() {
+        if !is_before(entries[index].filename.as_bytes(), filename) {
+            return index;
         }
-        place += 1;
+        index += 1;
     }
-    place
+    index
 }

@@ -18,7 +18,7 @@ use Rattle.session_model.specs.Journals.{IsJournal}
 use Rattle.session_model.specs.Settings.{greeting, setting_of}
 use Rattle.session_model.specs.Shown.{Shows}
 use Rattle.session_model.proofs.OverLaws.{runs_are_journals}
-use Rattle.session_driver.specs.Logs.{Ends}
+use Rattle.session_driver.specs.Logs.{EndsSession}
 use Rattle.session_driver.specs.RunsSoFar.{whole}
 use Rattle.session_driver.specs.Session.{IsLater}
 use Rattle.sftp_lanes.specs.Reported.{IsReport}
@@ -80,10 +80,10 @@ later_all s (e ∷ past) j = inr (j.0, later_all s past j.1)
 
 -- after a whole run the log shows it, and then nothing
 pub report_stops : (lanes : List Lane) (options : SftpOptions) (turns : List Turn) (ended : Bool) (before after : Option (List Piece)) (report : Report)
-    → IsReport lanes options turns before after report → Told (Ends (given lanes options) turns ended OutOfMemory) before after
+    → IsReport lanes options turns before after report → Told (EndsSession (given lanes options) turns ended OutOfMemory) before after
 report_stops lanes options turns ended before after report r = stops before after r.log
   where
-    stops : (b a : Option (List Piece)) → Told (Shows (greeting r.extensions) r.past) b a → Told (Ends (given lanes options) turns ended OutOfMemory) b a
+    stops : (b a : Option (List Piece)) → Told (Shows (greeting r.extensions) r.past) b a → Told (EndsSession (given lanes options) turns ended OutOfMemory) b a
     stops None a shows = tt
     stops (Some b) None shows = absurd shows
     stops (Some b) (Some a) shows =
@@ -102,8 +102,8 @@ report_stops lanes options turns ended before after report r = stops before afte
 pub copy_stops : (width rounds : ℕ) (jobs : List Job) (options : SftpOptions) (lanes : List Lane) (turns : List Turn) (ended : Bool)
     (before after : Option (List Piece)) (report : Report) → lanes ≡ lanes_of width jobs → turns ≡ turns_of width rounds jobs
     → IsReport lanes options turns before after report
-    → Told (Ends (given (lanes_of width jobs) options) (turns_of width rounds jobs) ended OutOfMemory) before after
+    → Told (EndsSession (given (lanes_of width jobs) options) (turns_of width rounds jobs) ended OutOfMemory) before after
 copy_stops width rounds jobs options lanes turns ended before after report same order r =
-    subst (λ (t : List Turn). Told (Ends (given (lanes_of width jobs) options) t ended OutOfMemory) before after) order
-    (subst (λ (l : List Lane). Told (Ends (given l options) turns ended OutOfMemory) before after) same
+    subst (λ (t : List Turn). Told (EndsSession (given (lanes_of width jobs) options) t ended OutOfMemory) before after) order
+    (subst (λ (l : List Lane). Told (EndsSession (given l options) turns ended OutOfMemory) before after) same
     (report_stops lanes options turns ended before after report r))

@@ -9,7 +9,7 @@ use Rattle.sftp_model.specs.declared.outcome.Outcome.{Outcome}
 use Rattle.session_model.specs.Settings.{greeting}
 use Rattle.session_model.specs.Shown.{Shows}
 use Rattle.session_exchange.specs.Causes.{Cause, EndCause}
-use Rattle.session_driver.specs.Logs.{Ends}
+use Rattle.session_driver.specs.Logs.{EndsSession}
 use Rattle.sftp_lanes.specs.Seen.{given}
 use Rattle.mirror_jobs.specs.declared.job.Job.{Job}
 use Rattle.mirror_jobs.specs.declared.verdict.Verdict.{Verdict}
@@ -57,7 +57,7 @@ is_shown schedule list jobs before log faults ended r text same none copied is =
 pub copy_stopped : (schedule : Schedule) (list : CopyList) (jobs : List Job) (before log : List Piece)
     (first faults : ℕ) (ended : Bool) (e : Error) (r : Result Printed OutOfMemory) → jobs ≡ list.jobs → before ≡ []
     → first ≡ 0
-    → Told (Ends (given (lanes_of schedule.width jobs) list.script.options)
+    → Told (EndsSession (given (lanes_of schedule.width jobs) list.script.options)
     (turns_of schedule.width schedule.rounds jobs) ended e) (Some (reverse before)) (Some log)
     → Cause {T = CopyReport} first faults (Err e) → EndCause {T = CopyReport} ended (Err e)
     → IfOk r (λ reply. (reply.answered ≡ Stopped) × IsErrorLine e reply.text.items)
@@ -67,6 +67,6 @@ copy_stopped schedule list jobs before log first faults ended e r same none zero
     stopped_over CopyReport (RunsOver schedule (Some (record { log = log; faults = faults; ended = ended })) list)
     (given (lanes_of schedule.width list.jobs) list.script.options)
     (turns_of schedule.width schedule.rounds list.jobs) before log first faults ended e r none zero
-    (subst (λ (j : List Job). Told (Ends (given (lanes_of schedule.width j) list.script.options)
+    (subst (λ (j : List Job). Told (EndsSession (given (lanes_of schedule.width j) list.script.options)
     (turns_of schedule.width schedule.rounds j) ended e) (Some (reverse before)) (Some log)) same stops) cause end is
     (λ text h. h)

@@ -39,7 +39,7 @@ use Rattle.sftp_script.specs.Lines.{
   within,
   words_of,
 }
-use Rattle.sftp_script.specs.Refusals.{Refuses, RefusesIn, RefusesScript}
+use Rattle.sftp_script.specs.Refusals.{RefusesLine, RefusesIn, RefusesScript}
 use Rattle.sftp_script.specs.Scripts.{MAX_SCRIPT_LEN}
 use Rattle.sftp_script.specs.Setup.{Draft, path_in, setup_line, unless_said}
 use Rattle.sftp_script.proofs.FitCounts.{lines_cost, lines_fit, words_fit, words_len}
@@ -69,7 +69,7 @@ use Rattle.sftp_mirror.specs.Lists.{
 
 -- one that is refused
 pub setup_refuses : (d : ListDraft) (read : Option (Result Draft Reason)) (other : Result ListDraft Reason) (e : LineError) → RefusesIn read e
-    → Refuses (or_read (with_setup d read) other) e
+    → RefusesLine (or_read (with_setup d read) other) e
 setup_refuses d None other e refused = absurd refused
 setup_refuses d (Some (Ok draft)) other line.OutOfMemory refused = tt
 setup_refuses d (Some (Ok draft)) other (line.Refused why) refused = absurd (let both : Ok draft ≡ Err why = refused in cc)

@@ -3,7 +3,7 @@ ghost use Rattle.std.specs.Prelude.{◌≡◌, ◌≤◌, ◌<◌, ◌^◌, ◌-
 ghost use Rattle.std.specs.List.{list_all};
 ghost use Rattle.sftp_link.specs.Told.{Told};
 ghost use Rattle.session_exchange.specs.Causes.{Caused};
-ghost use Rattle.session_driver.specs.Logs.{Ends};
+ghost use Rattle.session_driver.specs.Logs.{EndsSession};
 ghost use Rattle.sftp_lanes.specs.Complete.{StopsForMemory};
 ghost use Rattle.sftp_lanes.specs.Seen.{given};
 ghost use Rattle.mirror_jobs.specs.Jobs.{is_bounded};
@@ -70,7 +70,7 @@ pub fn copy_jobs<L: Link>(
     requires may { MayCopy width rounds jobs.now }
     requires count { (L.LinkState.state link.old).faults < 2 ^ 64 - 1 }
     ensures run { IfOk result (λ r. IsCopyReport width rounds jobs.now options.now (L.LinkState.state link.old).log (L.LinkState.state link.new).log r) }
-    ensures stops { IfErr result (λ e. Told (Ends (given (lanes_of width jobs.now) options.now) (turns_of width rounds jobs.now) (L.LinkState.state link.new).ended e) (L.LinkState.state link.old).log (L.LinkState.state link.new).log) }
+    ensures stops { IfErr result (λ e. Told (EndsSession (given (lanes_of width jobs.now) options.now) (turns_of width rounds jobs.now) (L.LinkState.state link.new).ended e) (L.LinkState.state link.old).log (L.LinkState.state link.new).log) }
     ensures caused { Caused (L.LinkState.state link.old) (L.LinkState.state link.new) result }
     ensures complete { IfErr result (StopsForMemory (given (lanes_of width jobs.now) options.now) (L.LinkState.state link.old) (L.LinkState.state link.new)) }
 {

@@ -3,7 +3,7 @@ ghost use Rattle.std.specs.Prelude.{◌≡◌, IfErr, IfOk, Ok, OnOk};
 ghost use Rattle.machine_model.specs.Components.{components};
 ghost use Rattle.mirror_jobs.specs.Jobs.{name_of};
 ghost use Rattle.sftp_script.specs.Lines.{two_words, words_of};
-ghost use Rattle.sftp_script.specs.Refusals.{Refuses, RefusesScript};
+ghost use Rattle.sftp_script.specs.Refusals.{RefusesLine, RefusesScript};
 ghost use Rattle.sftp_script.specs.Setup.{path_in};
 ghost use Rattle.sftp_mirror.specs.CanCopy.{CanCopy};
 ghost use Rattle.sftp_mirror.specs.Lists.{content_in, down_line, job_line, line_by, list_of, name_in, nothing_read, up_line, with_job};
@@ -59,7 +59,7 @@ impl Model for ListDraft {
 /// A path of a name that may be there, and the name.
 fn path_in(alloc: Global, word: &[u8]) -> Result<(ByteText, Items<ByteText>), LineError>
     ensures ok { IfOk result (λ p. (path_in word.now ≡ Ok p.0) × (p.1 ≡ components p.0)) }
-    ensures refused { IfErr result (λ e. Refuses (path_in word.now) e) }
+    ensures refused { IfErr result (λ e. RefusesLine (path_in word.now) e) }
 {
     let path = bytes_in(alloc, word)?;
     let name = components(alloc, path.as_slice())?;
@@ -72,7 +72,7 @@ fn path_in(alloc: Global, word: &[u8]) -> Result<(ByteText, Items<ByteText>), Li
 /// Bytes that are fewer than the greatest bound of a read.
 fn content_in(alloc: Global, word: &[u8]) -> Result<ByteText, LineError>
     ensures ok { IfOk result (λ content. content_in word.now ≡ Ok content) }
-    ensures refused { IfErr result (λ e. Refuses (content_in word.now) e) }
+    ensures refused { IfErr result (λ e. RefusesLine (content_in word.now) e) }
 {
     let content = bytes_in(alloc, word)?;
     if content.as_slice().len() >= u32::MAX as usize {
@@ -106,7 +106,7 @@ impl ListDraft {
     /// A path of a file more, and its name.
     fn name_in(&self, alloc: Global, word: &[u8]) -> Result<(ByteText, Items<ByteText>), LineError>
         ensures ok { IfOk result (λ p. (name_in self.now.jobs word.now ≡ Ok p.0) × (p.1 ≡ components p.0)) }
-        ensures refused { IfErr result (λ e. Refuses (name_in self.now.jobs word.now) e) }
+        ensures refused { IfErr result (λ e. RefusesLine (name_in self.now.jobs word.now) e) }
     {
         let (path, name) = path_in(alloc, word)?;
         if !stands_beside_all(self.names.as_slice(), name.as_slice()) {
@@ -119,7 +119,7 @@ impl ListDraft {
     fn add_job(&mut self, job: Job, name: Items<ByteText>) -> Result<(), LineError>
         requires { name ≡ name_of job }
         ensures ok { OnOk result (with_job self.old job ≡ Ok self.new) }
-        ensures refused { IfErr result (λ e. Refuses (with_job self.old job) e) }
+        ensures refused { IfErr result (λ e. RefusesLine (with_job self.old job) e) }
     {
         if has_name(self.names.as_slice(), name.as_slice()) {
             return Err(LineError::Refused(Reason::Repeat));
@@ -133,7 +133,7 @@ impl ListDraft {
     /// One file more that goes up.
     fn add_up(&mut self, alloc: Global, name: &[u8], content: &[u8]) -> Result<(), LineError>
         ensures ok { OnOk result (up_line self.old name.now content.now ≡ Ok self.new) }
-        ensures refused { IfErr result (λ e. Refuses (up_line self.old name.now content.now) e) }
+        ensures refused { IfErr result (λ e. RefusesLine (up_line self.old name.now content.now) e) }
     {
         let (path, name) = self.name_in(alloc, name)?;
         let content = content_in(alloc, content)?;
@@ -149,7 +149,7 @@ impl ListDraft {
     /// One file more that comes down.
     fn add_down(&mut self, alloc: Global, name: &[u8], bound: &[u8]) -> Result<(), LineError>
         ensures ok { OnOk result (down_line self.old name.now bound.now ≡ Ok self.new) }
-        ensures refused { IfErr result (λ e. Refuses (down_line self.old name.now bound.now) e) }
+        ensures refused { IfErr result (λ e. RefusesLine (down_line self.old name.now bound.now) e) }
     {
         let (path, name) = self.name_in(alloc, name)?;
         let bound = number_in(1, u64::from(u32::MAX), bound)? as u32;
@@ -160,7 +160,7 @@ impl ListDraft {
     #[tactic(auto, using(sftp_script::proofs::Counts::not_two))]
     fn up_line(&mut self, alloc: Global, line: &[u8]) -> Result<(), LineError>
         ensures ok { OnOk result (two_words (up_line self.old) (words_of line.now) ≡ Ok self.new) }
-        ensures refused { IfErr result (λ e. Refuses (two_words (up_line self.old) (words_of line.now)) e) }
+        ensures refused { IfErr result (λ e. RefusesLine (two_words (up_line self.old) (words_of line.now)) e) }
     {
         let (name, content) = two_words(line)?;
         self.add_up(alloc, name, content)
@@ -170,7 +170,7 @@ impl ListDraft {
     #[tactic(auto, using(sftp_script::proofs::Counts::not_two))]
     fn down_line(&mut self, alloc: Global, line: &[u8]) -> Result<(), LineError>
         ensures ok { OnOk result (two_words (down_line self.old) (words_of line.now) ≡ Ok self.new) }
-        ensures refused { IfErr result (λ e. Refuses (two_words (down_line self.old) (words_of line.now)) e) }
+        ensures refused { IfErr result (λ e. RefusesLine (two_words (down_line self.old) (words_of line.now)) e) }
     {
         let (name, bound) = two_words(line)?;
         self.add_down(alloc, name, bound)
@@ -179,7 +179,7 @@ impl ListDraft {
     /// A line that names a file to copy, by its first word.
     fn job_line(&mut self, alloc: Global, word: &[u8], line: &[u8]) -> Result<(), LineError>
         ensures ok { OnOk result (job_line self.old word.now (words_of line.now) ≡ Ok self.new) }
-        ensures refused { IfErr result (λ e. Refuses (job_line self.old word.now (words_of line.now)) e) }
+        ensures refused { IfErr result (λ e. RefusesLine (job_line self.old word.now (words_of line.now)) e) }
     {
         if word == UP {
             self.up_line(alloc, line)

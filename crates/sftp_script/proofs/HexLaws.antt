@@ -6,13 +6,13 @@ use Rattle.hex.specs.declared.error.FromHexError.{FromHexError}
 use Rattle.hex.specs.declared.error.FromHexError.TheVariants as hex
 use Rattle.hex.proofs.HexLemmas.{decode_of-ok}
 use Rattle.sftp_script.specs.Lines.{or_hex}
-use Rattle.sftp_script.specs.Refusals.{Refuses, hex_error}
+use Rattle.sftp_script.specs.Refusals.{RefusesLine, hex_error}
 
 misspelled : (word : List ℕ) (why : FromHexError) → (decode_of word ≡ Err why) → or_hex (decode_of word) ≡ or_hex (Err why)
 misspelled word why e = rw e refl
 
 pub digits_refused : (word : List ℕ) (why : FromHexError) → (why ≡ hex.OutOfMemory) ⊎ (decode_of word ≡ Err why)
-    → Refuses (or_hex (decode_of word)) (hex_error why)
+    → RefusesLine (or_hex (decode_of word)) (hex_error why)
 digits_refused word hex.OutOfMemory h = tt
 digits_refused word (hex.InvalidHexCharacter c i) (inl e) = absurd cc
 digits_refused word (hex.InvalidHexCharacter c i) (inr e) = misspelled word (hex.InvalidHexCharacter c i) e

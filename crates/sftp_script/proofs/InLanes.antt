@@ -8,14 +8,14 @@ use Rattle.sftp_script.specs.declared.reason.Reason.{Reason}
 use Rattle.sftp_script.specs.declared.reason.Reason.TheVariants as reason
 use Rattle.sftp_script.specs.declared.error.LineError.{LineError}
 use Rattle.sftp_script.specs.declared.error.LineError.TheVariants as line
-use Rattle.sftp_script.specs.Refusals.{Refuses, RefusesIn}
+use Rattle.sftp_script.specs.Refusals.{RefusesLine, RefusesIn}
 use Rattle.sftp_script.specs.Lines.{map_ok}
 use Rattle.sftp_script.specs.Setup.{Draft}
 use Rattle.ssh_encoding.specs.Writing.{or_else}
 use Rattle.sftp_script.specs.Scripts.{call_line, in_lane, with_call}
 
 -- fields that are refused refuse their call
-pub fields_refuse : {A B : Type 0} (f : A → B) (read : Result A Reason) (e : LineError) → Refuses read e → Refuses (map_ok f read) e
+pub fields_refuse : {A B : Type 0} (f : A → B) (read : Result A Reason) (e : LineError) → RefusesLine read e → RefusesLine (map_ok f read) e
 fields_refuse f read line.OutOfMemory refused = tt
 fields_refuse f read (line.Refused why) refused = rw refused refl
 
@@ -48,7 +48,7 @@ in_some d (lane ∷ lanes) read some = refl
 pub call_read : (d : Draft) (read : Option (Result Call Reason)) (c : Call) → d.script.lanes ≢ [] → read ≡ Some (Ok c) → call_line d read ≡ Ok (with_call d c)
 call_read d read c some e = rw (e, in_some d d.script.lanes (Ok c) some) refl
 
-pub call_refuses : (d : Draft) (read : Option (Result Call Reason)) (e : LineError) → d.script.lanes ≢ [] → RefusesIn read e → Refuses (call_line d read) e
+pub call_refuses : (d : Draft) (read : Option (Result Call Reason)) (e : LineError) → d.script.lanes ≢ [] → RefusesIn read e → RefusesLine (call_line d read) e
 call_refuses d None e some refused = absurd refused
 call_refuses d (Some read) line.OutOfMemory some refused = tt
 call_refuses d (Some read) (line.Refused why) some refused = rw (in_some d d.script.lanes read some, refused) refl

@@ -8,7 +8,7 @@ use Rattle.sftp_script.specs.Lines.{bytes_in}
 use Rattle.sftp_script.specs.Scripts.{each_in, parts_in, slot_in}
 use Rattle.sftp_script.specs.declared.error.LineError.{LineError}
 use Rattle.sftp_script.specs.declared.error.LineError.TheVariants as line
-use Rattle.sftp_script.specs.Refusals.{Refuses}
+use Rattle.sftp_script.specs.Refusals.{RefusesLine}
 
 -- ---- each word
 
@@ -32,7 +32,7 @@ pub slot_refused : (words more : List (List ℕ)) (a : List ℕ) (why : Reason) 
 slot_refused words more a why is some refused = rw (by_slot words more a is some, sym refused) refl
 
 pub parts_refused : (words more : List (List ℕ)) (a : List ℕ) (n : ℕ) (e : LineError) → words ≡ a ∷ more → more ≢ []
-    → Ok n ≡ slot_in a → Refuses (each_in bytes_in more) e → Refuses (parts_in words) e
+    → Ok n ≡ slot_in a → RefusesLine (each_in bytes_in more) e → RefusesLine (parts_in words) e
 parts_refused words more a n line.OutOfMemory is some ok refused = tt
 parts_refused words more a n (line.Refused why) is some ok refused = rw (by_slot words more a is some, sym ok, refused) refl
 

@@ -12,7 +12,7 @@ use Rattle.sftp_script.specs.Setup.{Draft, dir_line, file_line}
 use Rattle.sftp_script.specs.Scripts.{empty_script}
 use Rattle.sftp_script.specs.declared.error.LineError.{LineError}
 use Rattle.sftp_script.specs.declared.error.LineError.TheVariants as line
-use Rattle.sftp_script.specs.Refusals.{Refuses}
+use Rattle.sftp_script.specs.Refusals.{RefusesLine}
 use Rattle.sftp_script.specs.ServerWords.{first_line, first_line_by, offer_line, read_first, server_of}
 use Rattle.sftp_script.specs.CanRun.{CanRun}
 use Rattle.sftp_script.proofs.LineLaws.{Fact, Keeps, if_keeps, one_keeps, two_keeps}
@@ -67,7 +67,7 @@ refused_so : (d : Draft) (why : Reason) (word : List ℕ) (words all : List (Lis
 refused_so d why word words all same refused = rw (same) (rw refused refl)
 
 pub word_refused : (d : Draft) (e : LineError) (word : List ℕ) (words all : List (List ℕ)) → read_first before_words all
-    ≡ read_first d (word ∷ words) → Refuses (first_line d (words_of word)) e → Refuses (server_of all) e
+    ≡ read_first d (word ∷ words) → RefusesLine (first_line d (words_of word)) e → RefusesLine (server_of all) e
 word_refused d line.OutOfMemory word words all same refused = tt
 word_refused d (line.Refused why) word words all same refused = refused_so d why word words all same refused
 

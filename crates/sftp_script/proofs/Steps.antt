@@ -12,7 +12,7 @@ use Rattle.sftp_script.specs.declared.error.LineError.{LineError}
 use Rattle.sftp_script.specs.declared.error.LineError.TheVariants as line
 use Rattle.sftp_script.specs.declared.error.ScriptError.{ScriptError}
 use Rattle.sftp_script.specs.declared.error.ScriptError.TheVariants as script
-use Rattle.sftp_script.specs.Refusals.{Refuses, RefusesIn, RefusesScript, at_line}
+use Rattle.sftp_script.specs.Refusals.{RefusesLine, RefusesIn, RefusesScript, at_line}
 
 -- what a line makes of what was read before it
 abbrev LineBy : Type 0 → Type 0
@@ -31,7 +31,7 @@ pub line_read : {S : Type 0} (by : LineBy S) (n : ℕ) (d more : S) (text line b
 line_read by n d more text line behind split read = rw split (read_on by n d more line (lines_of behind) read)
 
 pub line_refused : {S : Type 0} (by : LineBy S) (n : ℕ) (d : S) (e : LineError) (text first behind : List ℕ)
-    → lines_of text ≡ first ∷ lines_of behind → Refuses (read_line by d first) e
+    → lines_of text ≡ first ∷ lines_of behind → RefusesLine (read_line by d first) e
     → RefusesScript (read_by by n d (lines_of text)) (at_line n e)
 line_refused by n d line.OutOfMemory text first behind split refused = tt
 line_refused by n d (line.Refused why) text first behind split refused = rw split (stop by n d why first (lines_of behind) refused)
@@ -40,7 +40,7 @@ pub lines_end : {S : Type 0} (by : LineBy S) (n : ℕ) (d : S) (text : List ℕ)
 lines_end by n d text e = rw e refl
 
 -- the list of lines that a line is of refuses it
-pub or_refuses : {A : Type 0} (read : Option (Result A Reason)) (other : Result A Reason) (e : LineError) → RefusesIn read e → Refuses (or_read read other) e
+pub or_refuses : {A : Type 0} (read : Option (Result A Reason)) (other : Result A Reason) (e : LineError) → RefusesIn read e → RefusesLine (or_read read other) e
 or_refuses None other e refused = absurd refused
 or_refuses (Some read) other e refused = refused
 

@@ -10,14 +10,14 @@ use Rattle.sftp_script.specs.declared.error.ScriptError.{ScriptError}
 use Rattle.sftp_script.specs.declared.error.ScriptError.TheVariants as script
 
 -- want of memory may come at any reading; a reason is the reading's
-abbrev pub Refuses : {A : Type 0} → Result A Reason → LineError → Type 0
-Refuses reading line.OutOfMemory = ⊤
-Refuses reading (line.Refused why) = reading ≡ Err why
+abbrev pub RefusesLine : {A : Type 0} → Result A Reason → LineError → Type 0
+RefusesLine reading line.OutOfMemory = ⊤
+RefusesLine reading (line.Refused why) = reading ≡ Err why
 
 -- the same where the line is one of a list of lines
 abbrev pub RefusesIn : {A : Type 0} → Option (Result A Reason) → LineError → Type 0
 RefusesIn None e = ⊥
-RefusesIn (Some reading) e = Refuses reading e
+RefusesIn (Some reading) e = RefusesLine reading e
 
 -- the same of all lines, where a line's number stands beside the reason
 abbrev pub RefusesScript : {A : Type 0} → Result A (ℕ × Reason) → ScriptError → Type 0

@@ -3,7 +3,7 @@ ghost use Rattle.std.specs.Prelude.{◌≡◌, Ok, IfOk, OnOk, IfErr, is_some};
 ghost use Rattle.std.specs.Option.{option_map};
 ghost use Rattle.sftp_script.specs.Lines.{words_of};
 ghost use Rattle.sftp_script.specs.Scripts.{call_in, call_line, number_call, path_call, paths_call, place_call, slot_call, slots_call, write_call};
-ghost use Rattle.sftp_script.specs.Refusals.{Refuses, RefusesIn};
+ghost use Rattle.sftp_script.specs.Refusals.{RefusesLine, RefusesIn};
 
 use crate::draft::Draft;
 use crate::error::LineError;
@@ -315,7 +315,7 @@ pub(crate) fn call_line(
     line: &[u8],
 ) -> Result<(), LineError>
     ensures ok { OnOk result (call_line draft.old (call_in word.now (words_of line.now)) ≡ Ok draft.new) }
-    ensures refused { IfErr result (λ e. Refuses (call_line draft.old (call_in word.now (words_of line.now))) e) }
+    ensures refused { IfErr result (λ e. RefusesLine (call_line draft.old (call_in word.now (words_of line.now))) e) }
 {
     if draft.has_no_lane() {
         if is_call(alloc, word, line) {

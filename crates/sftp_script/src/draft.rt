@@ -9,7 +9,7 @@ ghost use Rattle.sftp_script.specs.Scripts.{empty_script, with_lane, with_turn, 
 ghost use Rattle.machine_model.specs.Components.{components};
 ghost use Rattle.sftp_script.specs.Parts.{with_cut, with_dir, with_file};
 ghost use Rattle.sftp_script.specs.CanRun.{CanBegin};
-ghost use Rattle.sftp_script.specs.Refusals.{Refuses, RefusesIn};
+ghost use Rattle.sftp_script.specs.Refusals.{RefusesLine, RefusesIn};
 
 use crate::error::LineError;
 use crate::first::FirstTree;
@@ -118,7 +118,7 @@ impl Draft {
     /// Other options, of which one is named now.
     pub(crate) fn set_options(&mut self, key: u8, options: SftpOptions) -> Result<(), LineError>
         ensures ok { OnOk result (unless_said (list_any (λ k. k == key) self.old.named) (with_options self.old key options) ≡ Ok self.new) }
-        ensures refused { IfErr result (λ e. Refuses (unless_said (list_any (λ k. k == key) self.old.named) (with_options self.old key options)) e) }
+        ensures refused { IfErr result (λ e. RefusesLine (unless_said (list_any (λ k. k == key) self.old.named) (with_options self.old key options)) e) }
     {
         if is_named(self.named.as_slice(), key) {
             return Err(LineError::Refused(Reason::Repeat));
@@ -185,7 +185,7 @@ impl Draft {
         requires named { name ≡ components path }
         requires room { may_add self.old.script.files content ≡ true }
         ensures ok { OnOk result (unless_said (meets_file self.old.script (components path)) (with_file self.old path content) ≡ Ok self.new) }
-        ensures refused { IfErr result (λ e. Refuses (unless_said (meets_file self.old.script (components path)) (with_file self.old path content)) e) }
+        ensures refused { IfErr result (λ e. RefusesLine (unless_said (meets_file self.old.script (components path)) (with_file self.old path content)) e) }
     {
         if self.first.meets_file(name.as_slice()) {
             return Err(LineError::Refused(Reason::Repeat));
@@ -198,7 +198,7 @@ impl Draft {
     pub(crate) fn add_dir(&mut self, path: ByteText, name: Items<ByteText>) -> Result<(), LineError>
         requires { name ≡ components path }
         ensures ok { OnOk result (unless_said (meets_dir self.old.script (components path)) (with_dir self.old path) ≡ Ok self.new) }
-        ensures refused { IfErr result (λ e. Refuses (unless_said (meets_dir self.old.script (components path)) (with_dir self.old path)) e) }
+        ensures refused { IfErr result (λ e. RefusesLine (unless_said (meets_dir self.old.script (components path)) (with_dir self.old path)) e) }
     {
         if self.first.meets_dir(name.as_slice()) {
             return Err(LineError::Refused(Reason::Repeat));

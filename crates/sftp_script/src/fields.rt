@@ -2,7 +2,7 @@
 ghost use Rattle.std.specs.Prelude.{◌≡◌, Ok, IfOk, IfErr};
 ghost use Rattle.sftp_script.specs.Lines.{words_of, bytes_in, flags_in, number_in, greatest_u32, one_word, three_words};
 ghost use Rattle.sftp_script.specs.Scripts.{buffer_len, mode_in, number_u32, number_u64, pair, seek_in, slot_in, some_in, triple};
-ghost use Rattle.sftp_script.specs.Refusals.{Refuses};
+ghost use Rattle.sftp_script.specs.Refusals.{RefusesLine};
 
 use crate::error::LineError;
 use crate::flags::flags_in;
@@ -31,7 +31,7 @@ pub(crate) trait Field {
     /// Reads a word.
     fn read(alloc: Global, word: &[u8]) -> Result<Self::Value, LineError>
         ensures ok { IfOk result (λ value. reads word.now ≡ Ok value) }
-        ensures refused { IfErr result (λ e. Refuses (reads word.now) e) };
+        ensures refused { IfErr result (λ e. RefusesLine (reads word.now) e) };
 }
 
 /// The number of a slot.
@@ -168,7 +168,7 @@ impl Field for Flags {
 #[tactic(auto, using(crate::proofs::Counts::not_one))]
 pub(crate) fn one<A: Field>(alloc: Global, line: &[u8]) -> Result<A::Value, LineError>
     ensures ok { IfOk result (λ x. one_word A.reads (words_of line.now) ≡ Ok x) }
-    ensures refused { IfErr result (λ e. Refuses (one_word A.reads (words_of line.now)) e) }
+    ensures refused { IfErr result (λ e. RefusesLine (one_word A.reads (words_of line.now)) e) }
 {
     let a = one_word(line)?;
     A::read(alloc, a)
@@ -181,7 +181,7 @@ pub(crate) fn pair<A: Field, B: Field>(
     line: &[u8],
 ) -> Result<(A::Value, B::Value), LineError>
     ensures ok { IfOk result (λ p. pair A.reads B.reads (words_of line.now) ≡ Ok p) }
-    ensures refused { IfErr result (λ e. Refuses (pair A.reads B.reads (words_of line.now)) e) }
+    ensures refused { IfErr result (λ e. RefusesLine (pair A.reads B.reads (words_of line.now)) e) }
 {
     let (a, b) = two_words(line)?;
     let a = A::read(alloc, a)?;
@@ -196,7 +196,7 @@ pub(crate) fn triple<A: Field, B: Field, C: Field>(
     line: &[u8],
 ) -> Result<(A::Value, B::Value, C::Value), LineError>
     ensures ok { IfOk result (λ p. triple A.reads B.reads C.reads (words_of line.now) ≡ Ok p) }
-    ensures refused { IfErr result (λ e. Refuses (triple A.reads B.reads C.reads (words_of line.now)) e) }
+    ensures refused { IfErr result (λ e. RefusesLine (triple A.reads B.reads C.reads (words_of line.now)) e) }
 {
     let (a, b, c) = three_words(line)?;
     let a = A::read(alloc, a)?;
@@ -209,7 +209,7 @@ pub(crate) fn triple<A: Field, B: Field, C: Field>(
 #[tactic(auto, using(crate::proofs::Counts::not_three))]
 pub(crate) fn slot_and_position(line: &[u8]) -> Result<(u8, SeekFrom), LineError>
     ensures ok { IfOk result (λ p. three_words seek_in (words_of line.now) ≡ Ok p) }
-    ensures refused { IfErr result (λ e. Refuses (three_words seek_in (words_of line.now)) e) }
+    ensures refused { IfErr result (λ e. RefusesLine (three_words seek_in (words_of line.now)) e) }
 {
     let (slot, kind, n) = three_words(line)?;
     let slot = slot_in(slot)?;

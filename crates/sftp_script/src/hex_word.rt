@@ -1,7 +1,7 @@
 //! Bytes in hexadecimal digits.
 ghost use Rattle.std.specs.Prelude.{◌≡◌, Ok, IfOk, IfErr};
 ghost use Rattle.sftp_script.specs.Lines.{bytes_in};
-ghost use Rattle.sftp_script.specs.Refusals.{Refuses};
+ghost use Rattle.sftp_script.specs.Refusals.{RefusesLine};
 
 use crate::error::LineError;
 use sftp_values::ByteText;
@@ -15,7 +15,7 @@ pub(crate) const NOTHING: &[u8] = b"-";
 #[tactic(auto, using(crate::proofs::HexLaws::digits_refused))]
 pub fn bytes_in(alloc: Global, word: &[u8]) -> Result<ByteText, LineError>
     ensures ok { IfOk result (λ bytes. bytes_in word.now ≡ Ok bytes) }
-    ensures refused { IfErr result (λ e. Refuses (bytes_in word.now) e) }
+    ensures refused { IfErr result (λ e. RefusesLine (bytes_in word.now) e) }
 {
     if word == NOTHING {
         return Ok(ByteText::new(Vec::new(alloc)));

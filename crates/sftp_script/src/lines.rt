@@ -3,7 +3,7 @@ ghost use Rattle.std.specs.Prelude.{◌≡◌, Ok, OnOk, IfErr};
 ghost use Rattle.session_model.specs.declared.turn.Turn.TheVariants as turns;
 ghost use Rattle.sftp_script.specs.Lines.{words_of, no_word, one_word};
 ghost use Rattle.sftp_script.specs.Scripts.{lane_turn, line_by, session_line, with_lane, with_turn};
-ghost use Rattle.sftp_script.specs.Refusals.{Refuses};
+ghost use Rattle.sftp_script.specs.Refusals.{RefusesLine};
 
 use crate::calls::call_line;
 use crate::draft::Draft;
@@ -28,7 +28,7 @@ const TAKE: &[u8] = b"take";
 #[tactic(auto, using(crate::proofs::Counts::not_none))]
 fn lane_line(alloc: Global, draft: &mut Draft, line: &[u8]) -> Result<(), LineError>
     ensures ok { OnOk result (no_word (with_lane draft.old) (words_of line.now) ≡ Ok draft.new) }
-    ensures refused { IfErr result (λ e. Refuses (no_word (with_lane draft.old) (words_of line.now)) e) }
+    ensures refused { IfErr result (λ e. RefusesLine (no_word (with_lane draft.old) (words_of line.now)) e) }
 {
     no_word(line)?;
     draft.add_lane(alloc)?;
@@ -39,7 +39,7 @@ fn lane_line(alloc: Global, draft: &mut Draft, line: &[u8]) -> Result<(), LineEr
 #[tactic(auto, using(crate::proofs::Counts::not_none))]
 fn turn_line(draft: &mut Draft, turn: Turn, line: &[u8]) -> Result<(), LineError>
     ensures ok { OnOk result (no_word (with_turn draft.old turn) (words_of line.now) ≡ Ok draft.new) }
-    ensures refused { IfErr result (λ e. Refuses (no_word (with_turn draft.old turn) (words_of line.now)) e) }
+    ensures refused { IfErr result (λ e. RefusesLine (no_word (with_turn draft.old turn) (words_of line.now)) e) }
 {
     no_word(line)?;
     draft.add_turn(turn)?;
@@ -50,7 +50,7 @@ fn turn_line(draft: &mut Draft, turn: Turn, line: &[u8]) -> Result<(), LineError
 #[tactic(auto, using(crate::proofs::Counts::not_one))]
 fn step_line(draft: &mut Draft, line: &[u8]) -> Result<(), LineError>
     ensures ok { OnOk result (one_word (lane_turn draft.old (λ n. turns.Step n)) (words_of line.now) ≡ Ok draft.new) }
-    ensures refused { IfErr result (λ e. Refuses (one_word (lane_turn draft.old (λ n. turns.Step n)) (words_of line.now)) e) }
+    ensures refused { IfErr result (λ e. RefusesLine (one_word (lane_turn draft.old (λ n. turns.Step n)) (words_of line.now)) e) }
 {
     let word = one_word(line)?;
     let lane = number_from(0, word)?;
@@ -62,7 +62,7 @@ fn step_line(draft: &mut Draft, line: &[u8]) -> Result<(), LineError>
 #[tactic(auto, using(crate::proofs::Counts::not_one))]
 fn cancel_line(draft: &mut Draft, line: &[u8]) -> Result<(), LineError>
     ensures ok { OnOk result (one_word (lane_turn draft.old (λ n. turns.Cancel n)) (words_of line.now) ≡ Ok draft.new) }
-    ensures refused { IfErr result (λ e. Refuses (one_word (lane_turn draft.old (λ n. turns.Cancel n)) (words_of line.now)) e) }
+    ensures refused { IfErr result (λ e. RefusesLine (one_word (lane_turn draft.old (λ n. turns.Cancel n)) (words_of line.now)) e) }
 {
     let word = one_word(line)?;
     let lane = number_from(0, word)?;
@@ -73,7 +73,7 @@ fn cancel_line(draft: &mut Draft, line: &[u8]) -> Result<(), LineError>
 /// A line of a lane, a turn or a call, by its first word.
 fn session_line(alloc: Global, draft: &mut Draft, word: &[u8], line: &[u8]) -> Result<(), LineError>
     ensures ok { OnOk result (session_line draft.old word.now (words_of line.now) ≡ Ok draft.new) }
-    ensures refused { IfErr result (λ e. Refuses (session_line draft.old word.now (words_of line.now)) e) }
+    ensures refused { IfErr result (λ e. RefusesLine (session_line draft.old word.now (words_of line.now)) e) }
 {
     if word == LANE {
         lane_line(alloc, draft, line)

@@ -2,7 +2,7 @@
 ghost use Rattle.std.specs.Prelude.{◌≡◌, Some, Ok, OnOk, IfErr};
 ghost use Rattle.sftp_script.specs.Lines.{words_of, two_words, greatest_u32};
 ghost use Rattle.sftp_script.specs.Setup.{option_in, option_line};
-ghost use Rattle.sftp_script.specs.Refusals.{Refuses};
+ghost use Rattle.sftp_script.specs.Refusals.{RefusesLine};
 
 use crate::draft::Draft;
 use crate::error::LineError;
@@ -28,7 +28,7 @@ const READ_WINDOW: &[u8] = b"read_window";
 
 fn set_max_pending_requests(draft: &mut Draft, word: &[u8]) -> Result<(), LineError>
     ensures ok { OnOk result (option_in draft.old 0 1 65535 word.now (λ n. record draft.old.script.options { max_pending_requests = n }) ≡ Ok draft.new) }
-    ensures refused { IfErr result (λ e. Refuses (option_in draft.old 0 1 65535 word.now (λ n. record draft.old.script.options { max_pending_requests = n })) e) }
+    ensures refused { IfErr result (λ e. RefusesLine (option_in draft.old 0 1 65535 word.now (λ n. record draft.old.script.options { max_pending_requests = n })) e) }
 {
     let n = number_in(1, 65535, word)?;
     let options = draft.options().max_pending_requests(n as u16);
@@ -37,7 +37,7 @@ fn set_max_pending_requests(draft: &mut Draft, word: &[u8]) -> Result<(), LineEr
 
 fn set_requests_buffer_size(draft: &mut Draft, word: &[u8]) -> Result<(), LineError>
     ensures ok { OnOk result (option_in draft.old 1 1 65536 word.now (λ n. record draft.old.script.options { requests_buffer_size = n }) ≡ Ok draft.new) }
-    ensures refused { IfErr result (λ e. Refuses (option_in draft.old 1 1 65536 word.now (λ n. record draft.old.script.options { requests_buffer_size = n })) e) }
+    ensures refused { IfErr result (λ e. RefusesLine (option_in draft.old 1 1 65536 word.now (λ n. record draft.old.script.options { requests_buffer_size = n })) e) }
 {
     let n = number_in(1, 65536, word)?;
     let options = draft.options().requests_buffer_size(n as usize);
@@ -46,7 +46,7 @@ fn set_requests_buffer_size(draft: &mut Draft, word: &[u8]) -> Result<(), LineEr
 
 fn set_responses_buffer_size(draft: &mut Draft, word: &[u8]) -> Result<(), LineError>
     ensures ok { OnOk result (option_in draft.old 2 1 65536 word.now (λ n. record draft.old.script.options { responses_buffer_size = n }) ≡ Ok draft.new) }
-    ensures refused { IfErr result (λ e. Refuses (option_in draft.old 2 1 65536 word.now (λ n. record draft.old.script.options { responses_buffer_size = n })) e) }
+    ensures refused { IfErr result (λ e. RefusesLine (option_in draft.old 2 1 65536 word.now (λ n. record draft.old.script.options { responses_buffer_size = n })) e) }
 {
     let n = number_in(1, 65536, word)?;
     let options = draft.options().responses_buffer_size(n as usize);
@@ -55,7 +55,7 @@ fn set_responses_buffer_size(draft: &mut Draft, word: &[u8]) -> Result<(), LineE
 
 fn set_tokio_compat_file_write_limit(draft: &mut Draft, word: &[u8]) -> Result<(), LineError>
     ensures ok { OnOk result (option_in draft.old 3 1 16777216 word.now (λ n. record draft.old.script.options { tokio_compat_file_write_limit = n }) ≡ Ok draft.new) }
-    ensures refused { IfErr result (λ e. Refuses (option_in draft.old 3 1 16777216 word.now (λ n. record draft.old.script.options { tokio_compat_file_write_limit = n })) e) }
+    ensures refused { IfErr result (λ e. RefusesLine (option_in draft.old 3 1 16777216 word.now (λ n. record draft.old.script.options { tokio_compat_file_write_limit = n })) e) }
 {
     let n = number_in(1, 16777216, word)?;
     let options = draft.options().tokio_compat_file_write_limit(n as usize);
@@ -64,7 +64,7 @@ fn set_tokio_compat_file_write_limit(draft: &mut Draft, word: &[u8]) -> Result<(
 
 fn set_max_read_len(draft: &mut Draft, word: &[u8]) -> Result<(), LineError>
     ensures ok { OnOk result (option_in draft.old 4 1 greatest_u32 word.now (λ n. record draft.old.script.options { max_read_len = Some n }) ≡ Ok draft.new) }
-    ensures refused { IfErr result (λ e. Refuses (option_in draft.old 4 1 greatest_u32 word.now (λ n. record draft.old.script.options { max_read_len = Some n })) e) }
+    ensures refused { IfErr result (λ e. RefusesLine (option_in draft.old 4 1 greatest_u32 word.now (λ n. record draft.old.script.options { max_read_len = Some n })) e) }
 {
     let n = number_from(1, word)?;
     let options = draft.options().max_read_len(n);
@@ -73,7 +73,7 @@ fn set_max_read_len(draft: &mut Draft, word: &[u8]) -> Result<(), LineError>
 
 fn set_max_write_len(draft: &mut Draft, word: &[u8]) -> Result<(), LineError>
     ensures ok { OnOk result (option_in draft.old 5 1 greatest_u32 word.now (λ n. record draft.old.script.options { max_write_len = Some n }) ≡ Ok draft.new) }
-    ensures refused { IfErr result (λ e. Refuses (option_in draft.old 5 1 greatest_u32 word.now (λ n. record draft.old.script.options { max_write_len = Some n })) e) }
+    ensures refused { IfErr result (λ e. RefusesLine (option_in draft.old 5 1 greatest_u32 word.now (λ n. record draft.old.script.options { max_write_len = Some n })) e) }
 {
     let n = number_from(1, word)?;
     let options = draft.options().max_write_len(n);
@@ -82,7 +82,7 @@ fn set_max_write_len(draft: &mut Draft, word: &[u8]) -> Result<(), LineError>
 
 fn set_flush_interval(draft: &mut Draft, word: &[u8]) -> Result<(), LineError>
     ensures ok { OnOk result (option_in draft.old 6 0 1000000 word.now (λ n. record draft.old.script.options { flush_interval = n }) ≡ Ok draft.new) }
-    ensures refused { IfErr result (λ e. Refuses (option_in draft.old 6 0 1000000 word.now (λ n. record draft.old.script.options { flush_interval = n })) e) }
+    ensures refused { IfErr result (λ e. RefusesLine (option_in draft.old 6 0 1000000 word.now (λ n. record draft.old.script.options { flush_interval = n })) e) }
 {
     let n = number_in(0, 1000000, word)?;
     let options = draft.options().flush_interval(n);
@@ -91,7 +91,7 @@ fn set_flush_interval(draft: &mut Draft, word: &[u8]) -> Result<(), LineError>
 
 fn set_read_window(draft: &mut Draft, word: &[u8]) -> Result<(), LineError>
     ensures ok { OnOk result (option_in draft.old 7 1 64 word.now (λ n. record draft.old.script.options { read_window = n }) ≡ Ok draft.new) }
-    ensures refused { IfErr result (λ e. Refuses (option_in draft.old 7 1 64 word.now (λ n. record draft.old.script.options { read_window = n })) e) }
+    ensures refused { IfErr result (λ e. RefusesLine (option_in draft.old 7 1 64 word.now (λ n. record draft.old.script.options { read_window = n })) e) }
 {
     let n = number_in(1, 64, word)?;
     let options = draft.options().read_window(n as u32);
@@ -101,7 +101,7 @@ fn set_read_window(draft: &mut Draft, word: &[u8]) -> Result<(), LineError>
 /// Sets the option of this name.
 fn set_option(draft: &mut Draft, name: &[u8], word: &[u8]) -> Result<(), LineError>
     ensures ok { OnOk result (option_line draft.old name.now word.now ≡ Ok draft.new) }
-    ensures refused { IfErr result (λ e. Refuses (option_line draft.old name.now word.now) e) }
+    ensures refused { IfErr result (λ e. RefusesLine (option_line draft.old name.now word.now) e) }
 {
     if name == MAX_PENDING_REQUESTS {
         set_max_pending_requests(draft, word)
@@ -128,7 +128,7 @@ fn set_option(draft: &mut Draft, name: &[u8], word: &[u8]) -> Result<(), LineErr
 #[tactic(auto, using(crate::proofs::Counts::not_two))]
 pub(crate) fn option_line(draft: &mut Draft, line: &[u8]) -> Result<(), LineError>
     ensures ok { OnOk result (two_words (option_line draft.old) (words_of line.now) ≡ Ok draft.new) }
-    ensures refused { IfErr result (λ e. Refuses (two_words (option_line draft.old) (words_of line.now)) e) }
+    ensures refused { IfErr result (λ e. RefusesLine (two_words (option_line draft.old) (words_of line.now)) e) }
 {
     let (name, word) = two_words(line)?;
     set_option(draft, name, word)

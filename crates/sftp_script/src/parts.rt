@@ -2,7 +2,7 @@
 ghost use Rattle.std.specs.Prelude.{◌≡◌, Ok, IfOk, IfErr};
 ghost use Rattle.sftp_script.specs.Lines.{bytes_in, words_of};
 ghost use Rattle.sftp_script.specs.Scripts.{each_in, parts_in};
-ghost use Rattle.sftp_script.specs.Refusals.{Refuses};
+ghost use Rattle.sftp_script.specs.Refusals.{RefusesLine};
 
 use crate::error::LineError;
 use crate::hex_word::bytes_in;
@@ -14,7 +14,7 @@ use std::alloc::Global;
 /// The bytes that each word of a line spells.
 fn each_in(alloc: Global, line: &[u8]) -> Result<Vec<ByteText>, LineError>
     ensures ok { IfOk result (λ parts. each_in bytes_in (words_of line.now) ≡ Ok parts.items) }
-    ensures refused { IfErr result (λ e. Refuses (each_in bytes_in (words_of line.now)) e) }
+    ensures refused { IfErr result (λ e. RefusesLine (each_in bytes_in (words_of line.now)) e) }
 {
     let mut parts = Vec::new(alloc);
     let mut rest = line;
@@ -29,7 +29,7 @@ fn each_in(alloc: Global, line: &[u8]) -> Result<Vec<ByteText>, LineError>
 #[tactic(auto, using(crate::proofs::PartLaws::too_few, crate::proofs::PartLaws::slot_refused, crate::proofs::PartLaws::parts_refused, crate::proofs::PartLaws::parts_read))]
 pub(crate) fn slot_and_parts(alloc: Global, line: &[u8]) -> Result<(u8, Items<ByteText>), LineError>
     ensures ok { IfOk result (λ p. parts_in (words_of line.now) ≡ Ok p) }
-    ensures refused { IfErr result (λ e. Refuses (parts_in (words_of line.now)) e) }
+    ensures refused { IfErr result (λ e. RefusesLine (parts_in (words_of line.now)) e) }
 {
     let (slot, rest) = word_and_more(line)?;
     let slot = slot_in(slot)?;

@@ -3,7 +3,7 @@ ghost use Rattle.std.specs.Prelude.{◌≡◌, ◌≤◌, Ok, OnOk, IfOk, IfErr}
 ghost use Rattle.sftp_script.specs.Lines.{is_comment, lines_of, read_by, read_line, words_of};
 ghost use Rattle.sftp_script.specs.Scripts.{script_of};
 ghost use Rattle.sftp_script.specs.CanRun.{CanRun};
-ghost use Rattle.sftp_script.specs.Refusals.{Refuses, RefusesScript, at_line};
+ghost use Rattle.sftp_script.specs.Refusals.{RefusesLine, RefusesScript, at_line};
 
 use crate::draft::Draft;
 use crate::error::{LineError, ScriptError};
@@ -26,7 +26,7 @@ pub trait LineReader {
     /// Reads a line by its first word and what stands after that. Refused with the reason, or for want of memory.
     fn read_words(&mut self, alloc: Global, word: &[u8], line: &[u8]) -> Result<(), LineError>
         ensures ok { OnOk result (line_by self.old word.now (words_of line.now) ≡ Ok self.new) }
-        ensures refused { IfErr result (λ e. Refuses (line_by self.old word.now (words_of line.now)) e) };
+        ensures refused { IfErr result (λ e. RefusesLine (line_by self.old word.now (words_of line.now)) e) };
 }
 
 /// Reads a script. Refused with the number of the first line that is no line of a script, counted from 1, and why;
@@ -70,7 +70,7 @@ fn is_comment(line: &[u8]) -> bool
 /// A line, which is passed over where it has no words or begins with `#`.
 fn read_line<R: LineReader>(alloc: Global, reader: &mut R, line: &[u8]) -> Result<(), LineError>
     ensures ok { OnOk result (read_line R.line_by reader.old line.now ≡ Ok reader.new) }
-    ensures refused { IfErr result (λ e. Refuses (read_line R.line_by reader.old line.now) e) }
+    ensures refused { IfErr result (λ e. RefusesLine (read_line R.line_by reader.old line.now) e) }
 {
     if is_comment(line) {
         return Ok(());

@@ -5,7 +5,7 @@ ghost use Rattle.sftp_script.specs.Lines.{words_of};
 ghost use Rattle.sftp_script.specs.Scripts.{empty_script};
 ghost use Rattle.machine_model.specs.FirstTree.{may_begin};
 ghost use Rattle.sftp_script.specs.CanRun.{CanRun};
-ghost use Rattle.sftp_script.specs.Refusals.{Refuses};
+ghost use Rattle.sftp_script.specs.Refusals.{RefusesLine};
 ghost use Rattle.sftp_script.specs.ServerWords.{first_line, first_line_by, offer_line, read_first, server_of};
 
 use crate::draft::Draft;
@@ -28,7 +28,7 @@ const CUT: &[u8] = b"cut";
 /// What the server offers, by the words after `server`.
 fn offer_line(draft: &mut Draft, line: &[u8]) -> Result<(), LineError>
     ensures ok { OnOk result (offer_line draft.old (words_of line.now) ≡ Ok draft.new) }
-    ensures refused { IfErr result (λ e. Refuses (offer_line draft.old (words_of line.now)) e) }
+    ensures refused { IfErr result (λ e. RefusesLine (offer_line draft.old (words_of line.now)) e) }
 {
     if let Some((kind, _)) = split_word(line) {
         if kind == CUT {
@@ -42,7 +42,7 @@ fn offer_line(draft: &mut Draft, line: &[u8]) -> Result<(), LineError>
 /// A line by its first word.
 fn line_by(alloc: Global, draft: &mut Draft, word: &[u8], line: &[u8]) -> Result<(), LineError>
     ensures ok { OnOk result (first_line_by draft.old word.now (words_of line.now) ≡ Ok draft.new) }
-    ensures refused { IfErr result (λ e. Refuses (first_line_by draft.old word.now (words_of line.now)) e) }
+    ensures refused { IfErr result (λ e. RefusesLine (first_line_by draft.old word.now (words_of line.now)) e) }
 {
     if word == SERVER {
         offer_line(draft, line)
@@ -58,7 +58,7 @@ fn line_by(alloc: Global, draft: &mut Draft, word: &[u8], line: &[u8]) -> Result
 /// A line that has a word at least.
 fn first_line(alloc: Global, draft: &mut Draft, line: &[u8]) -> Result<(), LineError>
     ensures ok { OnOk result (first_line draft.old (words_of line.now) ≡ Ok draft.new) }
-    ensures refused { IfErr result (λ e. Refuses (first_line draft.old (words_of line.now)) e) }
+    ensures refused { IfErr result (λ e. RefusesLine (first_line draft.old (words_of line.now)) e) }
 {
     match split_word(line) {
         Some((word, rest)) => line_by(alloc, draft, word, rest),
@@ -72,7 +72,7 @@ fn first_line(alloc: Global, draft: &mut Draft, line: &[u8]) -> Result<(), LineE
 pub fn read_server_words(alloc: Global, words: &[String]) -> Result<Script, LineError>
     ensures ok { IfOk result (λ script. server_of (map string_bytes words.now) ≡ Ok script) }
     ensures runs { IfOk result (λ script. CanRun script) }
-    ensures refused { IfErr result (λ e. Refuses (server_of (map string_bytes words.now)) e) }
+    ensures refused { IfErr result (λ e. RefusesLine (server_of (map string_bytes words.now)) e) }
 
     // a field of `runs`
     ensures begins { IfOk result (λ script. may_begin script.files script.dirs ≡ true) }

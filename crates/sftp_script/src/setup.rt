@@ -3,7 +3,7 @@ ghost use Rattle.std.specs.Prelude.{◌≡◌, Some, None, Ok, IfOk, OnOk, IfErr
 ghost use Rattle.sftp_script.specs.Lines.{words_of, one_word, two_words};
 ghost use Rattle.sftp_script.specs.Setup.{path_in, content_in, may_add, file_line, dir_line, refusal_in, choice_line, pick_line, server_line, setup_line};
 ghost use Rattle.machine_model.specs.Components.{components};
-ghost use Rattle.sftp_script.specs.Refusals.{Refuses, RefusesIn};
+ghost use Rattle.sftp_script.specs.Refusals.{RefusesLine, RefusesIn};
 
 use crate::draft::Draft;
 use crate::error::LineError;
@@ -34,7 +34,7 @@ const PICK: &[u8] = b"pick";
 /// A path of a name that may be there, and the name.
 fn path_in(alloc: Global, word: &[u8]) -> Result<(ByteText, Items<ByteText>), LineError>
     ensures ok { IfOk result (λ p. (path_in word.now ≡ Ok p.0) × (p.1 ≡ components p.0)) }
-    ensures refused { IfErr result (λ e. Refuses (path_in word.now) e) }
+    ensures refused { IfErr result (λ e. RefusesLine (path_in word.now) e) }
 {
     let path = bytes_in(alloc, word)?;
     let name = components(alloc, path.as_slice())?;
@@ -48,7 +48,7 @@ fn path_in(alloc: Global, word: &[u8]) -> Result<(ByteText, Items<ByteText>), Li
 fn content_in(alloc: Global, draft: &Draft, word: &[u8]) -> Result<ByteText, LineError>
     ensures ok { IfOk result (λ content. (content_in draft.now.script.files word.now ≡ Ok content)
         × (may_add draft.now.script.files content ≡ true)) }
-    ensures refused { IfErr result (λ e. Refuses (content_in draft.now.script.files word.now) e) }
+    ensures refused { IfErr result (λ e. RefusesLine (content_in draft.now.script.files word.now) e) }
 {
     let content = bytes_in(alloc, word)?;
     if !draft.may_add(content.as_slice()) {
@@ -60,7 +60,7 @@ fn content_in(alloc: Global, draft: &Draft, word: &[u8]) -> Result<ByteText, Lin
 /// The server has a file at this path, with this content.
 fn add_file(alloc: Global, draft: &mut Draft, path: &[u8], content: &[u8]) -> Result<(), LineError>
     ensures ok { OnOk result (file_line draft.old path.now content.now ≡ Ok draft.new) }
-    ensures refused { IfErr result (λ e. Refuses (file_line draft.old path.now content.now) e) }
+    ensures refused { IfErr result (λ e. RefusesLine (file_line draft.old path.now content.now) e) }
 {
     let (path, name) = path_in(alloc, path)?;
     let content = content_in(alloc, draft, content)?;
@@ -70,7 +70,7 @@ fn add_file(alloc: Global, draft: &mut Draft, path: &[u8], content: &[u8]) -> Re
 /// The server has a directory at this path.
 fn add_dir(alloc: Global, draft: &mut Draft, path: &[u8]) -> Result<(), LineError>
     ensures ok { OnOk result (dir_line draft.old path.now ≡ Ok draft.new) }
-    ensures refused { IfErr result (λ e. Refuses (dir_line draft.old path.now) e) }
+    ensures refused { IfErr result (λ e. RefusesLine (dir_line draft.old path.now) e) }
 {
     let (path, name) = path_in(alloc, path)?;
     draft.add_dir(path, name)
@@ -80,7 +80,7 @@ fn add_dir(alloc: Global, draft: &mut Draft, path: &[u8]) -> Result<(), LineErro
 #[tactic(auto, using(crate::proofs::Counts::not_two))]
 pub(crate) fn file_line(alloc: Global, draft: &mut Draft, line: &[u8]) -> Result<(), LineError>
     ensures ok { OnOk result (two_words (file_line draft.old) (words_of line.now) ≡ Ok draft.new) }
-    ensures refused { IfErr result (λ e. Refuses (two_words (file_line draft.old) (words_of line.now)) e) }
+    ensures refused { IfErr result (λ e. RefusesLine (two_words (file_line draft.old) (words_of line.now)) e) }
 {
     let (name, content) = two_words(line)?;
     add_file(alloc, draft, name, content)
@@ -90,7 +90,7 @@ pub(crate) fn file_line(alloc: Global, draft: &mut Draft, line: &[u8]) -> Result
 #[tactic(auto, using(crate::proofs::Counts::not_one))]
 pub(crate) fn dir_line(alloc: Global, draft: &mut Draft, line: &[u8]) -> Result<(), LineError>
     ensures ok { OnOk result (one_word (dir_line draft.old) (words_of line.now) ≡ Ok draft.new) }
-    ensures refused { IfErr result (λ e. Refuses (one_word (dir_line draft.old) (words_of line.now)) e) }
+    ensures refused { IfErr result (λ e. RefusesLine (one_word (dir_line draft.old) (words_of line.now)) e) }
 {
     let path = one_word(line)?;
     add_dir(alloc, draft, path)
@@ -111,7 +111,7 @@ fn refusal_in(word: &[u8]) -> Result<u32, Reason>
 /// What the server does with one request.
 fn add_choice(draft: &mut Draft, refuse: &[u8], cap: &[u8]) -> Result<(), LineError>
     ensures ok { OnOk result (choice_line draft.old refuse.now cap.now ≡ Ok draft.new) }
-    ensures refused { IfErr result (λ e. Refuses (choice_line draft.old refuse.now cap.now) e) }
+    ensures refused { IfErr result (λ e. RefusesLine (choice_line draft.old refuse.now cap.now) e) }
 {
     let refuse = refusal_in(refuse)?;
     let cap = number_from(0, cap)?;
@@ -123,7 +123,7 @@ fn add_choice(draft: &mut Draft, refuse: &[u8], cap: &[u8]) -> Result<(), LineEr
 #[tactic(auto, using(crate::proofs::Counts::not_two))]
 fn choice_line(draft: &mut Draft, line: &[u8]) -> Result<(), LineError>
     ensures ok { OnOk result (two_words (choice_line draft.old) (words_of line.now) ≡ Ok draft.new) }
-    ensures refused { IfErr result (λ e. Refuses (two_words (choice_line draft.old) (words_of line.now)) e) }
+    ensures refused { IfErr result (λ e. RefusesLine (two_words (choice_line draft.old) (words_of line.now)) e) }
 {
     let (refuse, cap) = two_words(line)?;
     add_choice(draft, refuse, cap)
@@ -133,7 +133,7 @@ fn choice_line(draft: &mut Draft, line: &[u8]) -> Result<(), LineError>
 #[tactic(auto, using(crate::proofs::Counts::not_one))]
 fn pick_line(draft: &mut Draft, line: &[u8]) -> Result<(), LineError>
     ensures ok { OnOk result (one_word (pick_line draft.old) (words_of line.now) ≡ Ok draft.new) }
-    ensures refused { IfErr result (λ e. Refuses (one_word (pick_line draft.old) (words_of line.now)) e) }
+    ensures refused { IfErr result (λ e. RefusesLine (one_word (pick_line draft.old) (words_of line.now)) e) }
 {
     let word = one_word(line)?;
     let pick = number_from(0, word)?;
@@ -144,7 +144,7 @@ fn pick_line(draft: &mut Draft, line: &[u8]) -> Result<(), LineError>
 /// The words after `server`.
 fn server_words(draft: &mut Draft, line: &[u8]) -> Result<(), LineError>
     ensures ok { OnOk result (server_line draft.old (words_of line.now) ≡ Ok draft.new) }
-    ensures refused { IfErr result (λ e. Refuses (server_line draft.old (words_of line.now)) e) }
+    ensures refused { IfErr result (λ e. RefusesLine (server_line draft.old (words_of line.now)) e) }
 {
     server_line(draft, line)?;
     Ok(())

@@ -22,7 +22,7 @@ use std::time::Clock;
 
 /// A text to write, what it says, and whether a replay differs.
 #[derive(Drop)]
-pub(crate) struct Reply {
+pub(crate) struct Replayed {
     pub(crate) printed: Printed,
     pub(crate) differs: bool,
 }
@@ -33,7 +33,7 @@ fn reply_to_script<P: Pair<R>, R: Threads + Wait + Clock + Sync>(
     alloc: Global,
     script: &Script,
     pair: &mut P,
-) -> Result<Reply, OutOfMemory>
+) -> Result<Replayed, OutOfMemory>
     requires { CanRun script.now }
     ensures { IfOk result (λ reply. RightFor (P.Out.LinkState.Service) (P.In.LinkState.Service) (P.last pair.new) script.now
         reply.differs reply.printed.answered reply.printed.text.items) }
@@ -41,7 +41,7 @@ fn reply_to_script<P: Pair<R>, R: Threads + Wait + Clock + Sync>(
     match run_lanes(rt, alloc, script, pair) {
         Ok(report) => {
             let (differs, text) = text_of_run(alloc, script, &report.report)?;
-            Ok(Reply {
+            Ok(Replayed {
                 printed: Printed {
                     answered: Answered::Done,
                     text,
@@ -50,7 +50,7 @@ fn reply_to_script<P: Pair<R>, R: Threads + Wait + Clock + Sync>(
             })
         }
         Err(error) => match error_name(&error) {
-            Some(name) => Ok(Reply {
+            Some(name) => Ok(Replayed {
                 printed: Printed {
                     answered: Answered::Stopped,
                     text: error_line(alloc, name)?,
@@ -68,7 +68,7 @@ fn reply_to<P: Pair<R>, R: Threads + Wait + Clock + Sync>(
     alloc: Global,
     bytes: &[u8],
     pair: &mut P,
-) -> Result<Reply, OutOfMemory>
+) -> Result<Replayed, OutOfMemory>
     ensures { IfOk result (λ reply. RightShared (P.Out.LinkState.Service) (P.In.LinkState.Service) (P.last pair.old) (P.last pair.new)
         reply.differs (script_of bytes.now) reply.printed.answered reply.printed.text.items) }
 {
@@ -77,7 +77,7 @@ fn reply_to<P: Pair<R>, R: Threads + Wait + Clock + Sync>(
         Err(ScriptError::OutOfMemory) => Err(OutOfMemory),
         Err(ScriptError::Line { line, reason }) => {
             let printed = refuse(alloc, line, reason)?;
-            Ok(Reply {
+            Ok(Replayed {
                 printed,
                 differs: false,
             })
@@ -111,7 +111,7 @@ pub fn share<S: Source, K: Sink, P: Pair<R>, R: Threads + Wait + Clock + Sync>(
         Err(why) => return share_status(false, Err(why)),
     };
     match reply_to(rt, alloc, &bytes, pair) {
-        Ok(Reply { printed, differs }) => {
+        Ok(Replayed { printed, differs }) => {
             let end = write_answer(sink, printed.answered, &printed.text);
             share_status(differs, end)
         }

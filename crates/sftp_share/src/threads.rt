@@ -3,33 +3,15 @@ ghost use Rattle.std.specs.Prelude.{◌≡◌, IfErr, IfOk, OnOk, true};
 ghost use Rattle.sftp_script.specs.CanRun.{CanRun};
 ghost use Rattle.sftp_share.specs.Shared.{HasRun, HasStopped};
 
-use sftp_map_server::{MapServer, new_server};
+use program_ends::new_server_of;
 use sftp_script::Script;
 use sftp_tasks::{Error, SharedReport};
-use sftp_values::Items;
 use shared_map::Pair;
-use ssh_encoding::OutOfMemory;
 use std::alloc::Global;
 use std::sync::Wait;
 use std::thread::Threads;
 use std::time::Clock;
 use tasks_run::run_shared;
-
-/// The server that a script describes. Refused only for want of memory.
-fn server_of(alloc: Global, script: &Script) -> Result<MapServer, OutOfMemory>
-    requires { CanRun script.now }
-{
-    let choices = Vec::from_slice(alloc, script.choices.as_slice())?;
-    let picks = Vec::from_slice(alloc, script.picks.as_slice())?;
-    new_server(
-        alloc,
-        script.files.as_slice(),
-        script.dirs.as_slice(),
-        script.server,
-        Items::new(choices),
-        Items::new(picks),
-    )
-}
 
 /// Runs the lanes of a script over the halves that a pair gives of the script's server, and gives these back to the pair,
 /// whatever came of the run.
@@ -43,7 +25,7 @@ pub(crate) fn run_lanes<P: Pair<R>, R: Threads + Wait + Clock + Sync>(
     ensures ok { IfOk result (λ report. HasRun (P.Out.LinkState.Service) (P.In.LinkState.Service) (P.last pair.new) script.now report) }
     ensures err { IfErr result (λ e. HasStopped (P.Out.LinkState.Service) (P.In.LinkState.Service) (P.last pair.new) e) }
 {
-    let Ok(server) = server_of(alloc, script) else {
+    let Ok(server) = new_server_of(alloc, script) else {
         return Err(Error::OutOfMemory);
     };
     let Ok((out, input)) = pair.split(rt, alloc, server) else {

@@ -6,7 +6,7 @@ use Rattle.call_state.proofs.Keeping.{submitted_holds, submitted_keeps}
 use Rattle.sftp_streams.specs.declared.parts.Unasked.{Unasked}
 use Rattle.sftp_streams.specs.declared.parts.Unasked.TheVariants as unasked
 use Rattle.sftp_streams.specs.Parts.{IsUnasked, KeepsOthersHeld}
-use Rattle.sftp_streams.specs.Downloads.{AsksFirst, AsksLast, AsksMany, AsksMore, DownloadValue, Fills, IsFilled, MayRead, content_kind}
+use Rattle.sftp_streams.specs.Downloads.{AsksFirst, AsksLast, AsksMany, AsksMore, DownloadValue, FillsWindow, IsFilled, MayRead, content_kind}
 use Rattle.sftp_streams.proofs.PartLaws.{apart_from, fault_queued, keeps_parts, last_awaited, last_count, last_len, others_same, others_submitted, others_then}
 
 opened_still : (core after : Core) → KeepsOthersHeld [] core after → IsSome (info_of core.phase) → IsSome (info_of after.phase)
@@ -114,7 +114,7 @@ many_stands (suc n) core after d new (c, x, first, more) =
     let below = many_stands n c after x new more in
     (below.0 ∙ ap (λ (y : DownloadValue). y.offset) first.now, below.1 ∙ ap (λ (y : DownloadValue). y.ended) first.now)
 
-pub stands : (core after : Core) (d new : DownloadValue) → Fills core d after new → (new.offset ≡ d.offset) × (new.ended ≡ d.ended)
+pub stands : (core after : Core) (d new : DownloadValue) → FillsWindow core d after new → (new.offset ≡ d.offset) × (new.ended ≡ d.ended)
 stands core after d new (inl (none, more)) = many_stands more.0 core after d new more.1
 stands core after d new (inr (inl (same, is))) = (ap (λ (x : DownloadValue). x.offset) is, ap (λ (x : DownloadValue). x.ended) is)
 stands core after d new (inr (inr (c, x, first, more))) =
@@ -127,7 +127,7 @@ many_unfailed : (n : ℕ) (core after : Core) (d new : DownloadValue) → AsksMa
 many_unfailed zero core after d new (same, is) here some = here (subst (λ (x : DownloadValue). 0 < length x.parts) is some)
 many_unfailed (suc n) core after d new (c, x, first, more) here some = first.submitted.unfailed
 
-pub unfailed : (core after : Core) (d new : DownloadValue) → Fills core d after new → IsFilled new
+pub unfailed : (core after : Core) (d new : DownloadValue) → FillsWindow core d after new → IsFilled new
     → (d.rest ≡ 0 → 0 < length d.parts → core.fault ≡ None) → 0 < length new.parts → core.fault ≡ None
 unfailed core after d new (inl (none, more)) full here some = many_unfailed more.0 core after d new more.1 (here none) some
 unfailed core after d new (inr (inl (same, is))) full here some =
@@ -140,7 +140,7 @@ others_many zero core after d new (same, is) = subst (λ (x : Core). KeepsOthers
 others_many (suc n) core after d new (c, x, first, more) = others_then core c after
     (others_submitted core c _ first.ticket first.submitted) (others_many n c after x new more)
 
-pub others_filled : (core after : Core) (d new : DownloadValue) → Fills core d after new → KeepsOthersHeld [] core after
+pub others_filled : (core after : Core) (d new : DownloadValue) → FillsWindow core d after new → KeepsOthersHeld [] core after
 others_filled core after d new (inl (none, more)) = others_many more.0 core after d new more.1
 others_filled core after d new (inr (inl (same, is))) = subst (λ (x : Core). KeepsOthersHeld [] core x) (sym same) (others_same [] core)
 others_filled core after d new (inr (inr (c, x, first, more))) =

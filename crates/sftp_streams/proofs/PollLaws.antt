@@ -17,7 +17,7 @@ use Rattle.sftp_streams.specs.declared.parts.Part.{Part}
 use Rattle.sftp_streams.specs.Parts.{AreAwaited, AwaitsPlain, PartCame, KeepsOthersHeld, after_first, parts_len}
 use Rattle.sftp_streams.specs.Downloads.{
   DownloadValue,
-  Fills,
+  FillsWindow,
   GivesFirst,
   IsEnd,
   IsFilled,
@@ -183,7 +183,7 @@ pub missed_first : (core : Core) (d : DownloadValue) (part : Part) (later : List
 missed_first core d part later rest is missing unfailed = record { reply = first_is core d part later rest is ∙ missing; unfailed = λ none some. unfailed }
 
 pub reads_pending : (core after : Core) (d new : DownloadValue) → MayRead core d → IsMissing core d → MayRead after new
-    → Fills core d after new → IsFilled new → 0 < length new.parts → PollsDownload core after d new poll.Pending
+    → FillsWindow core d after new → IsFilled new → 0 < length new.parts → PollsDownload core after d new poll.Pending
 reads_pending core after d new may missed left fills full some =
     let s = stands core after d new fills in
     record {
@@ -194,7 +194,7 @@ reads_pending core after d new may missed left fills full some =
     }
 
 pub reads_short : (core after : Core) (d new : DownloadValue) → MayRead core d → IsMissing core d → MayRead after new
-    → Fills core d after new → PollsDownload core after d new (poll.Ready (Err error.OutOfMemory))
+    → FillsWindow core d after new → PollsDownload core after d new (poll.Ready (Err error.OutOfMemory))
 reads_short core after d new may missed left fills =
     let s = stands core after d new fills in
     record {
@@ -205,7 +205,7 @@ reads_short core after d new may missed left fills =
     }
 
 pub reads_failed : (core after : Core) (d mid new : DownloadValue) (fault : Fault) → IsMissing core d
-    → MayRead after mid → Fills core d after mid → new ≡ record mid { ended = true } → core.fault ≡ Some fault
+    → MayRead after mid → FillsWindow core d after mid → new ≡ record mid { ended = true } → core.fault ≡ Some fault
     → PollsDownload core after d new (poll.Ready (Err (error.BackgroundTaskFailure fault)))
 reads_failed core after d mid new fault missed left fills now kept =
     let s = stands core after d mid fills in
@@ -219,7 +219,7 @@ reads_failed core after d mid new fault missed left fills now kept =
 
 -- nothing is under way, and nothing can be asked for
 pub reads_overflow : (core after : Core) (d mid new : DownloadValue) → IsMissing core d → MayRead after mid
-    → Fills core d after mid → IsFilled mid → mid.parts ≡ [] → new ≡ record mid { ended = true }
+    → FillsWindow core d after mid → IsFilled mid → mid.parts ≡ [] → new ≡ record mid { ended = true }
     → PollsDownload core after d new (poll.Ready (Err (error.IOError OffsetOverflow)))
 reads_overflow core after d mid new missed left fills full none now =
     let s = stands core after d mid fills in

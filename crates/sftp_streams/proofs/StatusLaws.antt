@@ -39,7 +39,7 @@ use Rattle.sftp_core.specs.Core.{Core, after_poll, at, reply_in}
 use Rattle.call_state.specs.declared.poll.Poll.TheVariants as poll
 use Rattle.sftp_streams.specs.declared.parts.Part.{Part}
 use Rattle.sftp_streams.specs.Parts.{AreAwaited, AwaitsPlain, PartCame, KeepsOthersHeld, after_first, parts_len}
-use Rattle.sftp_streams.specs.Uploads.{GivesStatus, IsAccepted, IsOk, IsWriting, MayWrite, UploadValue, Writes, first_len, first_status, later_parts, status_kind}
+use Rattle.sftp_streams.specs.Uploads.{GivesStatus, IsAccepted, IsOk, IsWriting, MayWrite, UploadValue, PollsUpload, first_len, first_status, later_parts, status_kind}
 use Rattle.sftp_streams.proofs.PartLaws.{others_awaited, others_polled, others_same}
 
 pub first_awaited : (core : Core) (u : UploadValue) (part : Part) (later : List Part) → IsWriting core u → u.parts
@@ -114,7 +114,7 @@ by_status core after u now new part later other result may is now_is came to nev
 pub writes_status : (core after : Core) (u now new : UploadValue) (part : Part) (later : List Part) (r : Reply) (result : Result (Option ℕ) Error)
     → MayWrite core u → u.parts ≡ part ∷ later → now ≡ record u { parts = later } → PartCame core part.ticket r → after
     ≡ after_poll core part.ticket → IsAccepted now part.len r new result
-    → Writes core after u new (poll.Ready result)
+    → PollsUpload core after u new (poll.Ready result)
 writes_status core after u now new part later r result may is now_is came to out =
     let h = first_awaited core u part later may.held is in
     let all = by_status core after u now new part later r result may is now_is came to out in
@@ -132,7 +132,7 @@ writes_status core after u now new part later r result may is now_is came to out
 
 pub writes_fault : (core after : Core) (u new : UploadValue) (part : Part) (later : List Part) (fault : Fault) → MayWrite core u → u.parts ≡ part ∷ later
     → new ≡ record u { parts = later; ended = true } → reply_in (at core part.ticket) ≡ None → core.fault ≡ Some fault → after ≡ after_poll core part.ticket
-    → Writes core after u new (poll.Ready (Err (error.BackgroundTaskFailure fault)))
+    → PollsUpload core after u new (poll.Ready (Err (error.BackgroundTaskFailure fault)))
 writes_fault core after u new part later fault may is now missing kept to =
     let h = first_awaited core u part later may.held is in
     let over : new.ended ≡ true = ap (λ (x : UploadValue). x.ended) now in
@@ -150,7 +150,7 @@ writes_fault core after u new part later fault may is now missing kept to =
 
 pub writes_pending : (core after : Core) (u new : UploadValue) (part : Part) (later : List Part) → MayWrite core u
     → u.parts ≡ part ∷ later → new ≡ u → reply_in (at core part.ticket) ≡ None
-    → core.fault ≡ None → after ≡ core → Writes core after u new poll.Pending
+    → core.fault ≡ None → after ≡ core → PollsUpload core after u new poll.Pending
 writes_pending core after u new part later may is same missing unfailed to = record {
   gives = (ap (first_status core) is ∙ missing, unfailed, subst (λ (x : List Part). 0 < length x) (sym is) (omega arith), same, to);
   held = λ going. subst (λ (x : UploadValue). IsWriting after x) (sym same) (subst (λ (x : Core). IsWriting x u) (sym to) may.held);
@@ -160,7 +160,7 @@ writes_pending core after u new part later may is same missing unfailed to = rec
 }
 
 pub writes_none : (core after : Core) (u new : UploadValue) → MayWrite core u → u.parts ≡ [] → new ≡ u → after ≡ core
-    → Writes core after u new (poll.Ready (Ok None))
+    → PollsUpload core after u new (poll.Ready (Ok None))
 writes_none core after u new may is same to = record {
   gives = (is, same, to);
   held = λ going. subst (λ (x : UploadValue). IsWriting after x) (sym same) (subst (λ (x : Core). IsWriting x u) (sym to) may.held);

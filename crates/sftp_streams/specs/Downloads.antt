@@ -139,8 +139,8 @@ abbrev pub AsksMore : Core → DownloadValue → Core → DownloadValue → Type
 AsksMore core old after new = (n : ℕ) × AsksMany n core old after new
 
 -- what a short reply left, where there is such, and then parts behind the others
-abbrev pub Fills : Core → DownloadValue → Core → DownloadValue → Type 0
-Fills core old after new = ((old.rest ≡ 0) × AsksMore core old after new)
+abbrev pub FillsWindow : Core → DownloadValue → Core → DownloadValue → Type 0
+FillsWindow core old after new = ((old.rest ≡ 0) × AsksMore core old after new)
     ⊎ ((after ≡ core) × (new ≡ old))
     ⊎ ((mid : Core) × (d : DownloadValue) × AsksFirst core old mid d × AsksMore mid d after new)
 
@@ -182,7 +182,7 @@ GivesFirst core after old new (poll.Ready (Ok None)) = IsEnd (first_reply core o
 GivesFirst core after old new (poll.Ready (Err error.OutOfMemory)) = (first_reply core old ≡ None)
     × (new.offset ≡ old.offset)
     × (new.ended ≡ false)
-    × Fills core old after new
+    × FillsWindow core old after new
 GivesFirst core after old new (poll.Ready (Err (error.BackgroundTaskFailure fault))) = (first_reply core old ≡ None)
     × (core.fault ≡ Some fault)
     × (new.offset ≡ old.offset)
@@ -202,7 +202,7 @@ GivesFirst core after old new poll.Pending = (first_reply core old ≡ None)
     × (core.fault ≡ None)
     × (new.offset ≡ old.offset)
     × (new.ended ≡ false)
-    × Fills core old after new
+    × FillsWindow core old after new
     × IsFilled new
     × (0 < length new.parts)
 

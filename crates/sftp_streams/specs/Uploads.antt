@@ -185,8 +185,9 @@ GivesStatus core after old new poll.Pending = (first_status core old.parts ≡ N
 
 -- What a poll did: it may be polled on where it has not ended, and given up in any case; what others hold of the core
 -- stays.
-pub record Writes (core after : Core) (old new : UploadValue) (result : Poll (Result (Option ℕ) Error)) : Type 0 where
-  pub gives : GivesStatus core after old new result
-  pub held : new.ended ≡ false → IsWriting after new
-  pub parts : AreAwaited status_kind after new.parts
-  pub others : KeepsOthersHeld old.parts core after
+pub record PollsUpload (core after : Core) (old new : UploadValue) (result : Poll (Result (Option ℕ) Error)) : Type 0
+  where
+    pub gives : GivesStatus core after old new result
+    pub held : new.ended ≡ false → IsWriting after new
+    pub parts : AreAwaited status_kind after new.parts
+    pub others : KeepsOthersHeld old.parts core after

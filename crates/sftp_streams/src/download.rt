@@ -10,7 +10,7 @@ ghost use Rattle.call_state.specs.declared.asking.Asking.TheVariants as asking;
 ghost use Rattle.call_state.specs.declared.poll.Poll.TheVariants.{Ready};
 ghost use Rattle.sftp_file.specs.Outcomes.{read_answer};
 ghost use Rattle.sftp_streams.specs.Parts.{AreAwaited, IsUnasked, KeepsOthersHeld, without_parts};
-ghost use Rattle.sftp_streams.specs.Downloads.{AsksFirst, AsksLast, AsksMore, BeginsDownload, Fills, GivesFirst, IsFilled, IsHandedOut, IsMissing, IsReading, MayRead, PollsDownload, content_kind};
+ghost use Rattle.sftp_streams.specs.Downloads.{AsksFirst, AsksLast, AsksMore, BeginsDownload, FillsWindow, GivesFirst, IsFilled, IsHandedOut, IsMissing, IsReading, MayRead, PollsDownload, content_kind};
 
 use crate::parts::{Answer, Part, Unasked, abandon_parts, take_reply};
 use bytes::Bytes;
@@ -202,7 +202,7 @@ impl Download {
     fn fill(&mut self, core: &mut Core) -> Result<(), Unasked>
         requires may { MayRead core.old self.old }
         ensures may { MayRead core.new self.new }
-        ensures fills { Fills core.old self.old core.new self.new }
+        ensures fills { FillsWindow core.old self.old core.new self.new }
         ensures err { IfErr result (IsUnasked core.old) }
         ensures full { OnOk result (IsFilled self.new) }
     {

@@ -8,7 +8,7 @@ ghost use Rattle.sftp_core.specs.Info.{info_of};
 ghost use Rattle.call_state.specs.Asked.{Submitted};
 ghost use Rattle.call_state.specs.declared.asking.Asking.TheVariants as asking;
 ghost use Rattle.sftp_streams.specs.Parts.{AreAwaited, IsUnasked, KeepsOthersHeld, without_parts};
-ghost use Rattle.sftp_streams.specs.Uploads.{AsksWrite, BeginsUpload, IsAccepted, IsRefusedPush, IsWriting, MayPush, MayWrite, Writes, room_of, status_kind};
+ghost use Rattle.sftp_streams.specs.Uploads.{AsksWrite, BeginsUpload, IsAccepted, IsRefusedPush, IsWriting, MayPush, MayWrite, PollsUpload, room_of, status_kind};
 
 use crate::parts::{Answer, Part, Unasked, abandon_parts, take_reply};
 use bytes::Bytes;
@@ -169,7 +169,7 @@ impl Upload {
     /// its status was not taken and the core keeps a fault. What became of the WRITEs behind it isn't known then.
     pub fn poll(&mut self, core: &mut Core) -> Poll<Result<Option<u32>, Error>>
         requires { MayWrite core.old self.old }
-        ensures { Writes core.old core.new self.old self.new result }
+        ensures { PollsUpload core.old core.new self.old self.new result }
     {
         let Some(part) = self.parts.pop_front() else {
             return Poll::Ready(Ok(None));

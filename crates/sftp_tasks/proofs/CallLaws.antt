@@ -45,7 +45,7 @@ use Rattle.sftp_tasks.specs.declared.locked.Locked.{Locked}
 use Rattle.sftp_tasks.specs.Calls.{AnswersSeat, BeginsWith, InOneHold, settled}
 use Rattle.sftp_tasks.specs.LockedEvents.{OfLane, Submitting}
 use Rattle.sftp_tasks.specs.Rounds.{Token}
-use Rattle.sftp_tasks.specs.SessionEvents.{Submits}
+use Rattle.sftp_tasks.specs.SessionEvents.{SubmitsCall}
 use Rattle.sftp_tasks.specs.Shows.{shown_of}
 use Rattle.sftp_tasks.proofs.EntryLaws.{steps_extended}
 
@@ -81,7 +81,7 @@ made_last k a (e ∷ es) =
     λ i. made_last k a es i ++ receipt (place i) e ∷ []
 
 -- the entry of the call came first
-added_first : (lane : ℕ) (call : Call) (old new : SessionValue) (more : List Entry) → Submits lane call old new (Ok true)
+added_first : (lane : ℕ) (call : Call) (old new : SessionValue) (more : List Entry) → SubmitsCall lane call old new (Ok true)
     → past_of new.work ≡ more ++ past_of old.work → (es : List Entry) × (more ≡ es ++ entry.Added lane call ∷ [])
 added_first lane call old new more h past =
     let mid = h.0 in

@@ -22,11 +22,11 @@ use Rattle.session_work.specs.SoFar.{kept_in}
 use Rattle.session_work.specs.Working.{past_of}
 use Rattle.sftp_tasks.specs.declared.locked.Locked.{Locked}
 use Rattle.sftp_tasks.specs.declared.report.SharedReport.{SharedReport}
-use Rattle.sftp_tasks.specs.Reported.{ComesBack, MayTakeCalls, HasStopped, IsRefusedFor, Lists, Reported, reason_of}
+use Rattle.sftp_tasks.specs.Reported.{ComesBack, MayTakeCalls, HasStopped, IsRefusedFor, ListsJournal, Reported, reason_of}
 use Rattle.sftp_tasks.specs.Shows.{shown_of}
 
 pub reported : {G : Ghosts Locked} (seats : List (Seat Locked G)) (e : Ended Locked) (r : SharedReport) → Closes shown_of seats e
-    → MayTakeCalls e.value.session → Reports e.value.session r.report → Lists e.value.session r.journal.items → r.receipts ≡ e.receipts → Reported seats r
+    → MayTakeCalls e.value.session → Reports e.value.session r.report → ListsJournal e.value.session r.journal.items → r.receipts ≡ e.receipts → Reported seats r
 reported seats e r closes goes reports lists receipts =
     let s = e.value.session in
     let now = closes.now in
@@ -61,7 +61,7 @@ covered e journal is covers k less =
 
 pub lists_of : {E : Type 0} (s : SessionValue) (journal : List Entry) (copied : Result (Vec Entry Global) E) → reverse journal ≡ past_of s.work
     → IsJournal (setting_at s) (past_of s.work) → (s.version ≢ None → IsFixed (given_of s) s.version (past_of s.work) (setting_at s))
-    → IfOk copied (λ copies. copies.items ≡ journal) → IfOk copied (λ listed. Lists s listed.items)
+    → IfOk copied (λ copies. copies.items ≡ journal) → IfOk copied (λ listed. ListsJournal s listed.items)
 lists_of s journal (Ok v) is run fixed same = record { journal = ap reverse same ∙ is; run = run; fixed = fixed }
 lists_of s journal (Err e) is run fixed same = tt
 

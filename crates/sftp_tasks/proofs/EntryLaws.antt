@@ -47,7 +47,7 @@ use Rattle.sftp_model.specs.declared.slot.Move.TheVariants.{Ask, Wait, Done}
 use Rattle.session_driver.specs.declared.session.Phase.{Phase}
 use Rattle.session_driver.specs.declared.session.Phase.TheVariants.{Fresh, Greeted, Asking, Queried, Open, Failed}
 use Rattle.session_driver.specs.declared.session.Stepped.{Stepped}
-use Rattle.session_driver.specs.Session.{Given, Seen, StepsTo, Cancels, LetsGo, TakesAndSettles, HandsOut}
+use Rattle.session_driver.specs.Session.{Given, Seen, StepsTo, CancelsCall, LetsGo, TakesAndSettles, HandsOut}
 use Rattle.session_model.specs.Calls.{Setting, move_of}
 use Rattle.session_model.specs.Turns.{RunProgress, ClosesTo, SettlesTo, begun_but}
 use Rattle.session_model.specs.Journals.{cancelled_end}
@@ -84,7 +84,7 @@ use Rattle.sftp_tasks.specs.SessionEvents.{
   IsUnmoved,
   LetsLaneGoIn,
   PollsIn,
-  Refuses,
+  RefusesCall,
   TakeStops,
 }
 use Rattle.sftp_tasks.specs.declared.polls.Polled.{Polled}
@@ -153,7 +153,7 @@ failed_extended test old new h = record {
 pub unmoved_extended : (test : Entry → Bool) (old new : SessionValue) → IsUnmoved old new → Extended test old new
 unmoved_extended test old new h = ⊎_elim (same_extended test old new) (failed_extended test old new) h
 
-pub refuses_extended : (test : Entry → Bool) (e : Error) (old new : SessionValue) → Refuses e old new → Extended test old new
+pub refuses_extended : (test : Entry → Bool) (e : Error) (old new : SessionValue) → RefusesCall e old new → Extended test old new
 refuses_extended test error.OutOfMemory old new h = unmoved_extended test old new h
 refuses_extended test (error.BackgroundTaskFailure fault) old new h = same_extended test old new h.1
 refuses_extended test error.LinkFault old new h = absurd h
@@ -224,7 +224,7 @@ steps_extended opening lane old new event h = same_extended _ old new h.1
 -- ---- an answer, or an error
 
 pub result_extended : {A : Type 0} (test : Entry → Bool) (old new : SessionValue) (r : Result A Error) (P : A → Type 0)
-    → ((a : A) → P a → Extended test old new) → IfOk r P → IfErr r (λ e. Refuses e old new) → Extended test old new
+    → ((a : A) → P a → Extended test old new) → IfOk r P → IfErr r (λ e. RefusesCall e old new) → Extended test old new
 result_extended test old new (Ok a) P f p q = f a p
 result_extended test old new (Err e) P f p q = refuses_extended test e old new q
 
@@ -240,7 +240,7 @@ polls_extended lane old new polled.Waits h = steps_extended old.phase lane old n
 
 -- ---- cancels
 
-pub cancels_to_extend : (s : Setting) (lane : ℕ) (a b : RunProgress) (event : Bool) → Cancels s lane a b event → Extends (passes by_cancel (Some lane)) a.past b.past
+pub cancels_to_extend : (s : Setting) (lane : ℕ) (a b : RunProgress) (event : Bool) → CancelsCall s lane a b event → Extends (passes by_cancel (Some lane)) a.past b.past
 cancels_to_extend s lane a b event h =
     either_way _ h
     (λ (x : (event ≡ true) × (b.begun ≡ begun_but a.begun lane)

@@ -61,7 +61,7 @@ use Rattle.sftp_model.specs.ReplyReadings.{reply_at}
 use Rattle.std.specs.Option.{option_map}
 use Rattle.plan_model.specs.declared.call.Call.{Call}
 use Rattle.sftp_lanes.specs.Adding.{AddsCall, IsSame}
-use Rattle.sftp_tasks.specs.SessionEvents.{GivesUp, IsKept, Refuses, RefusesToAdd, Submits, TakeStops}
+use Rattle.sftp_tasks.specs.SessionEvents.{GivesUp, IsKept, RefusesCall, RefusesToAdd, SubmitsCall, TakeStops}
 use Rattle.sftp_tasks.specs.LockedEvents.{
   Finishing,
   HandingOut,
@@ -179,7 +179,7 @@ pub handing_from : (y z : Locked) (r : Result (Option Handed) Error) → z
     → IfOk r (λ handed. HandsOutIn y.session.phase y.session z.session (option_map (λ h. joined h.chunk) handed))
     → IfOk r (λ handed. MatchOption handed (z.counts.handed ≡ y.counts.handed) (λ h. z.counts.handed ≡ y.counts.handed + h.frames))
     → IfOk r (λ handed. MatchOption handed (Unit {0}) (λ h. y.session.phase ≢ Failed → h.frames ≡ unsent_in y.session.phase (past_of y.session.work)))
-    → IfErr r (λ e. Refuses e y.session z.session × (z.counts.handed ≡ y.counts.handed)) → HandingOut y z r
+    → IfErr r (λ e. RefusesCall e y.session z.session × (z.counts.handed ≡ y.counts.handed)) → HandingOut y z r
 handing_from y z (Ok handed) rest a b c d = (a, (hands_from y z handed b c, ap (λ (x : Locked). x.counts.written) rest))
 handing_from y z (Err e) rest a b c d = d
 
@@ -238,7 +238,7 @@ finishing_goes lane y z (Err e) most h =
 pub finishing_from : (y z : Locked) (r : Result Bool Error)
     → IfOk r (λ all. all ≡ is_answered y.session.phase y.counts.stage (unanswered (past_of y.session.work)))
     → IfOk r (λ all. z ≡ record y { counts = at_end all y.counts })
-    → IfErr r (λ e. Refuses e y.session y.session × (z ≡ y)) → Finishing y z r
+    → IfErr r (λ e. RefusesCall e y.session y.session × (z ≡ y)) → Finishing y z r
 finishing_from y z (Ok all) told stage refused = (told, stage)
 finishing_from y z (Err e) told stage refused = (refused.1, refused.0)
 
@@ -293,14 +293,14 @@ extended_on test a b c p q = record {
 }
 
 pub submits_extended : (lane : ℕ) (call : Call) (old new : SessionValue) (r : Result Bool Error)
-    → Submits lane call old new r → Extended (passes by_submit (Some lane)) old new
+    → SubmitsCall lane call old new r → Extended (passes by_submit (Some lane)) old new
 submits_extended lane call old new (Ok true) h =
     extended_on _ old h.0 new (adds_call_extended lane call old h.0 h.1.0)
     (extended_as _ _ (step_is_submit (Some lane)) h.0 new (steps_extended h.0.phase lane h.0 new h.1.1.0 h.1.1.1))
 submits_extended lane call old new (Ok false) h = same_extended _ old new h.1
 submits_extended lane call old new (Err e) h =
     ⊎_elim (refused_add_extended _ e old new)
-    (λ (x : (mid : SessionValue) × (AddsCall lane call old mid × Refuses e mid new)). extended_on _ old x.0 new
+    (λ (x : (mid : SessionValue) × (AddsCall lane call old mid × RefusesCall e mid new)). extended_on _ old x.0 new
     (adds_call_extended lane call old x.0 x.1.0) (refuses_extended _ e x.0 new x.1.1))
     h
 

@@ -15,8 +15,8 @@ use Rattle.sftp_tasks.specs.declared.frames.Handed.{Handed}
 use Rattle.sftp_tasks.specs.declared.locked.Locked.{Locked}
 use Rattle.sftp_tasks.specs.Entries.{by_failing, by_flush, by_nothing, by_read}
 use Rattle.sftp_tasks.specs.LockedEvents.{HandingOut, Looking, TakingFrame, Writing, tells}
-use Rattle.sftp_tasks.specs.Rounds.{Flushes, ReadsRound, RefusesRound}
-use Rattle.sftp_tasks.specs.SessionEvents.{Refuses}
+use Rattle.sftp_tasks.specs.Rounds.{FlushesRound, ReadsRound, RefusesRound}
+use Rattle.sftp_tasks.specs.SessionEvents.{RefusesCall}
 use Rattle.sftp_tasks.specs.Shows.{shown_of}
 use Rattle.sftp_tasks.specs.Rounds.{HoldsOnce, Token}
 use Rattle.sftp_tasks.proofs.HoldLaws.{none_passes}
@@ -71,7 +71,7 @@ kept_was_read lane a b g = grew_weaker (by_failing lane) (by_read lane) (failing
 
 module _ {X Y : Type 0} {test : Entry → Bool} {needs : Allowance} {old new : List Receipt} {copied : Result X Y} (m n : Token) where
   pub handed_none : {Service : Type 0} (before : LinkView Service) (did : Result (Option Handed) Error) → did ≡ Ok None
-      → Hold shown_of (Applied shown_of test needs (λ y z. HandingOut y z did) copied old new) m n → Flushes false m n before before
+      → Hold shown_of (Applied shown_of test needs (λ y z. HandingOut y z did) copied old new) m n → FlushesRound false m n before before
   handed_none before did is h =
       let r = subst (λ (x : Result (Option Handed) Error). HandingOut h.before h.after x) is h.did.does in
       (hold_map shown_of m n h r.0, refl)
@@ -91,7 +91,7 @@ module _ {X Y : Type 0} {test : Entry → Bool} {needs : Allowance} {old new : L
       → Hold shown_of (Applied shown_of test needs (λ y z. Looking y z did) copied old new) m n → RefusesRound e m n before before
   look_refused before did e is h =
       let r = subst (λ (x : Result Bool Error). Looking h.before h.after x) is h.did.does in
-      (hold_map shown_of m n h (subst (λ (z : Locked). Refuses e h.before.session z.session) (sym r.0) r.1), refl)
+      (hold_map shown_of m n h (subst (λ (z : Locked). RefusesCall e h.before.session z.session) (sym r.0) r.1), refl)
 
   pub look_true : (did : Result Bool Error) → did ≡ Ok true
       → Hold shown_of (Applied shown_of test needs (λ y z. Looking y z did) copied old new) m n → HoldsOnce (λ y z more. Looking y z (Ok true)) m n

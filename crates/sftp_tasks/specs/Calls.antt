@@ -73,11 +73,11 @@ pub record Released (lane : Option ℕ) (old new : List Receipt) (m n : Token) :
   pub leaves : Leaves shown_of last mid n
 
 -- true where the seat left; else it has what share it had
-abbrev pub Releases : Option ℕ → List Receipt → List Receipt → Result Bool Error → Token → Token → Type 0
-Releases lane old new (Ok true) m n = Released lane old new m n × ((claim_of n).share + 1 ≡ (claim_of m).share)
-Releases lane old new (Ok false) m n =
+abbrev pub ReleasesSeat : Option ℕ → List Receipt → List Receipt → Result Bool Error → Token → Token → Type 0
+ReleasesSeat lane old new (Ok true) m n = Released lane old new m n × ((claim_of n).share + 1 ≡ (claim_of m).share)
+ReleasesSeat lane old new (Ok false) m n =
     AnswersSeat (Releasing lane) old new (Ok false) m n × ((claim_of n).share ≡ (claim_of m).share)
-Releases lane old new (Err e) m n =
+ReleasesSeat lane old new (Err e) m n =
     AnswersSeat (Releasing lane) old new (Err e) m n × ((claim_of n).share ≡ (claim_of m).share)
 
 -- ---- a lane that is polled until its calls have ended

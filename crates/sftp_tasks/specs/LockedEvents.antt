@@ -42,7 +42,7 @@ use Rattle.session_seats.specs.Holds.{Allowance}
 use Rattle.sftp_tasks.specs.declared.frames.Handed.{Handed}
 use Rattle.sftp_tasks.specs.declared.locked.Locked.{Locked}
 use Rattle.sftp_tasks.specs.declared.polls.Polled.{Polled}
-use Rattle.sftp_tasks.specs.SessionEvents.{GivesUp, IsKept, LetsLaneGoIn, PollsIn, Refuses, Submits, TakeStops}
+use Rattle.sftp_tasks.specs.SessionEvents.{GivesUp, IsKept, LetsLaneGoIn, PollsIn, RefusesCall, SubmitsCall, TakeStops}
 
 -- a seat that names no lane does nothing
 abbrev pub OfLane : {A : Type 0} → (ℕ → Locked → Locked → A → Type 0) → A → Option ℕ → Locked → Locked → A → Type 0
@@ -51,31 +51,31 @@ OfLane Did nothing (Some lane) y z a = Did lane y z a
 
 abbrev pub Stepping : ℕ → Locked → Locked → Result Stepped Error → Type 0
 Stepping lane y z (Ok event) = StepsIn y.session.phase lane y.session z.session event
-Stepping lane y z (Err e) = Refuses e y.session z.session
+Stepping lane y z (Err e) = RefusesCall e y.session z.session
 
 abbrev pub Cancelling : ℕ → Locked → Locked → Result Bool Error → Type 0
 Cancelling lane y z (Ok event) = CancelsIn y.session.phase lane y.session z.session event
-Cancelling lane y z (Err e) = Refuses e y.session z.session
+Cancelling lane y z (Err e) = RefusesCall e y.session z.session
 
 abbrev pub LettingGo : ℕ → Locked → Locked → Result Bool Error → Type 0
 LettingGo lane y z (Ok event) = LetsLaneGoIn lane y.session z.session event
-LettingGo lane y z (Err e) = Refuses e y.session z.session
+LettingGo lane y z (Err e) = RefusesCall e y.session z.session
 
 abbrev pub Polling : ℕ → Locked → Locked → Result Polled Error → Type 0
 Polling lane y z (Ok p) = PollsIn lane y.session z.session p
-Polling lane y z (Err e) = Refuses e y.session z.session
+Polling lane y z (Err e) = RefusesCall e y.session z.session
 
 -- what a seat lets go of before it leaves the users: its lane, or nothing where it names none
 abbrev pub LetsSeatGo : Option ℕ → Locked → Locked → Result Bool Error → Type 0
 LetsSeatGo None y z (Ok did) = (did ≡ true) × (z ≡ y)
-LetsSeatGo None y z (Err e) = (z ≡ y) × Refuses e y.session y.session
+LetsSeatGo None y z (Err e) = (z ≡ y) × RefusesCall e y.session y.session
 LetsSeatGo (Some lane) y z r = LettingGo lane y z r
 
 abbrev pub Releasing : Option ℕ → Locked → Locked → Result Bool Error → Type 0
 Releasing lane y z r = (z ≡ record y { session = z.session }) × LetsSeatGo lane y z r
 
 abbrev pub Submitting : Call → ℕ → Locked → Locked → Result Bool Error → Type 0
-Submitting call lane y z r = Submits lane call y.session z.session r
+Submitting call lane y z r = SubmitsCall lane call y.session z.session r
 
 -- what was handed out is counted, so many frames: all that are unsent
 pub record Hands (y z : Locked) (n : ℕ) : Type 0 where
@@ -87,7 +87,7 @@ HandingOut y z (Ok handed) =
     HandsOutIn y.session.phase y.session z.session (option_map (λ h. joined h.chunk) handed)
     × (MatchOption handed (z.counts.handed ≡ y.counts.handed) (λ h. Hands y z h.frames)
     × (z.counts.written ≡ y.counts.written))
-HandingOut y z (Err e) = Refuses e y.session z.session × (z.counts.handed ≡ y.counts.handed)
+HandingOut y z (Err e) = RefusesCall e y.session z.session × (z.counts.handed ≡ y.counts.handed)
 
 abbrev pub Taking : List ℕ → Locked → Locked → Result (Unit {0}) Error → Type 0
 Taking body y z (Ok u) = TakesIn y.session.phase (reply_at body) y.session z.session
@@ -114,12 +114,12 @@ tells frames = record { tells = frames; leaves = 0 }
 -- a frame may be read where fewer were taken than were written
 abbrev pub Looking : Locked → Locked → Result Bool Error → Type 0
 Looking y z (Ok may) = (z ≡ y) × (may ≡ nat_lt y.counts.taken y.counts.written)
-Looking y z (Err e) = (z ≡ y) × Refuses e y.session y.session
+Looking y z (Err e) = (z ≡ y) × RefusesCall e y.session y.session
 
 -- how far the end has come
 abbrev pub TellsStage : Locked → Locked → Result ℕ Error → Type 0
 TellsStage y z (Ok stage) = (z ≡ y) × (stage ≡ y.counts.stage)
-TellsStage y z (Err e) = (z ≡ y) × Refuses e y.session y.session
+TellsStage y z (Err e) = (z ≡ y) × RefusesCall e y.session y.session
 
 -- the end has begun, and each request of an open session has its reply
 abbrev pub is_answered : Phase → ℕ → ℕ → Bool
@@ -135,4 +135,4 @@ abbrev pub Finishing : Locked → Locked → Result Bool Error → Type 0
 Finishing y z (Ok all) =
     (all ≡ is_answered y.session.phase y.counts.stage (unanswered (past_of y.session.work)))
     × (z ≡ record y { counts = at_end all y.counts })
-Finishing y z (Err e) = (z ≡ y) × Refuses e y.session y.session
+Finishing y z (Err e) = (z ≡ y) × RefusesCall e y.session y.session

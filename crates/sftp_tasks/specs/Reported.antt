@@ -34,14 +34,14 @@ HasStopped (error.BackgroundTaskFailure fault) s = s.work.core.fault ≡ Some fa
 HasStopped other s = ⊥
 
 -- the session's journal is listed, a run so far of a setting that is fixed
-pub record Lists (s : SessionValue) (listed : List Entry) : Type 0 where
+pub record ListsJournal (s : SessionValue) (listed : List Entry) : Type 0 where
   pub journal : reverse listed ≡ past_of s.work
   pub run : IsJournal (setting_at s) (past_of s.work)
   pub fixed : s.version ≢ None → IsFixed (given_of s) s.version (past_of s.work) (setting_at s)
 
 -- its journal is listed, and the list for its events is empty and has room for them
 pub record IsPrepared (s : SessionValue) (journal : Vec Entry Global) (trace : Vec Event Global) : Type 0 where
-  pub lists : Lists s journal.items
+  pub lists : ListsJournal s journal.items
   pub empty : trace.items ≡ []
   pub room : length (past_of s.work) ≤ vec_capacity trace
 

@@ -16,7 +16,7 @@ use Rattle.session_seats.specs.declared.view.View.{View}
 use Rattle.session_seats.specs.Holds.{Hold}
 use Rattle.sftp_tasks.specs.declared.locked.Locked.{Locked}
 use Rattle.sftp_tasks.specs.LockedEvents.{Failing, GivingUp, Hands, Looking, TakingFrame, Writing}
-use Rattle.sftp_tasks.specs.SessionEvents.{Refuses}
+use Rattle.sftp_tasks.specs.SessionEvents.{RefusesCall}
 use Rattle.sftp_tasks.specs.Shows.{shown_of}
 
 abbrev pub Token : Type 0
@@ -58,9 +58,9 @@ pub record Flushed {Service : Type 0} (m n : Token) (before now : LinkView Servi
   pub sent : SentBy {T = Unit {0}} bytes before now (Ok tt)
   pub notes : HoldsOnce (λ y z more. (more ≡ []) × Writing frames y z) mid n
 
-abbrev pub Flushes : {Service : Type 0} → Bool → Token → Token → LinkView Service → LinkView Service → Type 0
-Flushes true m n before now = Flushed m n before now
-Flushes false m n before now =
+abbrev pub FlushesRound : {Service : Type 0} → Bool → Token → Token → LinkView Service → LinkView Service → Type 0
+FlushesRound true m n before now = Flushed m n before now
+FlushesRound false m n before now =
     HoldsOnce (λ y z more. HandsOutIn y.session.phase y.session z.session None) m n × (now ≡ before)
 
 -- what was handed out could not all be sent, and the session stops by it
@@ -73,13 +73,13 @@ pub record Unsent {Service : Type 0} (e : Error) (m n : Token) (before now : Lin
 
 -- the session refused to hand out, and nothing was sent
 abbrev pub RefusesRound : {Service : Type 0} → Error → Token → Token → LinkView Service → LinkView Service → Type 0
-RefusesRound e m n before now = HoldsOnce (λ y z more. Refuses e y.session z.session) m n × (now ≡ before)
+RefusesRound e m n before now = HoldsOnce (λ y z more. RefusesCall e y.session z.session) m n × (now ≡ before)
 
 -- why a round that sends ended: it was refused, or could not send; or it did all, and a receipt is wanting
 abbrev pub FlushStops : {Service : Type 0} → Error → Token → Token → LinkView Service → LinkView Service → Type 0
 FlushStops e m n before now =
     RefusesRound e m n before now
-    ⊎ (Unsent e m n before now ⊎ ((e ≡ error.OutOfMemory) × ((did : Bool) × Flushes did m n before now)))
+    ⊎ (Unsent e m n before now ⊎ ((e ≡ error.OutOfMemory) × ((did : Bool) × FlushesRound did m n before now)))
 
 -- ---- a round that reads
 

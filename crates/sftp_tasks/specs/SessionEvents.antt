@@ -50,10 +50,10 @@ abbrev pub IsUnmoved : SessionValue → SessionValue → Type 0
 IsUnmoved old new = (new ≡ old) ⊎ HasFailed old new
 
 -- why a call is refused, and what stands then
-abbrev pub Refuses : Error → SessionValue → SessionValue → Type 0
-Refuses error.OutOfMemory old new = IsUnmoved old new
-Refuses (error.BackgroundTaskFailure fault) old new = (old.work.core.fault ≡ Some fault) × (new ≡ old)
-Refuses other old new = ⊥
+abbrev pub RefusesCall : Error → SessionValue → SessionValue → Type 0
+RefusesCall error.OutOfMemory old new = IsUnmoved old new
+RefusesCall (error.BackgroundTaskFailure fault) old new = (old.work.core.fault ≡ Some fault) × (new ≡ old)
+RefusesCall other old new = ⊥
 
 -- a fault is kept, unless one was before
 pub record IsKept (f : Fault) (old new : SessionValue) : Type 0 where
@@ -105,12 +105,12 @@ RefusesToAdd (error.BackgroundTaskFailure fault) old new = (old.work.core.fault 
 RefusesToAdd other old new = ⊥
 
 -- a call is added, and its lane stepped once
-abbrev pub Submits : ℕ → Call → SessionValue → SessionValue → Result Bool Error → Type 0
-Submits lane call old new (Ok true) =
+abbrev pub SubmitsCall : ℕ → Call → SessionValue → SessionValue → Result Bool Error → Type 0
+SubmitsCall lane call old new (Ok true) =
     (mid : SessionValue) × (AddsCall lane call old mid × ((event : Stepped) × StepsIn mid.phase lane mid new event))
-Submits lane call old new (Ok false) = CannotAdd lane call old × (new ≡ old)
-Submits lane call old new (Err e) =
-    RefusesToAdd e old new ⊎ ((mid : SessionValue) × (AddsCall lane call old mid × Refuses e mid new))
+SubmitsCall lane call old new (Ok false) = CannotAdd lane call old × (new ≡ old)
+SubmitsCall lane call old new (Err e) =
+    RefusesToAdd e old new ⊎ ((mid : SessionValue) × (AddsCall lane call old mid × RefusesCall e mid new))
 
 -- ---- frames
 

@@ -10,7 +10,7 @@ use Rattle.sftp_tasks.specs.declared.workers.Shift.{Shift}
 use Rattle.sftp_tasks.specs.declared.workers.Shift.TheVariants.{Worked, Idle, Over}
 use Rattle.sftp_tasks.specs.Calls.{InOneHold}
 use Rattle.sftp_tasks.specs.LockedEvents.{Finishing, TellsStage}
-use Rattle.sftp_tasks.specs.Rounds.{FlushStops, Flushes, ReadStops, ReadsRound, Token}
+use Rattle.sftp_tasks.specs.Rounds.{FlushStops, FlushesRound, ReadStops, ReadsRound, Token}
 
 abbrev pub is_over : Shift → Bool
 is_over Worked = false
@@ -40,13 +40,13 @@ module _ {Service : Type 0} where
   -- nothing was unsent, and then the stage of the end was looked at
   pub record SentNone (r : Result ℕ Error) (a b : Post Service) : Type 0 where
     pub mid : Token
-    pub none : Flushes false a.0 mid a.1 b.1
+    pub none : FlushesRound false a.0 mid a.1 b.1
     pub looks : InOneHold TellsStage r mid b.0
 
   -- A round that sent; or one that did not, and the worker has nothing to do, or ends where the stage is 2.
   abbrev pub FlushShift : Result Shift Error → Post Service → Post Service → Type 0
   FlushShift (Ok shift) a b =
-      ((shift ≡ Worked) × Flushes true a.0 b.0 a.1 b.1)
+      ((shift ≡ Worked) × FlushesRound true a.0 b.0 a.1 b.1)
       ⊎ ((stage : ℕ) × ((shift ≡ over_if (nat_le 2 stage)) × SentNone (Ok stage) a b))
   FlushShift (Err e) a b = FlushStops e a.0 b.0 a.1 b.1 ⊎ SentNone (Err e) a b
 

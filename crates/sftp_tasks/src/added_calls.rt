@@ -1,7 +1,7 @@
 //! Calls that are added to the lanes of the shared session.
 ghost use Rattle.std.specs.Prelude.{◌≡◌, MatchBool, IfOk, IfErr};
 ghost use Rattle.sftp_lanes.specs.Adding.{CanAdd, CannotAdd};
-ghost use Rattle.sftp_tasks.specs.SessionEvents.{AddsIn, RefusesToAdd, Submits};
+ghost use Rattle.sftp_tasks.specs.SessionEvents.{AddsIn, RefusesToAdd, SubmitsCall};
 
 use crate::locked::Locked;
 use session_driver::Phase;
@@ -46,7 +46,7 @@ impl Locked {
     /// Adds a call to a lane as `push_call` does, and then steps the lane once. After an Err the call may have been added.
     pub fn submit(&mut self, lane: u32, call: Call) -> Result<bool, Error>
         ensures rest { self.new ≡ record self.old { session = self.new.session } }
-        ensures submits { Submits lane call self.old.session self.new.session result }
+        ensures submits { SubmitsCall lane call self.old.session self.new.session result }
     {
         match self.push_call(lane, call) {
             Ok(true) => {}

@@ -4,7 +4,7 @@ ghost use Rattle.session_model.specs.Readings.{unanswered};
 ghost use Rattle.session_work.specs.Working.{past_of};
 ghost use Rattle.sftp_tasks.specs.LockedEvents.{at_end, is_answered};
 ghost use Rattle.sftp_tasks.specs.Reported.{MayTakeCalls};
-ghost use Rattle.sftp_tasks.specs.SessionEvents.{Refuses};
+ghost use Rattle.sftp_tasks.specs.SessionEvents.{RefusesCall};
 
 use crate::locked::Locked;
 use session_driver::Phase;
@@ -14,7 +14,7 @@ impl Locked {
     /// Nothing, while calls of the lanes can be made. Errors as of `step`.
     pub fn check(&self) -> Result<(), Error>
         ensures goes { OnOk result (MayTakeCalls self.now.session) }
-        ensures refused { IfErr result (λ e. Refuses e self.now.session self.now.session) }
+        ensures refused { IfErr result (λ e. RefusesCall e self.now.session self.now.session) }
     {
         if let Some(fault) = self.session.fault() {
             return Err(Error::BackgroundTaskFailure(fault));
@@ -28,7 +28,7 @@ impl Locked {
     /// How far the end has come. Errors as of `step`.
     pub fn stage(&self) -> Result<u64, Error>
         ensures told { IfOk result (λ stage. stage ≡ self.now.counts.stage) }
-        ensures refused { IfErr result (λ e. Refuses e self.now.session self.now.session) }
+        ensures refused { IfErr result (λ e. RefusesCall e self.now.session self.now.session) }
     {
         match self.check() {
             Ok(()) => Ok(self.counts.stage),
@@ -41,7 +41,7 @@ impl Locked {
     pub fn finish(&mut self) -> Result<bool, Error>
         ensures told { IfOk result (λ all. all ≡ is_answered self.old.session.phase self.old.counts.stage (unanswered (past_of self.old.session.work))) }
         ensures stage { IfOk result (λ all. self.new ≡ record self.old { counts = at_end all self.old.counts }) }
-        ensures refused { IfErr result (λ e. Refuses e self.old.session self.old.session × (self.new ≡ self.old)) }
+        ensures refused { IfErr result (λ e. RefusesCall e self.old.session self.old.session × (self.new ≡ self.old)) }
     {
         match self.check() {
             Ok(()) => {}

@@ -2,7 +2,7 @@
 ghost use Rattle.std.specs.Prelude.{◌≡◌, ◌<◌, ◌-◌, ◌^◌, None, Some, IfErr, IfNone, IfOk, IfSome};
 ghost use Rattle.session_seats.specs.Holds.{Grew, claim_of};
 ghost use Rattle.sftp_tasks.specs.Entries.{by_failing, by_flush, by_read};
-ghost use Rattle.sftp_tasks.specs.Rounds.{FlushStops, Flushes, ReadStops, ReadsRound, Stops, fault_for};
+ghost use Rattle.sftp_tasks.specs.Rounds.{FlushStops, FlushesRound, ReadStops, ReadsRound, Stops, fault_for};
 
 use crate::events::{Fail, GiveUp, HandOut, MayRead, TakeFrame, Written};
 use crate::frames::Handed;
@@ -60,7 +60,7 @@ pub fn flush_round<O: LinkOut, R: Wait>(
     requires count { (O.LinkState.state out.old).faults < 2 ^ 64 - 1 }
     ensures own { (seat.new.inner.table_id ≡ seat.old.inner.table_id) × (seat.new.lane ≡ seat.old.lane) }
     ensures only { Grew (by_flush seat.old.lane) (claim_of seat.old.inner.me) (claim_of seat.new.inner.me) }
-    ensures flushes { IfOk result (λ did. Flushes did seat.old.inner.me seat.new.inner.me (O.LinkState.state out.old) (O.LinkState.state out.new)) }
+    ensures flushes { IfOk result (λ did. FlushesRound did seat.old.inner.me seat.new.inner.me (O.LinkState.state out.old) (O.LinkState.state out.new)) }
     ensures stops { IfErr result (λ e. FlushStops e seat.old.inner.me seat.new.inner.me (O.LinkState.state out.old) (O.LinkState.state out.new)) }
 {
     let (did, copied) = seat.apply(rt, shared.alloc, &shared.shared, HandOut);

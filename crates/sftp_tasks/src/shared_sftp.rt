@@ -5,7 +5,7 @@ ghost use Rattle.session_seats.specs.Holds.{Grew, IsFresh, at_first, claim_of};
 ghost use Rattle.session_seats.specs.NewSeats.{Gives, GivesLane, HasNone};
 ghost use Rattle.session_seats.specs.Rules.{home};
 ghost use Rattle.session_seats.specs.Sights.{made};
-ghost use Rattle.sftp_tasks.specs.Calls.{AnswersSeat, BeginsWith, Releases, settled};
+ghost use Rattle.sftp_tasks.specs.Calls.{AnswersSeat, BeginsWith, ReleasesSeat, settled};
 ghost use Rattle.sftp_tasks.specs.Entries.{by_cancel, by_let_go, by_nothing, by_submit};
 ghost use Rattle.sftp_tasks.specs.LockedEvents.{Cancelling, GivingUp, OfLane, Submitting};
 ghost use Rattle.sftp_tasks.specs.Rounds.{HoldsOnce};
@@ -143,7 +143,7 @@ impl SharedSftp {
         requires share { 0 < (claim_of seat.old.inner.me).share }
         ensures own { (seat.new.inner.table_id ≡ seat.old.inner.table_id) × (seat.new.lane ≡ seat.old.lane) }
         ensures only { Grew (by_let_go seat.old.lane) (claim_of seat.old.inner.me) (claim_of seat.new.inner.me) }
-        ensures releases { Releases seat.old.lane seat.old.receipts.items seat.new.receipts.items result seat.old.inner.me seat.new.inner.me }
+        ensures releases { ReleasesSeat seat.old.lane seat.old.receipts.items seat.new.receipts.items result seat.old.inner.me seat.new.inner.me }
     {
         let (did, copied) = seat.apply(rt, self.alloc, &self.shared, Release);
         match settle(did, copied) {

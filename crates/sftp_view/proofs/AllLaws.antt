@@ -13,9 +13,9 @@ use Rattle.view_model.specs.ViewOps.{is_within}
 use Rattle.view_model.specs.declared.answer.Answer.{Answer}
 use Rattle.view_model.specs.declared.op.ViewOp.{ViewOp}
 use Rattle.sftp_view.specs.declared.ops.View.{View}
-use Rattle.sftp_view.specs.Doings.{IsIdle, MayDo, Runs}
+use Rattle.sftp_view.specs.Doings.{IsIdle, MayDo, DoesBySession}
 use Rattle.sftp_view.specs.Operations.{MayRunAll, done_by, left_by, most}
-use Rattle.sftp_view.specs.Working.{MayWork, Works, wanted}
+use Rattle.sftp_view.specs.Working.{MayWork, DoesByView, wanted}
 use Rattle.sftp_view.proofs.FewLaws.{may_first}
 use Rattle.sftp_view.proofs.RunLaws.{bound, gives, may_on, no_room_then, runs_self, stopped, then_on}
 
@@ -51,7 +51,7 @@ next_is o rest later answers old now is same_block same_capacity =
 module _ {S : Type 0} where
   -- so far these answers were given, and the rest is left
   pub record DoesSoFar (ops rest : List ViewOp) (answers : List Answer) (old : View) (link : LinkView S) (now : View) (link_now : LinkView S) : Type 0 where
-    pub runs : Runs (done_by ops old) (λ (u : Unit {0}). later_by old rest answers now) (at (seen_of old.session) link)
+    pub runs : DoesBySession (done_by ops old) (λ (u : Unit {0}). later_by old rest answers now) (at (seen_of old.session) link)
         (at (seen_of now.session) link_now) (Ok tt)
     pub idle : IsIdle (at (seen_of now.session) link_now)
     pub within : list_all is_within rest ≡ true
@@ -63,7 +63,7 @@ module _ {S : Type 0} where
       → DoesSoFar ops ops answers old link old link
   does_first ops answers old link none may =
       let here : At S = at (seen_of old.session) link in
-      let self : Runs (done_by ops old) (λ (u : Unit {0}). done_by ops old) here here (Ok tt) = runs_self (done_by ops old) tt here may.idle in
+      let self : DoesBySession (done_by ops old) (λ (u : Unit {0}). done_by ops old) here here (Ok tt) = runs_self (done_by ops old) tt here may.idle in
       record {
         runs = gives tt self (ap (λ (a : List Answer). later_by old ops a old) (sym none));
         idle = may.idle;
@@ -76,7 +76,7 @@ module _ {S : Type 0} where
   -- what the next operation gives
   abbrev pub One : View → ViewOp → LinkView S → View → LinkView S → Result Answer Error → Type 0
   One now o link_now next link_next result =
-      Works (op_by now.block now.cache.capacity o now.cache.kept) (λ a. pure (answered a next.cache.kept)) 2097152 now link_now next link_next result
+      DoesByView (op_by now.block now.cache.capacity o now.cache.kept) (λ a. pure (answered a next.cache.kept)) 2097152 now link_now next link_next result
 
   pub may_next : (ops rest later : List ViewOp) (o : ViewOp) (answers : List Answer) (old now : View) (link link_now : LinkView S) → MayRunAll ops old link
       → rest ≡ o ∷ later → DoesSoFar ops rest answers old link now link_now → MayWork (op_by now.block now.cache.capacity o now.cache.kept) now link_now
@@ -99,15 +99,15 @@ module _ {S : Type 0} where
 
   one_more : (ops rest later : List ViewOp) (o : ViewOp) (answers : List Answer) (said : Answer) (old now next : View) (link link_now link_next : LinkView S)
       → rest ≡ o ∷ later → DoesSoFar ops rest answers old link now link_now → One now o link_now next link_next (Ok said)
-      → Runs (done_by ops old) (after_op old later answers) (at (seen_of old.session) link) (at (seen_of next.session) link_next)
+      → DoesBySession (done_by ops old) (after_op old later answers) (at (seen_of old.session) link) (at (seen_of next.session) link_next)
       (Ok (answered said next.cache.kept))
   one_more ops rest later o answers said old now next link link_now link_next is so_far one =
       let a : At S = at (seen_of old.session) link in
       let b : At S = at (seen_of now.session) link_now in
       let c : At S = at (seen_of next.session) link_next in
-      let gave : Runs (op_by now.block now.cache.capacity o now.cache.kept) pure b c (Ok (answered said next.cache.kept)) =
+      let gave : DoesBySession (op_by now.block now.cache.capacity o now.cache.kept) pure b c (Ok (answered said next.cache.kept)) =
       gives (answered said next.cache.kept) one.runs refl in
-      let before : Runs (done_by ops old) (λ (u : Unit {0}). op_by now.block now.cache.capacity o now.cache.kept >>= after_op old later answers) a b (Ok tt) =
+      let before : DoesBySession (done_by ops old) (λ (u : Unit {0}). op_by now.block now.cache.capacity o now.cache.kept >>= after_op old later answers) a b (Ok tt) =
       gives tt so_far.runs (next_is o rest later answers old now is so_far.block so_far.capacity) in
       then_on before (bound {k = after_op old later answers} gave)
 
@@ -129,7 +129,7 @@ module _ {S : Type 0} where
 
   pub does_all : (ops rest : List ViewOp) (answers : List Answer) (old now : View) (link link_now : LinkView S) → rest ≡ []
       → DoesSoFar ops rest answers old link now link_now
-      → Works (done_by ops old) (λ l. left_by l now) (most ops) old link now link_now (Ok answers)
+      → DoesByView (done_by ops old) (λ l. left_by l now) (most ops) old link now link_now (Ok answers)
   does_all ops rest answers old now link link_now none so_far = record {
     runs = gives answers so_far.runs (ap (λ (r : List ViewOp). later_by old r answers now) none);
     stays = record {
@@ -141,10 +141,10 @@ module _ {S : Type 0} where
 
   pub does_stopped : (ops rest : List ViewOp) (o : ViewOp) (answers : List Answer) (old now next : View) (link link_now link_next : LinkView S) (e : Error)
       {r : List Answer → Doing Viewed} → DoesSoFar ops rest answers old link now link_now → One now o link_now next link_next (Err e)
-      → Works (done_by ops old) r (most ops) old link next link_next (Err e)
+      → DoesByView (done_by ops old) r (most ops) old link next link_next (Err e)
   does_stopped ops rest o answers old now next link link_now link_next e so_far one = record { runs = then_on so_far.runs (stopped one.runs); stays = tt }
 
   pub does_lost : (ops rest : List ViewOp) (o : ViewOp) (answers : List Answer) (said : Answer) (old now next : View) (link link_now link_next : LinkView S)
       {r : List Answer → Doing Viewed} → DoesSoFar ops rest answers old link now link_now → One now o link_now next link_next (Ok said)
-      → Works (done_by ops old) r (most ops) old link next link_next (Err error.OutOfMemory)
+      → DoesByView (done_by ops old) r (most ops) old link next link_next (Err error.OutOfMemory)
   does_lost ops rest o answers said old now next link link_now link_next so_far one = record { runs = then_on so_far.runs (no_room_then one.runs); stays = tt }

@@ -49,7 +49,7 @@ use Rattle.view_model.specs.Viewed.{
   was_read,
   ◌>>=◌,
 }
-use Rattle.sftp_view.specs.Doings.{IsIdle, MayDo, Runs}
+use Rattle.sftp_view.specs.Doings.{IsIdle, MayDo, DoesBySession}
 use Rattle.sftp_view.proofs.FewLaws.{may_first}
 use Rattle.sftp_view.proofs.RunLaws.{bound, gives, may_on, no_room_then, runs_self, stopped, then_on}
 
@@ -75,13 +75,13 @@ after_read block m bytes found = was_read block bytes found (λ more. read_on bl
 module _ {S : Type 0} where
   -- after k READs this is left to read
   pub record ReadsSoFar (block k : ℕ) (bytes : List ℕ) (a now : At S) : Type 0 where
-    pub runs : Runs (read_on block block []) (λ (u : Unit {0}). read_on block (block - k) bytes) a now (Ok tt)
+    pub runs : DoesBySession (read_on block block []) (λ (u : Unit {0}). read_on block (block - k) bytes) a now (Ok tt)
     pub idle : IsIdle now
     pub short : length bytes ≤ block
 
   begins : (block : ℕ) (a : At S) → IsIdle a → ReadsSoFar block 0 [] a a
   begins block a idle = record {
-    runs = subst (λ (n : ℕ). Runs (read_on block block []) (λ (u : Unit {0}). read_on block n []) a a (Ok tt)) (let e : block ≡ block - 0 = omega arith in e)
+    runs = subst (λ (n : ℕ). DoesBySession (read_on block block []) (λ (u : Unit {0}). read_on block n []) a a (Ok tt)) (let e : block ≡ block - 0 = omega arith in e)
         (runs_self (read_on block block []) tt a idle);
     idle = idle;
     short = omega arith;
@@ -98,55 +98,55 @@ module _ {S : Type 0} where
       (subst (λ (n : ℕ). MayDo (read_on block n bytes) now.seen.stage.past) (one_left block k lt) (may_on may so_far.runs)))
 
   read_one : (block k : ℕ) (bytes : List ℕ) (call : Call) {a now b : At S} {found : Found} → call ≡ reading (block - length bytes) → k < block
-      → ReadsSoFar block k bytes a now → Runs (makes call) pure now b (Ok found)
-      → Runs (read_on block block []) (after_read block (block - (k + 1)) bytes) a b (Ok found)
+      → ReadsSoFar block k bytes a now → DoesBySession (makes call) pure now b (Ok found)
+      → DoesBySession (read_on block block []) (after_read block (block - (k + 1)) bytes) a b (Ok found)
   read_one block k bytes call {a = a} {now = now} {b = b} {found = found} is lt so_far run =
-      then_on (subst (λ (n : ℕ). Runs (read_on block block []) (λ (u : Unit {0}). read_on block n bytes) a now (Ok tt)) (one_left block k lt) so_far.runs)
-      (bound {k = after_read block (block - (k + 1)) bytes} (subst (λ (c : Call). Runs (makes c) pure now b (Ok found)) is run))
+      then_on (subst (λ (n : ℕ). DoesBySession (read_on block block []) (λ (u : Unit {0}). read_on block n bytes) a now (Ok tt)) (one_left block k lt) so_far.runs)
+      (bound {k = after_read block (block - (k + 1)) bytes} (subst (λ (c : Call). DoesBySession (makes c) pure now b (Ok found)) is run))
 
   pub read_stopped : (block k : ℕ) (bytes : List ℕ) (call : Call) {a now b : At S} {e : Error} → ReadsSoFar block k bytes a now
-      → Runs (makes call) pure now b (Err e) → Runs (read_on block block []) pure a b (Err e)
+      → DoesBySession (makes call) pure now b (Err e) → DoesBySession (read_on block block []) pure a b (Err e)
   read_stopped block k bytes call so_far run = then_on so_far.runs (stopped run)
 
   -- what it brought was lost for want of memory
   pub read_lost : (block k : ℕ) (bytes : List ℕ) (call : Call) {a now b : At S} {found : Found} → ReadsSoFar block k bytes a now
-      → Runs (makes call) pure now b (Ok found) → Runs (read_on block block []) pure a b (Err error.OutOfMemory)
+      → DoesBySession (makes call) pure now b (Ok found) → DoesBySession (read_on block block []) pure a b (Err error.OutOfMemory)
   read_lost block k bytes call so_far run = then_on so_far.runs (no_room_then run)
 
   -- the READ was refused
   pub read_refused : (block k : ℕ) (bytes : List ℕ) (call : Call) {a now b : At S} {found : Found} (code : ℕ) → call ≡ reading (block - length bytes)
-      → k < block → ReadsSoFar block k bytes a now → found ≡ Err code → Runs (makes call) pure now b (Ok found)
-      → Runs (read_on block block []) pure a b (Ok (Err code))
+      → k < block → ReadsSoFar block k bytes a now → found ≡ Err code → DoesBySession (makes call) pure now b (Ok found)
+      → DoesBySession (read_on block block []) pure a b (Ok (Err code))
   read_refused block k bytes call code is lt so_far refused run =
       gives (Err code) (read_one block k bytes call is lt so_far run) (ap (after_read block (block - (k + 1)) bytes) refused)
 
   -- the block is full, or the file has ended
   read_last : (block k : ℕ) (bytes more : List ℕ) (call : Call) {a now b : At S} {found : Found} → call ≡ reading (block - length bytes)
-      → k < block → ReadsSoFar block k bytes a now → found ≡ Ok more → Runs (makes call) pure now b (Ok found)
+      → k < block → ReadsSoFar block k bytes a now → found ≡ Ok more → DoesBySession (makes call) pure now b (Ok found)
       → (length more == 0) || nat_le block (length (bytes ++ more)) ≡ true
-      → (all : List ℕ) → all ≡ bytes ++ more → Runs (read_on block block []) pure a b (Ok (Ok all))
+      → (all : List ℕ) → all ≡ bytes ++ more → DoesBySession (read_on block block []) pure a b (Ok (Ok all))
   read_last block k bytes more call {a = a} {b = b} is lt so_far brought run full all are =
-      subst (λ (w : List ℕ). Runs (read_on block block []) pure a b (Ok (Ok w))) (sym are)
+      subst (λ (w : List ℕ). DoesBySession (read_on block block []) pure a b (Ok (Ok w))) (sym are)
       (gives (Ok (bytes ++ more)) (read_one block k bytes call is lt so_far run)
       (ap (after_read block (block - (k + 1)) bytes) brought
       ∙ (λ i. if full i then pure (Ok (bytes ++ more)) else read_on block (block - (k + 1)) (bytes ++ more))))
 
   pub read_ended : (block k : ℕ) (bytes more : List ℕ) (call : Call) {a now b : At S} {found : Found} → call ≡ reading (block - length bytes)
-      → k < block → ReadsSoFar block k bytes a now → found ≡ Ok more → Runs (makes call) pure now b (Ok found) → length more ≡ 0
-      → (all : List ℕ) → all ≡ bytes ++ more → Runs (read_on block block []) pure a b (Ok (Ok all))
+      → k < block → ReadsSoFar block k bytes a now → found ≡ Ok more → DoesBySession (makes call) pure now b (Ok found) → length more ≡ 0
+      → (all : List ℕ) → all ≡ bytes ++ more → DoesBySession (read_on block block []) pure a b (Ok (Ok all))
   read_ended block k bytes more call is lt so_far brought run none all are =
       read_last block k bytes more call is lt so_far brought run (at_end block (length more) (length (bytes ++ more)) none) all are
 
   pub read_full : (block k : ℕ) (bytes more : List ℕ) (call : Call) {a now b : At S} {found : Found} → call ≡ reading (block - length bytes)
-      → k < block → ReadsSoFar block k bytes a now → found ≡ Ok more → Runs (makes call) pure now b (Ok found)
-      → (all : List ℕ) → all ≡ bytes ++ more → block ≤ length all → Runs (read_on block block []) pure a b (Ok (Ok all))
+      → k < block → ReadsSoFar block k bytes a now → found ≡ Ok more → DoesBySession (makes call) pure now b (Ok found)
+      → (all : List ℕ) → all ≡ bytes ++ more → block ≤ length all → DoesBySession (read_on block block []) pure a b (Ok (Ok all))
   read_full block k bytes more call is lt so_far brought run all are le =
       read_last block k bytes more call is lt so_far brought run
       (is_full block (length more) (length (bytes ++ more)) (subst (λ (w : List ℕ). block ≤ length w) are le)) all are
 
   -- more is to be read
   pub read_more : (block k : ℕ) (bytes more : List ℕ) (call : Call) {a now b : At S} {found : Found} → call ≡ reading (block - length bytes)
-      → k < block → ReadsSoFar block k bytes a now → found ≡ Ok more → Runs (makes call) pure now b (Ok found)
+      → k < block → ReadsSoFar block k bytes a now → found ≡ Ok more → DoesBySession (makes call) pure now b (Ok found)
       → length more ≢ 0 → (all : List ℕ) → all ≡ bytes ++ more → length all < block → ReadsSoFar block (k + 1) all a b
   read_more block k bytes more call {a = a} {b = b} is lt so_far brought run some all are short =
       let part = goes_on block (length more) (length (bytes ++ more)) some (subst (λ (w : List ℕ). length w < block) are short) in
@@ -161,9 +161,9 @@ module _ {S : Type 0} where
 
   -- there were as many READs as there may be
   pub read_all : (block k : ℕ) (bytes : List ℕ) {a now : At S} → block ≤ k → ReadsSoFar block k bytes a now
-      → Runs (read_on block block []) pure a now (Ok (Ok bytes))
+      → DoesBySession (read_on block block []) pure a now (Ok (Ok bytes))
   read_all block k bytes {a = a} {now = now} le so_far =
-      gives (Ok bytes) (subst (λ (n : ℕ). Runs (read_on block block []) (λ (u : Unit {0}). read_on block n bytes) a now (Ok tt))
+      gives (Ok bytes) (subst (λ (n : ℕ). DoesBySession (read_on block block []) (λ (u : Unit {0}). read_on block n bytes) a now (Ok tt))
       (let e : block - k ≡ 0 = omega (arith, le) in e) so_far.runs) refl
 
 -- ---- a whole block
@@ -189,16 +189,16 @@ pub may_open : (block n : ℕ) (path : List ℕ) (call : Call) {past : List Entr
 may_open block n path call {past = past} is may = may_make (fetched block path n) (opening reads_only path) call (after_open block n) past is may
 
 module _ {S : Type 0} where
-  made : (c call : Call) {a b : At S} {result : Result Found Error} → call ≡ c → Runs (makes call) pure a b result → Runs (makes c) pure a b result
-  made c call {a = a} {b = b} {result = result} is run = subst (λ (x : Call). Runs (makes x) pure a b result) is run
+  made : (c call : Call) {a b : At S} {result : Result Found Error} → call ≡ c → DoesBySession (makes call) pure a b result → DoesBySession (makes c) pure a b result
+  made c call {a = a} {b = b} {result = result} is run = subst (λ (x : Call). DoesBySession (makes x) pure a b result) is run
 
   -- the file stands at the block
   pub record IsSought (block n : ℕ) (a now : At S) : Type 0 where
-    pub runs : Runs (read_at block n) (after_seek block) a now (Ok (Ok []))
+    pub runs : DoesBySession (read_at block n) (after_seek block) a now (Ok (Ok []))
     pub idle : IsIdle now
 
   pub sought : (block n : ℕ) (call : Call) {a b : At S} {found : Found} → call ≡ seeking (n * block)
-      → Runs (makes call) pure a b (Ok found) → IsSought block n a b
+      → DoesBySession (makes call) pure a b (Ok found) → IsSought block n a b
   sought block n call is run = record {
     runs = gives (Ok []) (bound {k = after_seek block} (made (seeking (n * block)) call is run)) refl;
     idle = run.idle;
@@ -208,16 +208,16 @@ module _ {S : Type 0} where
       → MayDo (read_on block block []) b.seen.stage.past
   may_read_block block n may s = may_first (read_on block block []) after_found (may_on may s.runs)
 
-  pub sought_stopped : (block n : ℕ) {a b c : At S} {e : Error} → IsSought block n a b → Runs (read_on block block []) pure b c (Err e)
-      → Runs (read_at block n) pure a c (Err e)
+  pub sought_stopped : (block n : ℕ) {a b c : At S} {e : Error} → IsSought block n a b → DoesBySession (read_on block block []) pure b c (Err e)
+      → DoesBySession (read_at block n) pure a c (Err e)
   sought_stopped block n s run = then_on s.runs (stopped run)
 
   -- it was read
   pub record IsFound (block n : ℕ) (found : Found) (a now : At S) : Type 0 where
-    pub runs : Runs (read_at block n) after_found a now (Ok found)
+    pub runs : DoesBySession (read_at block n) after_found a now (Ok found)
     pub idle : IsIdle now
 
-  pub found_all : (block n : ℕ) {a b c : At S} {found : Found} → IsSought block n a b → Runs (read_on block block []) pure b c (Ok found)
+  pub found_all : (block n : ℕ) {a b c : At S} {found : Found} → IsSought block n a b → DoesBySession (read_on block block []) pure b c (Ok found)
       → IsFound block n found a c
   found_all block n s run = record { runs = then_on s.runs (bound {k = after_found} run); idle = run.idle }
 
@@ -226,31 +226,31 @@ module _ {S : Type 0} where
   may_close block n call {b = b} {found = found} is may f = may_make (read_at block n) closing call
       (λ closed. pure found) b.seen.stage.past is (may_on may f.runs)
 
-  pub closed_stopped : (block n : ℕ) (call : Call) {a b c : At S} {found : Found} {e : Error} → IsFound block n found a b → Runs (makes call) pure b c (Err e)
-      → Runs (read_at block n) pure a c (Err e)
+  pub closed_stopped : (block n : ℕ) (call : Call) {a b c : At S} {found : Found} {e : Error} → IsFound block n found a b → DoesBySession (makes call) pure b c (Err e)
+      → DoesBySession (read_at block n) pure a c (Err e)
   closed_stopped block n call f run = then_on f.runs (stopped run)
 
-  pub closed : (block n : ℕ) (call : Call) {a b c : At S} {found any : Found} → call ≡ closing → IsFound block n found a b → Runs (makes call) pure b c (Ok any)
-      → Runs (read_at block n) pure a c (Ok found)
+  pub closed : (block n : ℕ) (call : Call) {a b c : At S} {found any : Found} → call ≡ closing → IsFound block n found a b → DoesBySession (makes call) pure b c (Ok any)
+      → DoesBySession (read_at block n) pure a c (Ok found)
   closed block n call {found = found} is f run = then_on f.runs (gives found (bound {k = λ (c : Found). pure found} (made closing call is run)) refl)
 
   -- ---- the file is open, or that was refused
 
   pub open_refused : (block n : ℕ) (path : List ℕ) (call : Call) {a b : At S} {found : Found} (code : ℕ) → call ≡ opening reads_only path → found ≡ Err code
-      → Runs (makes call) pure a b (Ok found) → Runs (fetched block path n) pure a b (Ok (Err code))
+      → DoesBySession (makes call) pure a b (Ok found) → DoesBySession (fetched block path n) pure a b (Ok (Err code))
   open_refused block n path call code is refused run =
       gives (Err code) (bound {k = after_open block n} (made (opening reads_only path) call is run)) (ap (after_open block n) refused)
 
   open_granted : (block n : ℕ) (path bytes : List ℕ) (call : Call) {a b : At S} {found : Found} → call ≡ opening reads_only path → found ≡ Ok bytes
-      → Runs (makes call) pure a b (Ok found) → Runs (fetched block path n) (λ (u : Unit {0}). read_at block n) a b (Ok tt)
+      → DoesBySession (makes call) pure a b (Ok found) → DoesBySession (fetched block path n) (λ (u : Unit {0}). read_at block n) a b (Ok tt)
   open_granted block n path bytes call is granted run =
       gives tt (bound {k = after_open block n} (made (opening reads_only path) call is run)) (ap (after_open block n) granted)
 
   pub may_read_at : (block n : ℕ) (path bytes : List ℕ) (call : Call) {a b : At S} {found : Found} → call ≡ opening reads_only path → found ≡ Ok bytes
-      → MayDo (fetched block path n) a.seen.stage.past → Runs (makes call) pure a b (Ok found) → MayDo (read_at block n) b.seen.stage.past
+      → MayDo (fetched block path n) a.seen.stage.past → DoesBySession (makes call) pure a b (Ok found) → MayDo (read_at block n) b.seen.stage.past
   may_read_at block n path bytes call is granted may run = may_on may (open_granted block n path bytes call is granted run)
 
   pub open_read : (block n : ℕ) (path bytes : List ℕ) (call : Call) {a b c : At S} {found : Found}
       {result : Result Found Error} → call ≡ opening reads_only path
-      → found ≡ Ok bytes → Runs (makes call) pure a b (Ok found) → Runs (read_at block n) pure b c result → Runs (fetched block path n) pure a c result
+      → found ≡ Ok bytes → DoesBySession (makes call) pure a b (Ok found) → DoesBySession (read_at block n) pure b c result → DoesBySession (fetched block path n) pure a c result
   open_read block n path bytes call is granted run rest = then_on (open_granted block n path bytes call is granted run) rest

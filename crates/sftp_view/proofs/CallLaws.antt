@@ -22,7 +22,7 @@ use Rattle.session_driver.proofs.Journals.{later_self}
 use Rattle.session_work.specs.Working.{past_of}
 use Rattle.sftp_lanes.specs.Seen.{SessionValue, seen_of}
 use Rattle.view_model.specs.Viewed.{Doing, Found, found_in, makes, pure}
-use Rattle.sftp_view.specs.Doings.{IsIdle, MayDo, Runs, going_on, one_lane}
+use Rattle.sftp_view.specs.Doings.{IsIdle, MayDo, DoesBySession, going_on, one_lane}
 use Rattle.sftp_view.specs.IdleSteps.{StepsIdly}
 use Rattle.sftp_view.proofs.FewLaws.{may_add}
 use Rattle.sftp_view.proofs.IdleLaws.{idle_still}
@@ -51,12 +51,12 @@ some_newest os before o is none = (let both : None ≡ Some o = none ∙ last_at
 
 module _ {S : Type 0} where
   pub starved : {T U : Type 0} {f : Doing T} {r : U → Doing T} (old mid : SessionValue) (link : LinkView S) → IsUnmoved (seen_of old) (seen_of mid)
-      → Runs f r (at (seen_of old) link) (at (seen_of mid) link) (Err error.OutOfMemory)
+      → DoesBySession f r (at (seen_of old) link) (at (seen_of mid) link) (Err error.OutOfMemory)
   starved old mid link left = record { ongoing = no_memory going_on (seen_of old) (seen_of mid) link tt left; idle = tt; does = tt }
 
   -- the idle step
   stepped : {T : Type 0} (f : Doing T) (old mid : SessionValue) (link : LinkView S) → IsIdle (at (seen_of old) link) → StepsIdly old mid
-      → Runs f (λ (u : Unit {0}). f) (at (seen_of old) link) (at (seen_of mid) link) (Ok tt)
+      → DoesBySession f (λ (u : Unit {0}). f) (at (seen_of old) link) (at (seen_of mid) link) (Ok tt)
   stepped f old mid link idle s =
       let past : (seen_of mid).stage.past ≡ (seen_of old).stage.past = ap (λ (x : RunProgress). x.past) s.same in
       runs_still f (at (seen_of old) link) (at (seen_of mid) link)
@@ -79,13 +79,13 @@ module _ {S : Type 0} where
       (λ lane. s.each lane ∙ ap (λ (l : List Lane). calls_of (slice_get l lane) ++ added (past_of mid.work) lane) lanes)
 
   pub call_stopped : (c : Call) (old mid : SessionValue) (link : LinkView S) {b : At S} {e : Error} → IsIdle (at (seen_of old) link)
-      → StepsIdly old mid → Ongoing (call_of 0 c) (at (seen_of mid) link) b (Err e) → Runs (makes c) pure (at (seen_of old) link) b (Err e)
+      → StepsIdly old mid → Ongoing (call_of 0 c) (at (seen_of mid) link) b (Err e) → DoesBySession (makes c) pure (at (seen_of old) link) b (Err e)
   call_stopped c old mid link idle s part = then_on (stepped (makes c) old mid link idle s) (part_stopped part)
 
   pub call_done : (c : Call) (old mid : SessionValue) (link : LinkView S) {b : At S} → IsIdle (at (seen_of old) link) → StepsIdly old mid
       → Ongoing (call_of 0 c) (at (seen_of mid) link) b (Ok tt) → (os : List Outcome) (p : Outcome) (found : Found)
       → os ≡ outcomes_of b.seen.stage.past 0 → Some p ≡ slice_get os (length os - 1) → found ≡ found_in p
-      → Runs (makes c) pure (at (seen_of old) link) b (Ok found)
+      → DoesBySession (makes c) pure (at (seen_of old) link) b (Ok found)
   call_done c old mid link idle s part os p found are there is =
       then_on (stepped (makes c) old mid link idle s)
       (call_runs c (idle_still old mid link idle s) part found
@@ -93,7 +93,7 @@ module _ {S : Type 0} where
 
   -- what it brought was lost for want of memory
   pub call_lost : (c : Call) (old mid : SessionValue) (link : LinkView S) {b : At S} → IsIdle (at (seen_of old) link) → StepsIdly old mid
-      → Ongoing (call_of 0 c) (at (seen_of mid) link) b (Ok tt) → Runs (makes c) pure (at (seen_of old) link) b (Err error.OutOfMemory)
+      → Ongoing (call_of 0 c) (at (seen_of mid) link) b (Ok tt) → DoesBySession (makes c) pure (at (seen_of old) link) b (Err error.OutOfMemory)
   call_lost c old mid link idle s part = then_on (stepped (makes c) old mid link idle s) (part_no_room part)
 
   pub call_ended : (c : Call) (old mid : SessionValue) (link : LinkView S) {b : At S} → IsIdle (at (seen_of old) link) → StepsIdly old mid

@@ -14,8 +14,8 @@ use Rattle.view_model.specs.Keys.{key_of, same_key}
 use Rattle.view_model.specs.Viewed.{Doing, Found, Gathered, block_by, gathered, pure, was_gathered, ◌>>=◌}
 use Rattle.view_model.specs.declared.key.BlockKey.{BlockKey}
 use Rattle.sftp_view.specs.declared.ops.View.{View}
-use Rattle.sftp_view.specs.Doings.{IsIdle, MayDo, Runs}
-use Rattle.sftp_view.specs.Working.{StaysView, Works}
+use Rattle.sftp_view.specs.Doings.{IsIdle, MayDo, DoesBySession}
+use Rattle.sftp_view.specs.Working.{StaysView, DoesByView}
 use Rattle.sftp_view.proofs.FewLaws.{may_first}
 use Rattle.sftp_view.proofs.RunLaws.{bound, gives, may_on, no_room_then, runs_self, stopped, then_on}
 use Rattle.sftp_view.proofs.WorkLaws.{block_of}
@@ -68,7 +68,7 @@ module _ {S : Type 0} where
   -- after k blocks
   pub record GathersSoFar (path : List ℕ) (first count k : ℕ) (bytes : List ℕ) (key : BlockKey) (old : View)
       (link : LinkView S) (now : View) (link_now : LinkView S) : Type 0 where
-    pub runs : Runs (gathered old.block old.cache.capacity path first count [] old.cache.kept) (λ (u : Unit {0}). left_of old path first count k bytes now)
+    pub runs : DoesBySession (gathered old.block old.cache.capacity path first count [] old.cache.kept) (λ (u : Unit {0}). left_of old path first count k bytes now)
         (at (seen_of old.session) link) (at (seen_of now.session) link_now) (Ok tt)
     pub idle : IsIdle (at (seen_of now.session) link_now)
     pub stays : StaysView k old now
@@ -81,7 +81,7 @@ module _ {S : Type 0} where
       let f : Doing Gathered = gathered old.block old.cache.capacity path first count [] old.cache.kept in
       let from : first + 0 ≡ first = omega arith in
       let all : count - 0 ≡ count = omega arith in
-      let self : Runs f (λ (u : Unit {0}). f) here here (Ok tt) = runs_self f tt here idle in
+      let self : DoesBySession f (λ (u : Unit {0}). f) here here (Ok tt) = runs_self f tt here idle in
       record {
         runs = gives tt self (λ i. gathered old.block old.cache.capacity path (sym from i) (sym all i) (sym none i) old.cache.kept);
         idle = idle;
@@ -92,7 +92,7 @@ module _ {S : Type 0} where
   -- what the next block gives
   abbrev pub One : View → List ℕ → BlockKey → LinkView S → View → LinkView S → Result Found Error → Type 0
   One now path key link_now next link_next result =
-      Works (block_of now.block now.cache path key) (λ found. pure (record { found = found; kept = next.cache.kept })) 1 now link_now next link_next result
+      DoesByView (block_of now.block now.cache path key) (λ found. pure (record { found = found; kept = next.cache.kept })) 1 now link_now next link_next result
 
   pub may_block : (path : List ℕ) (first count k : ℕ) (bytes : List ℕ) (key : BlockKey) (old now : View) (link link_now : LinkView S) → k < count
       → MayDo (gathered old.block old.cache.capacity path first count [] old.cache.kept) (seen_of old.session).stage.past
@@ -105,7 +105,7 @@ module _ {S : Type 0} where
   one_more : (path : List ℕ) (first count k : ℕ) (bytes : List ℕ) (key : BlockKey) (old now next : View)
       (link link_now link_next : LinkView S) (found : Found) → k < count
       → GathersSoFar path first count k bytes key old link now link_now → One now path key link_now next link_next (Ok found)
-      → Runs (gathered old.block old.cache.capacity path first count [] old.cache.kept)
+      → DoesBySession (gathered old.block old.cache.capacity path first count [] old.cache.kept)
       (after_block old path first count k bytes) (at (seen_of old.session) link) (at (seen_of next.session) link_next)
       (Ok (record { found = found; kept = next.cache.kept }))
   one_more path first count k bytes key old now next link link_now link_next found lt so_far one =
@@ -113,16 +113,16 @@ module _ {S : Type 0} where
       let b : At S = at (seen_of now.session) link_now in
       let c : At S = at (seen_of next.session) link_next in
       let g : Gathered = record { found = found; kept = next.cache.kept } in
-      let gave : Runs (block_of now.block now.cache path key) pure b c (Ok g) = gives g one.runs refl in
+      let gave : DoesBySession (block_of now.block now.cache path key) pure b c (Ok g) = gives g one.runs refl in
       let whole : Doing Gathered = gathered old.block old.cache.capacity path first count [] old.cache.kept in
-      let before : Runs whole (λ (u : Unit {0}). block_of now.block now.cache path key >>= after_block old path first count k bytes) a b (Ok tt) =
+      let before : DoesBySession whole (λ (u : Unit {0}). block_of now.block now.cache path key >>= after_block old path first count k bytes) a b (Ok tt) =
       gives tt so_far.runs (next_is path first count k bytes key old now lt so_far.name so_far.stays.block so_far.stays.capacity) in
       then_on before (bound {k = after_block old path first count k bytes} gave)
 
   pub gather_refused : (path : List ℕ) (first count k : ℕ) (bytes : List ℕ) (key : BlockKey) (old now next : View)
       (link link_now link_next : LinkView S) (found : Found) (code : ℕ)
       → k < count → GathersSoFar path first count k bytes key old link now link_now → found ≡ Err code → One now path key link_now next link_next (Ok found)
-      → Works (gathered old.block old.cache.capacity path first count [] old.cache.kept) (λ f. pure (record { found = f; kept = next.cache.kept })) count
+      → DoesByView (gathered old.block old.cache.capacity path first count [] old.cache.kept) (λ f. pure (record { found = f; kept = next.cache.kept })) count
       old link next link_next (Ok (Err code))
   gather_refused path first count k bytes key old now next link link_now link_next found code lt so_far refused one = record {
     runs = gives (Err code) (one_more path first count k bytes key old now next link link_now link_next found lt so_far one)
@@ -134,7 +134,7 @@ module _ {S : Type 0} where
       (link link_now link_next : LinkView S) (found : Found)
       → k < count → GathersSoFar path first count k bytes key old link now link_now → found ≡ Ok more → One now path key link_now next link_next (Ok found)
       → length more < next.block → (all : List ℕ) → all ≡ bytes ++ more
-      → Works (gathered old.block old.cache.capacity path first count [] old.cache.kept) (λ f. pure (record { found = f; kept = next.cache.kept })) count
+      → DoesByView (gathered old.block old.cache.capacity path first count [] old.cache.kept) (λ f. pure (record { found = f; kept = next.cache.kept })) count
       old link next link_next (Ok (Ok all))
   gather_short path first count k bytes more key old now next link link_now link_next found lt so_far brought one short all are =
       let stays = stays_on k 1 old now next so_far.stays one.stays in
@@ -169,7 +169,7 @@ module _ {S : Type 0} where
 
   pub gather_all : (path : List ℕ) (first count k : ℕ) (bytes : List ℕ) (key : BlockKey) (old now : View) (link link_now : LinkView S) → count ≤ k → k ≤ count
       → GathersSoFar path first count k bytes key old link now link_now
-      → Works (gathered old.block old.cache.capacity path first count [] old.cache.kept) (λ f. pure (record { found = f; kept = now.cache.kept })) count
+      → DoesByView (gathered old.block old.cache.capacity path first count [] old.cache.kept) (λ f. pure (record { found = f; kept = now.cache.kept })) count
       old link now link_now (Ok (Ok bytes))
   gather_all path first count k bytes key old now link link_now le ge so_far =
       let none : count - k ≡ 0 = omega (arith, le) in
@@ -185,14 +185,14 @@ module _ {S : Type 0} where
   pub gather_stopped : (path : List ℕ) (first count k : ℕ) (bytes : List ℕ) (key : BlockKey) (old now next : View)
       (link link_now link_next : LinkView S) (e : Error)
       {r : Found → Doing Gathered} → GathersSoFar path first count k bytes key old link now link_now → One now path key link_now next link_next (Err e)
-      → Works (gathered old.block old.cache.capacity path first count [] old.cache.kept) r count old link next link_next (Err e)
+      → DoesByView (gathered old.block old.cache.capacity path first count [] old.cache.kept) r count old link next link_next (Err e)
   gather_stopped path first count k bytes key old now next link link_now link_next e so_far one =
       record { runs = then_on so_far.runs (stopped one.runs); stays = tt }
 
   pub gather_lost : (path : List ℕ) (first count k : ℕ) (bytes : List ℕ) (key : BlockKey) (old now next : View)
       (link link_now link_next : LinkView S) (found : Found)
       {r : Found → Doing Gathered} → GathersSoFar path first count k bytes key old link now link_now → One now path key link_now next link_next (Ok found)
-      → Works (gathered old.block old.cache.capacity path first count [] old.cache.kept) r count old link next link_next (Err error.OutOfMemory)
+      → DoesByView (gathered old.block old.cache.capacity path first count [] old.cache.kept) r count old link next link_next (Err error.OutOfMemory)
   gather_lost path first count k bytes key old now next link link_now link_next found so_far one =
       record { runs = then_on so_far.runs (no_room_then one.runs); stays = tt }
 

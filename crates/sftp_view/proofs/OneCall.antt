@@ -8,14 +8,14 @@ use Rattle.session_model.specs.Calls.{Setting, current}
 use Rattle.session_model.specs.Journals.{IsJournal}
 use Rattle.session_model.specs.Readings.{outcomes_of}
 use Rattle.session_driver.specs.Adding.{added_to, call_of}
-use Rattle.session_driver.specs.Ongoing.{At, Ongoing, Went}
+use Rattle.session_driver.specs.Ongoing.{At, Ongoing, RunsToEnd}
 use Rattle.session_driver.specs.Session.{IsLater}
 use Rattle.session_driver.proofs.Joining.{as_part, setting_stays}
 use Rattle.view_model.specs.OneCall.{HasEndedOnce}
 use Rattle.view_model.specs.Viewed.{ComesTo, Found, found_in, makes, pure}
 use Rattle.view_model.proofs.DoingLaws.{comes_call}
 use Rattle.view_model.proofs.EndedLaws.{ended_once}
-use Rattle.sftp_view.specs.Doings.{IsIdle, Runs}
+use Rattle.sftp_view.specs.Doings.{IsIdle, DoesBySession}
 
 -- what goes on from a journal is one
 pub later_journal : (s : Setting) (before past : List Entry) → IsJournal s before → IsLater s before past → IsJournal s past
@@ -24,12 +24,12 @@ later_journal s before (e ∷ past) j (inl same) = subst (λ (w : List Entry). I
 later_journal s before (e ∷ past) j (inr l) = (l.0, later_journal s before past j l.1)
 
 module _ {S : Type 0} where
-  pub went_once : (c : Call) (a b : At S) → IsIdle a → Went (call_of 0 c) a b → HasEndedOnce 0 c a.seen.stage.past b.seen.stage.past
+  pub went_once : (c : Call) (a b : At S) → IsIdle a → RunsToEnd (call_of 0 c) a b → HasEndedOnce 0 c a.seen.stage.past b.seen.stage.past
   went_once c a b idle went =
       ended_once a.seen.setting 0 went.whole.rounds c a.seen.stage.past (added_to a.seen.stage 0 c) b.seen.stage refl
       (later_journal a.seen.setting a.seen.stage.past b.seen.stage.past idle.run went.later) idle.run idle.done went.whole.went went.whole.done
 
-  idle_again : (c : Call) (a b : At S) → IsIdle a → Went (call_of 0 c) a b → IsIdle b
+  idle_again : (c : Call) (a b : At S) → IsIdle a → RunsToEnd (call_of 0 c) a b → IsIdle b
   idle_again c a b idle went =
       let same : b.seen.setting ≡ a.seen.setting = setting_stays a.seen b.seen went.stays in
       record {
@@ -44,7 +44,7 @@ module _ {S : Type 0} where
   -- a call was made, and this is what it brought
   pub call_runs : (c : Call) {a b : At S} → IsIdle a → Ongoing (call_of 0 c) a b (Ok tt) → (found : Found)
       → ((o : Outcome) → outcomes_of b.seen.stage.past 0 ≡ outcomes_of a.seen.stage.past 0 ++ o ∷ [] → found ≡ found_in o)
-      → Runs (makes c) pure a b (Ok found)
+      → DoesBySession (makes c) pure a b (Ok found)
   call_runs c {a = a} {b = b} idle part found brought =
       let once = went_once c a b idle part.went in
       record {

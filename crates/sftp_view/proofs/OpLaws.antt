@@ -18,8 +18,8 @@ use Rattle.view_model.specs.declared.op.ViewOp.{ViewOp}
 use Rattle.view_model.specs.declared.op.ViewOp.TheVariants as op
 use Rattle.view_model.proofs.CountLaws.{blocks_few}
 use Rattle.sftp_view.specs.declared.ops.View.{View}
-use Rattle.sftp_view.specs.Doings.{IsIdle, MayDo, Runs}
-use Rattle.sftp_view.specs.Working.{MayWork, StaysView, Works, wanted}
+use Rattle.sftp_view.specs.Doings.{IsIdle, MayDo, DoesBySession}
+use Rattle.sftp_view.specs.Working.{MayWork, StaysView, DoesByView, wanted}
 use Rattle.sftp_view.proofs.FewLaws.{may_first}
 use Rattle.sftp_view.proofs.RunLaws.{bound, gives, no_room_then, runs_self, stopped}
 use Rattle.sftp_view.proofs.WorkLaws.{view_of}
@@ -49,15 +49,15 @@ module _ {S : Type 0} where
   pub got_blocks : (old new : View) (path : List ℕ) (offset len : ℕ) (link link_now : LinkView S) (found : Found) (said : Answer)
       → 1 ≤ old.block → old.block ≤ 65536 → len ≤ 1048576
       → said ≡ got_of (offset - first_block old.block offset * old.block) len found
-      → Works (blocks_of old path offset len) (λ f. pure (record { found = f; kept = new.cache.kept }))
+      → DoesByView (blocks_of old path offset len) (λ f. pure (record { found = f; kept = new.cache.kept }))
       (block_count old.block offset len) old link new link_now (Ok found)
-      → Works (get_by old.block old.cache.capacity path offset len old.cache.kept)
+      → DoesByView (get_by old.block old.cache.capacity path offset len old.cache.kept)
       (λ a. pure (answered a new.cache.kept)) 2097152 old link new link_now (Ok said)
   got_blocks old new path offset len link link_now found said some short most same work =
       let a : At S = at (seen_of old.session) link in
       let b : At S = at (seen_of new.session) link_now in
       let g : Gathered = record { found = found; kept = new.cache.kept } in
-      let gave : Runs (blocks_of old path offset len) pure a b (Ok g) = gives g work.runs refl in
+      let gave : DoesBySession (blocks_of old path offset len) pure a b (Ok g) = gives g work.runs refl in
       record {
         runs = gives said (bound {k = after_blocks old offset len} gave) (ap (λ (x : Answer). pure (answered x new.cache.kept)) (sym same));
         stays = few_as (block_count old.block offset len) 2097152 old new (blocks_few old.block offset len some short most) work.stays;
@@ -65,14 +65,14 @@ module _ {S : Type 0} where
 
   pub get_stopped : (old new : View) (path : List ℕ) (offset len : ℕ) (link link_now : LinkView S) (e : Error)
       {r : Found → Doing Gathered} {q : Answer → Doing Answered} (n : ℕ)
-      → Works (blocks_of old path offset len) r n old link new link_now (Err e)
-      → Works (get_by old.block old.cache.capacity path offset len old.cache.kept) q 2097152 old link new link_now (Err e)
+      → DoesByView (blocks_of old path offset len) r n old link new link_now (Err e)
+      → DoesByView (get_by old.block old.cache.capacity path offset len old.cache.kept) q 2097152 old link new link_now (Err e)
   get_stopped old new path offset len link link_now e n work = record { runs = stopped work.runs; stays = tt }
 
   pub get_lost : (old new : View) (path : List ℕ) (offset len : ℕ) (link link_now : LinkView S) (found : Found)
       {r : Found → Doing Gathered} {q : Answer → Doing Answered} (n : ℕ)
-      → Works (blocks_of old path offset len) r n old link new link_now (Ok found)
-      → Works (get_by old.block old.cache.capacity path offset len old.cache.kept) q 2097152 old link new link_now (Err error.OutOfMemory)
+      → DoesByView (blocks_of old path offset len) r n old link new link_now (Ok found)
+      → DoesByView (get_by old.block old.cache.capacity path offset len old.cache.kept) q 2097152 old link new link_now (Err error.OutOfMemory)
   get_lost old new path offset len link link_now found n work = record { runs = no_room_then work.runs; stays = tt }
 
   -- the numbers of the blocks, as they are worked out
@@ -80,16 +80,16 @@ module _ {S : Type 0} where
       → b ≡ old.block → w ≡ len
       → 1 ≤ old.block → old.block ≤ 65536 → len ≤ 1048576
       → said ≡ got_of (offset - offset / b * b) len found
-      → Works (gathered old.block old.cache.capacity path (offset / b) ((offset + w - 1) / b - offset / b + 1) [] old.cache.kept)
+      → DoesByView (gathered old.block old.cache.capacity path (offset / b) ((offset + w - 1) / b - offset / b + 1) [] old.cache.kept)
       (λ f. pure (record { found = f; kept = new.cache.kept })) ((offset + w - 1) / b - offset / b + 1) old link new link_now (Ok found)
-      → Works (get_by old.block old.cache.capacity path offset len old.cache.kept)
+      → DoesByView (get_by old.block old.cache.capacity path offset len old.cache.kept)
       (λ a. pure (answered a new.cache.kept)) 2097152 old link new link_now (Ok said)
   got_part old new path offset len b w link link_now found said is wide some short most same work =
       got_blocks old new path offset len link link_now found said some short most
       (subst (λ (x : ℕ). said ≡ got_of (offset - offset / x * x) len found) is same)
-      (subst (λ (x : ℕ). Works (gathered old.block old.cache.capacity path (offset / x) ((offset + len - 1) / x - offset / x + 1) [] old.cache.kept)
+      (subst (λ (x : ℕ). DoesByView (gathered old.block old.cache.capacity path (offset / x) ((offset + len - 1) / x - offset / x + 1) [] old.cache.kept)
       (λ f. pure (record { found = f; kept = new.cache.kept })) ((offset + len - 1) / x - offset / x + 1) old link new link_now (Ok found)) is
-      (subst (λ (y : ℕ). Works (gathered old.block old.cache.capacity path (offset / b) ((offset + y - 1) / b - offset / b + 1) [] old.cache.kept)
+      (subst (λ (y : ℕ). DoesByView (gathered old.block old.cache.capacity path (offset / b) ((offset + y - 1) / b - offset / b + 1) [] old.cache.kept)
       (λ f. pure (record { found = f; kept = new.cache.kept })) ((offset + y - 1) / b - offset / b + 1) old link new link_now (Ok found)) wide work))
 
 -- ---- put
@@ -105,8 +105,8 @@ module _ {S : Type 0} where
   pub put_done : (session now : SessionValue) (cache new : CacheValue) (block : ℕ) (path : List ℕ) (offset : ℕ)
       (content : List ℕ) (link link_now : LinkView S) (said : Answer)
       (name : List (List ℕ)) → name ≡ components path → new ≡ cached cache.capacity (dropped name cache.kept)
-      → Runs (written path offset content) pure (at (seen_of session) link) (at (seen_of now) link_now) (Ok said)
-      → Works (put_by path offset content cache.kept) (λ a. pure (answered a new.kept)) 2097152
+      → DoesBySession (written path offset content) pure (at (seen_of session) link) (at (seen_of now) link_now) (Ok said)
+      → DoesByView (put_by path offset content cache.kept) (λ a. pure (answered a new.kept)) 2097152
       (view_of session cache block) link (view_of now new block) link_now (Ok said)
   put_done session now cache new block path offset content link link_now said name is left run =
       let kept : new.kept ≡ dropped (components path) cache.kept = ap (λ (c : CacheValue). c.kept) left ∙ ap (λ (n : List (List ℕ)). dropped n cache.kept) is in
@@ -122,14 +122,14 @@ module _ {S : Type 0} where
 
   pub put_stopped : (session now : SessionValue) (cache new : CacheValue) (block : ℕ) (path : List ℕ) (offset : ℕ)
       (content : List ℕ) (link link_now : LinkView S) (e : Error)
-      {q : Answer → Doing Answered} → Runs (written path offset content) pure (at (seen_of session) link) (at (seen_of now) link_now) (Err e)
-      → Works (put_by path offset content cache.kept) q 2097152 (view_of session cache block) link (view_of now new block) link_now (Err e)
+      {q : Answer → Doing Answered} → DoesBySession (written path offset content) pure (at (seen_of session) link) (at (seen_of now) link_now) (Err e)
+      → DoesByView (put_by path offset content cache.kept) q 2097152 (view_of session cache block) link (view_of now new block) link_now (Err e)
   put_stopped session now cache new block path offset content link link_now e run = record { runs = stopped run; stays = tt }
 
   pub put_lost : (session now : SessionValue) (cache new : CacheValue) (block : ℕ) (path : List ℕ) (offset : ℕ)
       (content : List ℕ) (link link_now : LinkView S) {said : Answer}
-      {q : Answer → Doing Answered} → Runs (written path offset content) pure (at (seen_of session) link) (at (seen_of now) link_now) (Ok said)
-      → Works (put_by path offset content cache.kept) q 2097152 (view_of session cache block) link (view_of now new block) link_now (Err error.OutOfMemory)
+      {q : Answer → Doing Answered} → DoesBySession (written path offset content) pure (at (seen_of session) link) (at (seen_of now) link_now) (Ok said)
+      → DoesByView (put_by path offset content cache.kept) q 2097152 (view_of session cache block) link (view_of now new block) link_now (Err error.OutOfMemory)
   put_lost session now cache new block path offset content link link_now run = record { runs = no_room_then run; stays = tt }
 
 -- ---- any operation
@@ -172,14 +172,14 @@ module _ {S : Type 0} where
       ∙ put_plain view.block view.cache.capacity path offset content view.cache.kept fits) may
 
   works_as : {T U : Type 0} (f g : Doing T) (r : U → Doing T) (n : ℕ) (old new : View) (link link_now : LinkView S) (result : Result U Error) → f ≡ g
-      → Works g r n old link new link_now result → Works f r n old link new link_now result
-  works_as f g r n old new link link_now result same work = subst (λ (h : Doing _). Works h r n old link new link_now result) (sym same) work
+      → DoesByView g r n old link new link_now result → DoesByView f r n old link new link_now result
+  works_as f g r n old new link link_now result same work = subst (λ (h : Doing _). DoesByView h r n old link new link_now result) (sym same) work
 
   pub did_get : (old new : View) (o : ViewOp) (path : List ℕ) (offset len : ℕ) (link link_now : LinkView S)
       (result : Result Answer Error) → o ≡ op.Get path offset len
       → (len == 0) ≡ false → passes_length path ≡ false
-      → Works (get_by old.block old.cache.capacity path offset len old.cache.kept) (λ a. pure (answered a new.cache.kept)) 2097152 old link new link_now result
-      → Works (op_by old.block old.cache.capacity o old.cache.kept) (λ a. pure (answered a new.cache.kept)) 2097152 old link new link_now result
+      → DoesByView (get_by old.block old.cache.capacity path offset len old.cache.kept) (λ a. pure (answered a new.cache.kept)) 2097152 old link new link_now result
+      → DoesByView (op_by old.block old.cache.capacity o old.cache.kept) (λ a. pure (answered a new.cache.kept)) 2097152 old link new link_now result
   did_get old new o path offset len link link_now result is some fits work =
       works_as _ _ _ 2097152 old new link link_now result (ap (λ (x : ViewOp). op_by old.block old.cache.capacity x old.cache.kept) is
       ∙ get_plain old.block old.cache.capacity path offset len old.cache.kept some fits) work
@@ -187,8 +187,8 @@ module _ {S : Type 0} where
   pub did_put : (old new : View) (o : ViewOp) (path : List ℕ) (offset : ℕ) (content : List ℕ)
       (link link_now : LinkView S) (result : Result Answer Error) → o ≡ op.Put path offset content
       → passes_length path ≡ false
-      → Works (put_by path offset content old.cache.kept) (λ a. pure (answered a new.cache.kept)) 2097152 old link new link_now result
-      → Works (op_by old.block old.cache.capacity o old.cache.kept) (λ a. pure (answered a new.cache.kept)) 2097152 old link new link_now result
+      → DoesByView (put_by path offset content old.cache.kept) (λ a. pure (answered a new.cache.kept)) 2097152 old link new link_now result
+      → DoesByView (op_by old.block old.cache.capacity o old.cache.kept) (λ a. pure (answered a new.cache.kept)) 2097152 old link new link_now result
   did_put old new o path offset content link link_now result is fits work =
       works_as _ _ _ 2097152 old new link link_now result (ap (λ (x : ViewOp). op_by old.block old.cache.capacity x old.cache.kept) is
       ∙ put_plain old.block old.cache.capacity path offset content old.cache.kept fits) work
@@ -196,16 +196,16 @@ module _ {S : Type 0} where
   -- without a call
   at_once : (view : View) (f : Doing Answered) (said : Answer) (link : LinkView S)
       → IsIdle (at (seen_of view.session) link) → f ≡ pure (answered said view.cache.kept)
-      → Works f (λ a. pure (answered a view.cache.kept)) 2097152 view link view link (Ok said)
+      → DoesByView f (λ a. pure (answered a view.cache.kept)) 2097152 view link view link (Ok said)
   at_once view f said link idle is =
       let here : At S = at (seen_of view.session) link in
-      let self : Runs f (λ (u : Unit {0}). f) here here (Ok tt) = runs_self f tt here idle in
+      let self : DoesBySession f (λ (u : Unit {0}). f) here here (Ok tt) = runs_self f tt here idle in
       record { runs = gives said self is; stays = record { block = refl; capacity = refl; few = omega arith } }
 
   pub got_nothing : (view : View) (o : ViewOp) (path bytes : List ℕ) (offset len : ℕ) (link : LinkView S) → o
       ≡ op.Get path offset len → (len == 0) ≡ true → bytes ≡ []
       → IsIdle (at (seen_of view.session) link)
-      → Works (op_by view.block view.cache.capacity o view.cache.kept) (λ a. pure (answered a view.cache.kept)) 2097152
+      → DoesByView (op_by view.block view.cache.capacity o view.cache.kept) (λ a. pure (answered a view.cache.kept)) 2097152
       view link view link (Ok (answer.Got bytes))
   got_nothing view o path bytes offset len link is none empty idle =
       at_once view (op_by view.block view.cache.capacity o view.cache.kept) (answer.Got bytes) link idle
@@ -217,7 +217,7 @@ module _ {S : Type 0} where
   pub get_too_long : (view : View) (o : ViewOp) (path : List ℕ) (offset len : ℕ) (link : LinkView S) → o
       ≡ op.Get path offset len → (len == 0) ≡ false → passes_length path ≡ true
       → IsIdle (at (seen_of view.session) link)
-      → Works (op_by view.block view.cache.capacity o view.cache.kept) (λ a. pure (answered a view.cache.kept)) 2097152 view link view link (Ok answer.TooLong)
+      → DoesByView (op_by view.block view.cache.capacity o view.cache.kept) (λ a. pure (answered a view.cache.kept)) 2097152 view link view link (Ok answer.TooLong)
   get_too_long view o path offset len link is some long idle =
       at_once view (op_by view.block view.cache.capacity o view.cache.kept) answer.TooLong link idle
       (ap (λ (x : ViewOp). op_by view.block view.cache.capacity x view.cache.kept) is
@@ -227,7 +227,7 @@ module _ {S : Type 0} where
   pub put_too_long : (view : View) (o : ViewOp) (path : List ℕ) (offset : ℕ) (content : List ℕ) (link : LinkView S) → o
       ≡ op.Put path offset content → passes_length path ≡ true
       → IsIdle (at (seen_of view.session) link)
-      → Works (op_by view.block view.cache.capacity o view.cache.kept) (λ a. pure (answered a view.cache.kept)) 2097152 view link view link (Ok answer.TooLong)
+      → DoesByView (op_by view.block view.cache.capacity o view.cache.kept) (λ a. pure (answered a view.cache.kept)) 2097152 view link view link (Ok answer.TooLong)
   put_too_long view o path offset content link is long idle =
       at_once view (op_by view.block view.cache.capacity o view.cache.kept) answer.TooLong link idle
       (ap (λ (x : ViewOp). op_by view.block view.cache.capacity x view.cache.kept) is

@@ -23,7 +23,7 @@ use Rattle.view_model.specs.Viewed.{
 }
 use Rattle.view_model.specs.declared.answer.Answer.{Answer}
 use Rattle.view_model.specs.declared.answer.Answer.TheVariants as answer
-use Rattle.sftp_view.specs.Doings.{MayDo, Runs}
+use Rattle.sftp_view.specs.Doings.{MayDo, DoesBySession}
 use Rattle.sftp_view.proofs.FewLaws.{may_first}
 use Rattle.sftp_view.proofs.RunLaws.{bound, gives, may_on, stopped, then_on}
 
@@ -49,37 +49,37 @@ pub may_open : (path : List ℕ) (offset : ℕ) (content : List ℕ) (call : Cal
 may_open path offset content call {past = past} is may = may_make (opening makes_and_writes path) call (after_open offset content) past is may
 
 module _ {S : Type 0} where
-  made : (c call : Call) {a b : At S} {result : Result Found Error} → call ≡ c → Runs (makes call) pure a b result → Runs (makes c) pure a b result
-  made c call {a = a} {b = b} {result = result} is run = subst (λ (x : Call). Runs (makes x) pure a b result) is run
+  made : (c call : Call) {a b : At S} {result : Result Found Error} → call ≡ c → DoesBySession (makes call) pure a b result → DoesBySession (makes c) pure a b result
+  made c call {a = a} {b = b} {result = result} is run = subst (λ (x : Call). DoesBySession (makes x) pure a b result) is run
 
-  pub sought : (offset : ℕ) (content : List ℕ) (call : Call) {a b : At S} {found : Found} → call ≡ seeking offset → Runs (makes call) pure a b (Ok found)
-      → Runs (put_at offset content) (after_seek content) a b (Ok found)
+  pub sought : (offset : ℕ) (content : List ℕ) (call : Call) {a b : At S} {found : Found} → call ≡ seeking offset → DoesBySession (makes call) pure a b (Ok found)
+      → DoesBySession (put_at offset content) (after_seek content) a b (Ok found)
   sought offset content call is run = bound {k = after_seek content} (made (seeking offset) call is run)
 
   pub may_write : (offset : ℕ) (content : List ℕ) (call : Call) {a b : At S} {found : Found} → call ≡ writing content
       → MayDo (put_at offset content) a.seen.stage.past
-      → Runs (put_at offset content) (after_seek content) a b (Ok found) → MayDo (makes call) b.seen.stage.past
+      → DoesBySession (put_at offset content) (after_seek content) a b (Ok found) → MayDo (makes call) b.seen.stage.past
   may_write offset content call {b = b} is may run = may_make (writing content) call after_write b.seen.stage.past is (may_on may run)
 
   pub sought_stopped : (offset : ℕ) (content : List ℕ) (call : Call) {a b c : At S} {found : Found} {e : Error}
-      → Runs (put_at offset content) (after_seek content) a b (Ok found) → Runs (makes call) pure b c (Err e) → Runs (put_at offset content) pure a c (Err e)
+      → DoesBySession (put_at offset content) (after_seek content) a b (Ok found) → DoesBySession (makes call) pure b c (Err e) → DoesBySession (put_at offset content) pure a c (Err e)
   sought_stopped offset content call run rest = then_on run (stopped rest)
 
   pub wrote_all : (offset : ℕ) (content : List ℕ) (call : Call) {a b c : At S} {found wrote : Found} → call ≡ writing content
-      → Runs (put_at offset content) (after_seek content) a b (Ok found) → Runs (makes call) pure b c (Ok wrote)
-      → Runs (put_at offset content) after_write a c (Ok wrote)
+      → DoesBySession (put_at offset content) (after_seek content) a b (Ok found) → DoesBySession (makes call) pure b c (Ok wrote)
+      → DoesBySession (put_at offset content) after_write a c (Ok wrote)
   wrote_all offset content call is run rest = then_on run (bound {k = after_write} (made (writing content) call is rest))
 
   pub may_close : (offset : ℕ) (content : List ℕ) (call : Call) {a b : At S} {wrote : Found} → call ≡ closing → MayDo (put_at offset content) a.seen.stage.past
-      → Runs (put_at offset content) after_write a b (Ok wrote) → MayDo (makes call) b.seen.stage.past
+      → DoesBySession (put_at offset content) after_write a b (Ok wrote) → MayDo (makes call) b.seen.stage.past
   may_close offset content call {b = b} {wrote = wrote} is may run = may_make closing call (λ closed. pure (put_of wrote)) b.seen.stage.past is (may_on may run)
 
   pub wrote_stopped : (offset : ℕ) (content : List ℕ) (call : Call) {a b c : At S} {wrote : Found} {e : Error}
-      → Runs (put_at offset content) after_write a b (Ok wrote) → Runs (makes call) pure b c (Err e) → Runs (put_at offset content) pure a c (Err e)
+      → DoesBySession (put_at offset content) after_write a b (Ok wrote) → DoesBySession (makes call) pure b c (Err e) → DoesBySession (put_at offset content) pure a c (Err e)
   wrote_stopped offset content call run rest = then_on run (stopped rest)
 
   pub closed : (offset : ℕ) (content : List ℕ) (call : Call) {a b c : At S} {wrote any : Found} → (said : Answer) → call ≡ closing → said ≡ put_of wrote
-      → Runs (put_at offset content) after_write a b (Ok wrote) → Runs (makes call) pure b c (Ok any) → Runs (put_at offset content) pure a c (Ok said)
+      → DoesBySession (put_at offset content) after_write a b (Ok wrote) → DoesBySession (makes call) pure b c (Ok any) → DoesBySession (put_at offset content) pure a c (Ok said)
   closed offset content call {wrote = wrote} said is same run rest =
       then_on run (gives said (bound {k = λ (c : Found). pure (put_of wrote)} (made closing call is rest)) (ap (λ (a : Answer). pure a) (sym same)))
 
@@ -87,22 +87,22 @@ module _ {S : Type 0} where
 
   pub open_refused : (path : List ℕ) (offset : ℕ) (content : List ℕ) (call : Call) {a b : At S} {found : Found}
       (code : ℕ) → call ≡ opening makes_and_writes path
-      → found ≡ Err code → Runs (makes call) pure a b (Ok found) → Runs (written path offset content) pure a b (Ok (answer.Refused code))
+      → found ≡ Err code → DoesBySession (makes call) pure a b (Ok found) → DoesBySession (written path offset content) pure a b (Ok (answer.Refused code))
   open_refused path offset content call code is refused run =
       gives (answer.Refused code) (bound {k = after_open offset content}
       (made (opening makes_and_writes path) call is run)) (ap (after_open offset content) refused)
 
   open_granted : (path : List ℕ) (offset : ℕ) (content bytes : List ℕ) (call : Call) {a b : At S} {found : Found} → call ≡ opening makes_and_writes path
-      → found ≡ Ok bytes → Runs (makes call) pure a b (Ok found) → Runs (written path offset content) (λ (u : Unit {0}). put_at offset content) a b (Ok tt)
+      → found ≡ Ok bytes → DoesBySession (makes call) pure a b (Ok found) → DoesBySession (written path offset content) (λ (u : Unit {0}). put_at offset content) a b (Ok tt)
   open_granted path offset content bytes call is granted run =
       gives tt (bound {k = after_open offset content} (made (opening makes_and_writes path) call is run)) (ap (after_open offset content) granted)
 
   pub may_put_at : (path : List ℕ) (offset : ℕ) (content bytes : List ℕ) (call : Call) {a b : At S} {found : Found} → call ≡ opening makes_and_writes path
-      → found ≡ Ok bytes → MayDo (written path offset content) a.seen.stage.past → Runs (makes call) pure a b (Ok found)
+      → found ≡ Ok bytes → MayDo (written path offset content) a.seen.stage.past → DoesBySession (makes call) pure a b (Ok found)
       → MayDo (put_at offset content) b.seen.stage.past
   may_put_at path offset content bytes call is granted may run = may_on may (open_granted path offset content bytes call is granted run)
 
   pub open_put : (path : List ℕ) (offset : ℕ) (content bytes : List ℕ) (call : Call) {a b c : At S} {found : Found} {result : Result Answer Error}
-      → call ≡ opening makes_and_writes path → found ≡ Ok bytes → Runs (makes call) pure a b (Ok found) → Runs (put_at offset content) pure b c result
-      → Runs (written path offset content) pure a c result
+      → call ≡ opening makes_and_writes path → found ≡ Ok bytes → DoesBySession (makes call) pure a b (Ok found) → DoesBySession (put_at offset content) pure b c result
+      → DoesBySession (written path offset content) pure a c result
   open_put path offset content bytes call is granted run rest = then_on (open_granted path offset content bytes call is granted run) rest

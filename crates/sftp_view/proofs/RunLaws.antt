@@ -15,7 +15,7 @@ use Rattle.session_driver.proofs.Joining.{as_part, idle, join, no_memory}
 use Rattle.view_model.specs.Calls.{AreFew, call_limit}
 use Rattle.view_model.specs.Viewed.{Doing, Made, pure, ◌>>=◌}
 use Rattle.view_model.proofs.DoingLaws.{comes_bind, comes_on, comes_self}
-use Rattle.sftp_view.specs.Doings.{Does, IsIdle, MayDo, Runs, going_on}
+use Rattle.sftp_view.specs.Doings.{Does, IsIdle, MayDo, DoesBySession, going_on}
 
 -- ---- what is done
 
@@ -62,12 +62,12 @@ module _ {S : Type 0} where
   join_any first second = join (λ u v. tt) (λ u past v. tt) first second
 
   -- nothing was to be done
-  pub runs_self : {T U : Type 0} (f : Doing T) (u : U) (a : At S) → IsIdle a → Runs f (λ (w : U). f) a a (Ok u)
+  pub runs_self : {T U : Type 0} (f : Doing T) (u : U) (a : At S) → IsIdle a → DoesBySession f (λ (w : U). f) a a (Ok u)
   runs_self f u a here = record { ongoing = idle going_on a.seen a.link tt tt here.ready; idle = here; does = does_self f a.seen.stage.past }
 
   -- nothing was done, and the journal is as it was
   pub runs_still : {T : Type 0} (f : Doing T) (a b : At S) → Ongoing going_on a b (Ok tt) → IsIdle b → b.seen.stage.past ≡ a.seen.stage.past
-      → Runs f (λ (u : Unit {0}). f) a b (Ok tt)
+      → DoesBySession f (λ (u : Unit {0}). f) a b (Ok tt)
   runs_still f a b part here past = record {
     ongoing = part;
     idle = here;
@@ -76,7 +76,7 @@ module _ {S : Type 0} where
 
   -- one thing, and then another
   pub then_on : {T U V : Type 0} {f : Doing T} {r : U → Doing T} {q : V → Doing T} {a b c : At S} {u : U} {result : Result V Error}
-      → Runs f r a b (Ok u) → Runs (r u) q b c result → Runs f q a c result
+      → DoesBySession f r a b (Ok u) → DoesBySession (r u) q b c result → DoesBySession f q a c result
   then_on {f = f} {r = r} {q = q} {a = a} {b = b} {c = c} {u = u} {result = Ok v} first second = record {
     ongoing = join_any first.ongoing second.ongoing;
     idle = second.idle;
@@ -85,8 +85,8 @@ module _ {S : Type 0} where
   then_on {result = Err e} first second = record { ongoing = join_any first.ongoing second.ongoing; idle = tt; does = tt }
 
   -- a thing, and what follows from it is left
-  pub bound : {A B : Type 0} {m : Doing A} {k : A → Doing B} {a b : At S} {result : Result A Error} → Runs m pure a b result
-      → Runs (m >>= k) k a b result
+  pub bound : {A B : Type 0} {m : Doing A} {k : A → Doing B} {a b : At S} {result : Result A Error} → DoesBySession m pure a b result
+      → DoesBySession (m >>= k) k a b result
   bound {m = m} {k = k} {a = a} {b = b} {result = Ok v} run = record {
     ongoing = run.ongoing;
     idle = run.idle;
@@ -95,8 +95,8 @@ module _ {S : Type 0} where
   bound {result = Err e} run = record { ongoing = run.ongoing; idle = tt; does = tt }
 
   -- the same, given as another value
-  pub gives : {T U V : Type 0} {f : Doing T} {r : U → Doing T} {q : V → Doing T} {a b : At S} {u : U} (v : V) → Runs f r a b (Ok u)
-      → r u ≡ q v → Runs f q a b (Ok v)
+  pub gives : {T U V : Type 0} {f : Doing T} {r : U → Doing T} {q : V → Doing T} {a b : At S} {u : U} (v : V) → DoesBySession f r a b (Ok u)
+      → r u ≡ q v → DoesBySession f q a b (Ok v)
   gives {T = T} {f = f} {a = a} {b = b} v run same = record {
     ongoing = run.ongoing;
     idle = run.idle;
@@ -105,19 +105,19 @@ module _ {S : Type 0} where
 
   -- it stopped, whatever was to come of it
   pub stopped : {T U V W : Type 0} {f : Doing T} {r : U → Doing T} {g : Doing V} {q : W → Doing V} {a b : At S} {e : Error}
-      → Runs f r a b (Err e) → Runs g q a b (Err e)
+      → DoesBySession f r a b (Err e) → DoesBySession g q a b (Err e)
   stopped run = record { ongoing = run.ongoing; idle = tt; does = tt }
 
   pub part_stopped : {T U : Type 0} {f : Doing T} {r : U → Doing T} {p : Part} {a b : At S} {e : Error} → Ongoing p a b (Err e)
-      → Runs f r a b (Err e)
+      → DoesBySession f r a b (Err e)
   part_stopped part = record { ongoing = as_part (λ whole. tt) (λ past so_far. tt) part; idle = tt; does = tt }
 
   -- no memory was there, at first or after something was done
-  pub no_room : {T U : Type 0} {f : Doing T} {r : U → Doing T} (a : At S) → Runs f r a a (Err error.OutOfMemory)
+  pub no_room : {T U : Type 0} {f : Doing T} {r : U → Doing T} (a : At S) → DoesBySession f r a a (Err error.OutOfMemory)
   no_room a = record { ongoing = no_memory going_on a.seen a.seen a.link tt (unmoved a.seen); idle = tt; does = tt }
 
   pub no_room_then : {T U V W : Type 0} {f : Doing T} {r : U → Doing T} {g : Doing V} {q : W → Doing V} {a b : At S} {u : U}
-      → Runs f r a b (Ok u) → Runs g q a b (Err error.OutOfMemory)
+      → DoesBySession f r a b (Ok u) → DoesBySession g q a b (Err error.OutOfMemory)
   no_room_then {b = b} run = record {
     ongoing = join_any run.ongoing (no_memory going_on b.seen b.seen b.link tt (unmoved b.seen));
     idle = tt;
@@ -125,7 +125,7 @@ module _ {S : Type 0} where
   }
 
   pub part_no_room : {T U : Type 0} {f : Doing T} {r : U → Doing T} {p : Part} {a b : At S} {x : Unit {0}} → Ongoing p a b (Ok x)
-      → Runs f r a b (Err error.OutOfMemory)
+      → DoesBySession f r a b (Err error.OutOfMemory)
   part_no_room {b = b} part = record {
     ongoing = join_any part (no_memory going_on b.seen b.seen b.link tt (unmoved b.seen));
     idle = tt;
@@ -142,6 +142,6 @@ may_go f g a b may d = record {
       (may.few (d.came ++ outcomes));
 }
 
-pub may_on : {S T U : Type 0} {f : Doing T} {r : U → Doing T} {a b : At S} {u : U} → MayDo f a.seen.stage.past → Runs f r a b (Ok u)
+pub may_on : {S T U : Type 0} {f : Doing T} {r : U → Doing T} {a b : At S} {u : U} → MayDo f a.seen.stage.past → DoesBySession f r a b (Ok u)
     → MayDo (r u) b.seen.stage.past
 may_on {f = f} {r = r} {a = a} {b = b} {u = u} may run = may_go f (r u) a.seen.stage.past b.seen.stage.past may run.does

@@ -44,7 +44,7 @@ use Rattle.session_model.specs.declared.entry.Entry.{Entry}
 use Rattle.session_model.specs.Calls.{Setting, added, current}
 use Rattle.session_model.specs.Journals.{IsJournal}
 use Rattle.session_model.specs.Readings.{outcomes_of}
-use Rattle.session_model.specs.Runs.{Opens}
+use Rattle.session_model.specs.Runs.{OpensSession}
 use Rattle.session_driver.specs.Logs.{EndsAs, Showing, even}
 use Rattle.session_driver.specs.Ongoing.{At, HasStopped, Ongoing, StoppedOpen, at}
 use Rattle.session_driver.specs.RunsSoFar.{OpensSoFar}
@@ -76,7 +76,7 @@ use Rattle.sftp_view.specs.Doings.{Does, IsIdle, MayDo, going_on, one_lane}
 use Rattle.sftp_view.specs.Operations.{MayRunAll, done_by, left_by, most}
 use Rattle.view_model.specs.Caches.{CacheValue}
 use Rattle.sftp_view.specs.Views.{IsDone, IsNewView, MayView, Views, done_in}
-use Rattle.sftp_view.specs.Working.{Works, wanted}
+use Rattle.sftp_view.specs.Working.{DoesByView, wanted}
 use Rattle.sftp_view.proofs.OneCall.{later_journal}
 
 -- ---- what is done by the outcomes
@@ -96,7 +96,7 @@ pub record Begins (s : Setting) (past : List Entry) : Type 0 where
   pub before : outcomes_of past 0 ≡ []
   pub uncancelled : IsUncancelled past
 
-no_calls : (s : Setting) (past : List Entry) (b : Bool) → s.lanes ≡ one_lane → Opens b past → Begins s past
+no_calls : (s : Setting) (past : List Entry) (b : Bool) → s.lanes ≡ one_lane → OpensSession b past → Begins s past
 no_calls s past false lanes is = subst (Begins s) (sym is) (record { done = ap first_of lanes; none = refl; before = refl; uncancelled = tt })
   where
     first_of : List Lane → Option Call
@@ -241,7 +241,7 @@ module _ {S : Type 0} where
   pub view_done : (ops : List ViewOp) (before : At S) (mid new : View) (c : At S) (y z : LinkView S) (answers : List Answer) {u : Unit {0}}
       → IsOpened before.seen.given (seen_of mid.session) → before.seen.given.lanes ≡ one_lane
       → Told (Showing (seen_of mid.session).version (seen_of mid.session).stage.past) before.link.log y.log → Caused before.link y (Ok u)
-      → mid.cache.kept ≡ nothing_kept → Works (done_by ops mid) (λ l. left_by l new) (most ops) mid y new z (Ok answers)
+      → mid.cache.kept ≡ nothing_kept → DoesByView (done_by ops mid) (λ l. left_by l new) (most ops) mid y new z (Ok answers)
       → ClosesOrStops (at (seen_of new.session) z) c (Ok tt) → MayView mid.block mid.cache.capacity ops
       → Views mid.block mid.cache.capacity ops before c new.cache.kept (Ok answers)
   view_done ops before mid new c y z answers {u = u} opened one shows caused none work closes may =

@@ -15,8 +15,8 @@ use Rattle.view_model.specs.Keys.{key_of, same_key}
 use Rattle.view_model.specs.Viewed.{Doing, Found, Gathered, block_by, fetched, missed_by, pure}
 use Rattle.view_model.specs.declared.key.BlockKey.{BlockKey}
 use Rattle.sftp_view.specs.declared.ops.View.{View}
-use Rattle.sftp_view.specs.Doings.{IsIdle, MayDo, Runs}
-use Rattle.sftp_view.specs.Working.{Works, wanted}
+use Rattle.sftp_view.specs.Doings.{IsIdle, MayDo, DoesBySession}
+use Rattle.sftp_view.specs.Working.{DoesByView, wanted}
 use Rattle.sftp_view.proofs.FewLaws.{may_first}
 use Rattle.sftp_view.proofs.RunLaws.{bound, gives, no_room, no_room_then, runs_self, stopped}
 
@@ -71,16 +71,16 @@ finds_as key cache new o p is finds = subst (λ (x : Option (List ℕ)). Finds k
 module _ {S : Type 0} where
   -- no memory was there
   pub work_starved : {T U : Type 0} {f : Doing T} {r : U → Doing T} {most : ℕ} (session : SessionValue) (cache new : CacheValue) (block : ℕ) (link : LinkView S)
-      → Works f r most (view_of session cache block) link (view_of session new block) link (Err error.OutOfMemory)
+      → DoesByView f r most (view_of session cache block) link (view_of session new block) link (Err error.OutOfMemory)
   work_starved session cache new block link = record { runs = no_room (at (seen_of session) link); stays = tt }
 
   pub block_found : (block : ℕ) (session : SessionValue) (cache new : CacheValue) (path bytes : List ℕ) (key : BlockKey) (link : LinkView S)
       → IsIdle (at (seen_of session) link) → key ≡ key_of (components path) key.block → Finds key (Some bytes) cache new
-      → Works (block_of block cache path key) (λ found. pure (record { found = found; kept = new.kept })) 1
+      → DoesByView (block_of block cache path key) (λ found. pure (record { found = found; kept = new.kept })) 1
       (view_of session cache block) link (view_of session new block) link (Ok (Ok bytes))
   block_found block session cache new path bytes key link idle of finds = record {
     runs = (let here : At S = at (seen_of session) link in
-        let self : Runs (block_of block cache path key) (λ (u : Unit {0}). block_of block cache path key) here here (Ok tt) =
+        let self : DoesBySession (block_of block cache path key) (λ (u : Unit {0}). block_of block cache path key) here here (Ok tt) =
         runs_self (block_of block cache path key) tt here idle in
         gives (Ok bytes) self (is_found block cache new path bytes key of finds));
     stays = record {
@@ -92,10 +92,10 @@ module _ {S : Type 0} where
 
   -- a block that was read, where none was kept
   fetched_block : (block : ℕ) (cache mid : CacheValue) (path : List ℕ) (key : BlockKey) {a b : At S} {found : Found}
-      → key ≡ key_of (components path) key.block → Finds key None cache mid → Runs (fetched block path key.block) pure a b (Ok found)
-      → Runs (block_of block cache path key) (λ (f : Found). pure (missed_by cache.capacity key cache.kept f)) a b (Ok found)
+      → key ≡ key_of (components path) key.block → Finds key None cache mid → DoesBySession (fetched block path key.block) pure a b (Ok found)
+      → DoesBySession (block_of block cache path key) (λ (f : Found). pure (missed_by cache.capacity key cache.kept f)) a b (Ok found)
   fetched_block block cache mid path key {a = a} {b = b} {found = found} of finds run =
-      subst (λ (o : Option (List ℕ)). Runs (block_by block cache.capacity path key.block cache.kept o)
+      subst (λ (o : Option (List ℕ)). DoesBySession (block_by block cache.capacity path key.block cache.kept o)
       (λ (f : Found). pure (missed_by cache.capacity key cache.kept f)) a b (Ok found))
       finds.value
       (gives found (bound {k = λ (f : Found). pure (missed_by cache.capacity (key_of (components path) key.block) cache.kept f)} run)
@@ -104,9 +104,9 @@ module _ {S : Type 0} where
   pub block_read : (block : ℕ) (old now : SessionValue) (cache mid new : CacheValue) (path : List ℕ) (key : BlockKey)
       (link link_now : LinkView S) (found : Found)
       → key ≡ key_of (components path) key.block → Finds key None cache mid
-      → Runs (fetched block path key.block) pure (at (seen_of old) link) (at (seen_of now) link_now) (Ok found)
+      → DoesBySession (fetched block path key.block) pure (at (seen_of old) link) (at (seen_of now) link_now) (Ok found)
       → new ≡ cached mid.capacity (missed_by mid.capacity key mid.kept found).kept
-      → Works (block_of block cache path key) (λ f. pure (record { found = f; kept = new.kept })) 1
+      → DoesByView (block_of block cache path key) (λ f. pure (record { found = f; kept = new.kept })) 1
       (view_of old cache block) link (view_of now new block) link_now (Ok found)
   block_read block old now cache mid new path key link link_now found of finds run is =
       let same : new ≡ cached cache.capacity (missed_by cache.capacity key cache.kept found).kept =
@@ -123,11 +123,11 @@ module _ {S : Type 0} where
       }
 
   pub block_stopped : (block : ℕ) (old now : SessionValue) (cache mid : CacheValue) (path : List ℕ) (key : BlockKey) (link link_now : LinkView S) (e : Error)
-      {r : Found → Doing Gathered} → Runs (fetched block path key.block) pure (at (seen_of old) link) (at (seen_of now) link_now) (Err e)
-      → Works (block_of block cache path key) r 1 (view_of old cache block) link (view_of now mid block) link_now (Err e)
+      {r : Found → Doing Gathered} → DoesBySession (fetched block path key.block) pure (at (seen_of old) link) (at (seen_of now) link_now) (Err e)
+      → DoesByView (block_of block cache path key) r 1 (view_of old cache block) link (view_of now mid block) link_now (Err e)
   block_stopped block old now cache mid path key link link_now e run = record { runs = stopped run; stays = tt }
 
   pub block_lost : (block : ℕ) (old now : SessionValue) (cache new : CacheValue) (path : List ℕ) (key : BlockKey) (link link_now : LinkView S) {found : Found}
-      {r : Found → Doing Gathered} → Runs (fetched block path key.block) pure (at (seen_of old) link) (at (seen_of now) link_now) (Ok found)
-      → Works (block_of block cache path key) r 1 (view_of old cache block) link (view_of now new block) link_now (Err error.OutOfMemory)
+      {r : Found → Doing Gathered} → DoesBySession (fetched block path key.block) pure (at (seen_of old) link) (at (seen_of now) link_now) (Ok found)
+      → DoesByView (block_of block cache path key) r 1 (view_of old cache block) link (view_of now new block) link_now (Err error.OutOfMemory)
   block_lost block old now cache new path key link link_now run = record { runs = no_room_then run; stays = tt }

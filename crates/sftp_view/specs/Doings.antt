@@ -48,7 +48,7 @@ end_of (Ok x) = Ok tt
 end_of (Err e) = Err e
 
 -- By an idle session this was done as far as what is left, and the session is idle again; or it stopped.
-pub record Runs {Service T U : Type 0} (whole : Doing T) (rest : U → Doing T) (before now : At Service)
+pub record DoesBySession {Service T U : Type 0} (whole : Doing T) (rest : U → Doing T) (before now : At Service)
     (result : Result U Error) : Type 0 where
   pub ongoing : Ongoing going_on before now (end_of result)
   pub idle : OnOk result (IsIdle now)

@@ -6,7 +6,7 @@ use Rattle.session_driver.specs.Ongoing.{at}
 use Rattle.sftp_lanes.specs.Seen.{seen_of}
 use Rattle.view_model.specs.Caches.{CacheValue}
 use Rattle.view_model.specs.Viewed.{Doing}
-use Rattle.sftp_view.specs.Doings.{IsIdle, MayDo, Runs}
+use Rattle.sftp_view.specs.Doings.{IsIdle, MayDo, DoesBySession}
 use Rattle.sftp_view.specs.declared.ops.View.{View}
 
 -- how often blocks were wanted
@@ -20,10 +20,10 @@ pub record StaysView (most : ℕ) (old new : View) : Type 0 where
   pub few : wanted new.cache ≤ wanted old.cache + most
 
 -- By a view this was done as far as what is left, or it stopped.
-pub record Works {Service T U : Type 0} (whole : Doing T) (rest : U → Doing T) (most : ℕ) (old : View)
+pub record DoesByView {Service T U : Type 0} (whole : Doing T) (rest : U → Doing T) (most : ℕ) (old : View)
     (link : LinkView Service)
     (new : View) (link_now : LinkView Service) (result : Result U Error) : Type 0 where
-  pub runs : Runs whole rest (at (seen_of old.session) link) (at (seen_of new.session) link_now) result
+  pub runs : DoesBySession whole rest (at (seen_of old.session) link) (at (seen_of new.session) link_now) result
   pub stays : OnOk result (StaysView most old new)
 
 -- A view may do this: its session is idle, the calls are few, blocks have 1 to 65536 bytes, and the counts are far from

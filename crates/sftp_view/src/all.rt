@@ -2,7 +2,7 @@
 ghost use Rattle.session_driver.specs.Ongoing.{at};
 ghost use Rattle.sftp_lanes.specs.Seen.{seen_of};
 ghost use Rattle.sftp_view.specs.Operations.{MayRunAll, done_by, left_by, most};
-ghost use Rattle.sftp_view.specs.Working.{Works};
+ghost use Rattle.sftp_view.specs.Working.{DoesByView};
 
 use crate::ops::View;
 use sftp_link::Link;
@@ -20,7 +20,7 @@ impl View {
         ops: &[ViewOp],
     ) -> Result<Items<Answer>, Error>
         requires { MayRunAll ops.now self.old (L.LinkState.state link.old) }
-        ensures { Works (done_by ops.now self.old) (λ answers. left_by answers self.new) (most ops.now)
+        ensures { DoesByView (done_by ops.now self.old) (λ answers. left_by answers self.new) (most ops.now)
             self.old (L.LinkState.state link.old) self.new (L.LinkState.state link.new) result }
     {
         let mut answers = Vec::new(alloc);

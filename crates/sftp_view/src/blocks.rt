@@ -3,7 +3,7 @@ ghost use Rattle.std.specs.Prelude.{◌≡◌, ◌≤◌, ◌<◌, ◌+◌, ◌*
 ghost use Rattle.session_driver.specs.Ongoing.{at};
 ghost use Rattle.sftp_lanes.specs.Seen.{seen_of};
 ghost use Rattle.view_model.specs.Viewed.{fetched, pure, read_at, read_on};
-ghost use Rattle.sftp_view.specs.Doings.{IsIdle, MayDo, Runs};
+ghost use Rattle.sftp_view.specs.Doings.{IsIdle, MayDo, DoesBySession};
 
 use crate::call::{Found, make_call};
 use sftp_lanes::Session;
@@ -22,7 +22,7 @@ fn read_block<L: Link>(
 ) -> Result<Found, Error>
     requires idle { IsIdle (at (seen_of session.old) (L.LinkState.state link.old)) }
     requires may { MayDo (read_on block block []) (seen_of session.old).stage.past }
-    ensures { Runs (read_on block block []) pure (at (seen_of session.old) (L.LinkState.state link.old)) (at (seen_of session.new) (L.LinkState.state link.new)) result }
+    ensures { DoesBySession (read_on block block []) pure (at (seen_of session.old) (L.LinkState.state link.old)) (at (seen_of session.new) (L.LinkState.state link.new)) result }
 {
     let mut bytes = Vec::new(alloc);
     for _read in 0..block {
@@ -57,7 +57,7 @@ fn read_at<L: Link>(
     requires idle { IsIdle (at (seen_of session.old) (L.LinkState.state link.old)) }
     requires may { MayDo (read_at block n) (seen_of session.old).stage.past }
     requires fits { n * block < 2 ^ 64 }
-    ensures { Runs (read_at block n) pure (at (seen_of session.old) (L.LinkState.state link.old)) (at (seen_of session.new) (L.LinkState.state link.new)) result }
+    ensures { DoesBySession (read_at block n) pure (at (seen_of session.old) (L.LinkState.state link.old)) (at (seen_of session.new) (L.LinkState.state link.new)) result }
 {
     let _ = make_call(alloc, session, link, seek_to(n * u64::from(block)))?;
     let found = read_block(alloc, session, link, block)?;
@@ -77,7 +77,7 @@ pub fn fetch_block<L: Link>(
     requires idle { IsIdle (at (seen_of session.old) (L.LinkState.state link.old)) }
     requires may { MayDo (fetched block path.now n) (seen_of session.old).stage.past }
     requires fits { n * block < 2 ^ 64 }
-    ensures { Runs (fetched block path.now n) pure (at (seen_of session.old) (L.LinkState.state link.old)) (at (seen_of session.new) (L.LinkState.state link.new)) result }
+    ensures { DoesBySession (fetched block path.now n) pure (at (seen_of session.old) (L.LinkState.state link.old)) (at (seen_of session.new) (L.LinkState.state link.new)) result }
 {
     let open = match open_to_read(alloc, path) {
         Ok(open) => open,

@@ -7,7 +7,7 @@ ghost use Rattle.session_model.specs.Calls.{current};
 ghost use Rattle.session_work.specs.Working.{past_of};
 ghost use Rattle.sftp_lanes.specs.Seen.{seen_of, setting_at};
 ghost use Rattle.view_model.specs.Viewed.{makes, pure};
-ghost use Rattle.sftp_view.specs.Doings.{IsIdle, MayDo, Runs};
+ghost use Rattle.sftp_view.specs.Doings.{IsIdle, MayDo, DoesBySession};
 ghost use Rattle.sftp_view.specs.IdleSteps.{StepsIdly};
 
 use session_driver::run_call;
@@ -45,7 +45,7 @@ pub(crate) fn make_call<L: Link>(
 ) -> Result<Found, Error>
     requires idle { IsIdle (at (seen_of session.old) (L.LinkState.state link.old)) }
     requires may { MayDo (makes call) (seen_of session.old).stage.past }
-    ensures { Runs (makes call) pure (at (seen_of session.old) (L.LinkState.state link.old)) (at (seen_of session.new) (L.LinkState.state link.new)) result }
+    ensures { DoesBySession (makes call) pure (at (seen_of session.old) (L.LinkState.state link.old)) (at (seen_of session.new) (L.LinkState.state link.new)) result }
 {
     if step_idly(session).is_err() {
         return Err(Error::OutOfMemory);

@@ -8,8 +8,8 @@ ghost use Rattle.view_model.specs.Blocks.{block_count, first_block};
 ghost use Rattle.view_model.specs.Keys.{key_of, same_key};
 ghost use Rattle.view_model.specs.Viewed.{answered, block_by, gathered, get_by, op_by, pure, put_at, put_by, written};
 ghost use Rattle.view_model.specs.ViewOps.{is_within};
-ghost use Rattle.sftp_view.specs.Doings.{IsIdle, MayDo, Runs};
-ghost use Rattle.sftp_view.specs.Working.{MayWork, Works, wanted};
+ghost use Rattle.sftp_view.specs.Doings.{IsIdle, MayDo, DoesBySession};
+ghost use Rattle.sftp_view.specs.Working.{MayWork, DoesByView, wanted};
 
 use crate::blocks::fetch_block;
 use crate::call::Found;
@@ -45,7 +45,7 @@ impl View {
         requires of { key.now ≡ key_of (components path.now) key.now.block }
         requires fits { key.now.block * self.old.block < 2 ^ 64 }
         requires counts { self.old.cache.kept.hits + self.old.cache.kept.misses < 2 ^ 64 - 1 }
-        ensures { Works (block_by self.old.block self.old.cache.capacity path.now key.now.block self.old.cache.kept
+        ensures { DoesByView (block_by self.old.block self.old.cache.capacity path.now key.now.block self.old.cache.kept
             (lookup (same_key key.now) self.old.cache.kept.entries)) (λ found. pure (record { found = found; kept = self.new.cache.kept })) 1
             self.old (L.LinkState.state link.old) self.new (L.LinkState.state link.new) result }
     {
@@ -77,7 +77,7 @@ impl View {
         requires fits { (first + count) * self.old.block < 2 ^ 64 }
         requires some { 1 ≤ self.old.block }
         requires counts { wanted self.old.cache + count < 2 ^ 64 - 1 }
-        ensures { Works (gathered self.old.block self.old.cache.capacity path.now first count [] self.old.cache.kept)
+        ensures { DoesByView (gathered self.old.block self.old.cache.capacity path.now first count [] self.old.cache.kept)
             (λ found. pure (record { found = found; kept = self.new.cache.kept })) count
             self.old (L.LinkState.state link.old) self.new (L.LinkState.state link.new) result }
     {
@@ -118,7 +118,7 @@ impl View {
         requires some { 1 ≤ len }
         requires most { len ≤ 1048576 }
         requires far { offset ≤ 1099511627776 }
-        ensures { Works (get_by self.old.block self.old.cache.capacity path.now offset len self.old.cache.kept)
+        ensures { DoesByView (get_by self.old.block self.old.cache.capacity path.now offset len self.old.cache.kept)
             (λ a. pure (answered a self.new.cache.kept)) 2097152
             self.old (L.LinkState.state link.old) self.new (L.LinkState.state link.new) result }
     {
@@ -144,7 +144,7 @@ impl View {
         content: &ByteText,
     ) -> Result<Answer, Error>
         requires { MayWork (put_by path.now offset content.now self.old.cache.kept) self.old (L.LinkState.state link.old) }
-        ensures { Works (put_by path.now offset content.now self.old.cache.kept) (λ a. pure (answered a self.new.cache.kept)) 2097152
+        ensures { DoesByView (put_by path.now offset content.now self.old.cache.kept) (λ a. pure (answered a self.new.cache.kept)) 2097152
             self.old (L.LinkState.state link.old) self.new (L.LinkState.state link.new) result }
     {
         let answer = write_file(alloc, &mut self.session, link, path, offset, content)?;
@@ -167,7 +167,7 @@ impl View {
     ) -> Result<Answer, Error>
         requires may { MayWork (op_by self.old.block self.old.cache.capacity op.now self.old.cache.kept) self.old (L.LinkState.state link.old) }
         requires within { is_within op.now ≡ true }
-        ensures { Works (op_by self.old.block self.old.cache.capacity op.now self.old.cache.kept) (λ a. pure (answered a self.new.cache.kept)) 2097152
+        ensures { DoesByView (op_by self.old.block self.old.cache.capacity op.now self.old.cache.kept) (λ a. pure (answered a self.new.cache.kept)) 2097152
             self.old (L.LinkState.state link.old) self.new (L.LinkState.state link.new) result }
     {
         match op {

@@ -3,7 +3,7 @@ ghost use Rattle.std.specs.Prelude.{Ok};
 ghost use Rattle.session_driver.specs.Ongoing.{at};
 ghost use Rattle.sftp_lanes.specs.Seen.{seen_of};
 ghost use Rattle.view_model.specs.Viewed.{pure, put_at, written};
-ghost use Rattle.sftp_view.specs.Doings.{IsIdle, MayDo, Runs};
+ghost use Rattle.sftp_view.specs.Doings.{IsIdle, MayDo, DoesBySession};
 
 use crate::call::make_call;
 use sftp_lanes::Session;
@@ -24,7 +24,7 @@ fn put_at<L: Link>(
 ) -> Result<Answer, Error>
     requires idle { IsIdle (at (seen_of session.old) (L.LinkState.state link.old)) }
     requires may { MayDo (put_at offset content.now) (seen_of session.old).stage.past }
-    ensures { Runs (put_at offset content.now) pure (at (seen_of session.old) (L.LinkState.state link.old)) (at (seen_of session.new) (L.LinkState.state link.new)) result }
+    ensures { DoesBySession (put_at offset content.now) pure (at (seen_of session.old) (L.LinkState.state link.old)) (at (seen_of session.new) (L.LinkState.state link.new)) result }
 {
     let write = match write_all(alloc, content) {
         Ok(write) => write,
@@ -50,7 +50,7 @@ pub fn write_file<L: Link>(
 ) -> Result<Answer, Error>
     requires idle { IsIdle (at (seen_of session.old) (L.LinkState.state link.old)) }
     requires may { MayDo (written path.now offset content.now) (seen_of session.old).stage.past }
-    ensures { Runs (written path.now offset content.now) pure (at (seen_of session.old) (L.LinkState.state link.old)) (at (seen_of session.new) (L.LinkState.state link.new)) result }
+    ensures { DoesBySession (written path.now offset content.now) pure (at (seen_of session.old) (L.LinkState.state link.old)) (at (seen_of session.new) (L.LinkState.state link.new)) result }
 {
     let open = match open_to_write(alloc, path) {
         Ok(open) => open,

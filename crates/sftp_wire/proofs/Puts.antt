@@ -2,15 +2,15 @@
 use Rattle.std.proofs.Common.{◌≡◌, ◌<◌, ◌^◌, arith, ℕ, List, [], ◌++◌, length, take, refl, ap, sym, ◌∙◌, append_assoc, append-nil, Result, Ok, Err, Option}
 use Rattle.std.specs.Prelude.{OnOk}
 use Rattle.ssh_encoding.specs.declared.error.Error.{Error}
-use Rattle.ssh_encoding.specs.Writing.{Writes, len_refusal}
+use Rattle.ssh_encoding.specs.Writing.{WritesValue, len_refusal}
 use Rattle.ssh_encoding.proofs.Parts.{len_fits}
 use Rattle.sftp_wire.specs.Body.{Grows}
 
-pub written_ok : {T : Type 0} (old new list : List ℕ) (r : Result T Error) (refusal : Option Error) → Writes old new r list refusal → OnOk r (new ≡ old ++ list)
+pub written_ok : {T : Type 0} (old new list : List ℕ) (r : Result T Error) (refusal : Option Error) → WritesValue old new r list refusal → OnOk r (new ≡ old ++ list)
 written_ok old new list (Ok v) refusal h = h.0
 written_ok old new list (Err e) refusal h = tt
 
-pub written_grows : {T : Type 0} (old new list : List ℕ) (r : Result T Error) (refusal : Option Error) → Writes old new r list refusal → Grows old new
+pub written_grows : {T : Type 0} (old new list : List ℕ) (r : Result T Error) (refusal : Option Error) → WritesValue old new r list refusal → Grows old new
 written_grows old new list (Ok v) refusal h = record { more = list; is = h.0 }
 written_grows old new list (Err e) refusal h = record { more = h.0.part; is = h.0.added }
 
@@ -21,7 +21,7 @@ pub grows_trans : (old mid new : List ℕ) → Grows old mid → Grows mid new �
 grows_trans old mid new h k = record { more = h.more ++ k.more; is = k.is ∙ ap (λ (l : List ℕ). l ++ k.more) h.is ∙ append_assoc old h.more k.more }
 
 -- a length that was written fits four bytes
-pub written_small : {T : Type 0} (old new list : List ℕ) (r : Result T Error) (n : ℕ) → Writes old new r list (len_refusal n) → OnOk r (n < 2 ^ 32)
+pub written_small : {T : Type 0} (old new list : List ℕ) (r : Result T Error) (n : ℕ) → WritesValue old new r list (len_refusal n) → OnOk r (n < 2 ^ 32)
 written_small old new list (Ok v) n h = omega (arith, len_fits n h.1)
 written_small old new list (Err e) n h = tt
 

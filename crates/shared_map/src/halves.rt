@@ -100,7 +100,7 @@ fn send_to(server: &mut MapServer, bytes: &[u8]) -> Result<usize, OutOfMemory>
     }
 }
 
-/// Takes some bytes into the front of the room, and answers how many, 0 where nothing waits. Refused for want of memory.
+/// Takes some bytes into the start of the room, and answers how many, 0 where nothing waits. Refused for want of memory.
 fn recv_from(server: &mut MapServer, room: &mut [u8]) -> Result<usize, OutOfMemory>
     requires { 0 < length room.old }
     ensures { IfOk result (λ n. n ≤ length room.new) }

@@ -30,7 +30,7 @@ use Rattle.std.specs.Prelude.{IsErrAnd, OnOk, IfErr, cond, Bool}
 use Rattle.ssh_encoding.specs.declared.error.Error.{Error}
 use Rattle.std.proofs.lemmas.Bool.{le-ltb, lt-ltb, ltb-false}
 use Rattle.ssh_encoding.specs.declared.error.Error.TheVariants.{OutOfMemory, Length, Overflow}
-use Rattle.ssh_encoding.specs.Writing.{IsPart, Writes, max_usize, max_uint32, len_refusal, prefixed_refusal, or_else}
+use Rattle.ssh_encoding.specs.Writing.{IsPart, WritesValue, max_usize, max_uint32, len_refusal, prefixed_refusal, or_else}
 
 pub part_none : (old new list : List ℕ) → new ≡ old → IsPart old new list
 part_none old new list h = record { part = []; more = list; whole = refl; added = h ∙ sym (append-nil old) }
@@ -52,19 +52,19 @@ pub ruleset parts = (part_none, part_more, part_after, append_assoc)
 -- the first of two lists is refused
 pub stops : {T : Type 0} (old new a b : List ℕ) (r : Result T Error) (e : Error) (first all : Option Error)
     → IsErrAnd r (λ d. d ≡ e) → IsPart old new a × ((e ≡ OutOfMemory) ⊎ (first ≡ Some e))
-    → (first ≡ Some e → all ≡ Some e) → Writes old new r (a ++ b) all
+    → (first ≡ Some e → all ≡ Some e) → WritesValue old new r (a ++ b) all
 stops old new a b (Ok v) e first all s h k = absurd s
 stops old new a b (Err d) e first all s h k = rw s (part_more old new a b h.0, elim h.1 [ inl m ↦ inl m | inr q ↦ inr (k q) ])
 
 -- the first of two lists was written
 pub goes : {T : Type 0} (old mid new a b : List ℕ) (r : Result T Error) (refusal : Option Error) → mid ≡ old ++ a
-    → Writes mid new r b refusal → Writes old new r (a ++ b) refusal
+    → WritesValue mid new r b refusal → WritesValue old new r (a ++ b) refusal
 goes old mid new a b (Ok v) refusal m h = (h.0 ∙ ap (λ l. l ++ b) m ∙ append_assoc old a b, h.1)
 goes old mid new a b (Err e) refusal m h = (part_after old mid new a b m h.0, h.1)
 
 -- what `usize` can't hold is refused before anything is written
 pub too_long : {T : Type 0} (old list : List ℕ) (r : Result T Error) (e : Error) (n : ℕ) (last : Option Error)
-    → IsErrAnd r (λ d. d ≡ e) → (e ≡ Length) × (max_usize < n) → Writes old old r list (prefixed_refusal n last)
+    → IsErrAnd r (λ d. d ≡ e) → (e ≡ Length) × (max_usize < n) → WritesValue old old r list (prefixed_refusal n last)
 unfolding prefixed_refusal
 too_long old list (Ok v) e n last s h = absurd s
 too_long old list (Err d) e n last s h =
@@ -95,6 +95,6 @@ len_fits n h = len_fits_at n (ltb max_uint32 n) refl h
 
 -- what can only be refused for want of memory
 pub never_refused : {T : Type 0} (old new list : List ℕ) (r : Result T Error) → OnOk r (new ≡ old ++ list)
-    → IfErr r (λ e. (e ≡ OutOfMemory) × IsPart old new list) → Writes old new r list None
+    → IfErr r (λ e. (e ≡ OutOfMemory) × IsPart old new list) → WritesValue old new r list None
 never_refused old new list (Ok v) ok err = (ok, refl)
 never_refused old new list (Err e) ok err = (err.1, inl err.0)

@@ -253,7 +253,7 @@ unfolding prefix_at
 prefix_again bytes v rest h =
     let e : bytes ≡ h.is.head ++ (v ++ rest) = h.splits ∙ ap (λ (l : List ℕ). l ++ rest) h.is.is
     ∙ append_assoc h.is.head v rest in
-    let front : take 4 (h.is.head ++ (v ++ rest)) ≡ h.is.head = take_at h.is.head (v ++ rest) 4 h.is.counts.len in
+    let prefix : take 4 (h.is.head ++ (v ++ rest)) ≡ h.is.head = take_at h.is.head (v ++ rest) 4 h.is.counts.len in
     let back : drop 4 (h.is.head ++ (v ++ rest)) ≡ v ++ rest = drop_at h.is.head (v ++ rest) 4 h.is.counts.len in
     let long : ltb (length (h.is.head ++ (v ++ rest))) 4 ≡ false =
     le-ltb _ _ (omega (arith, length-append h.is.head (v ++ rest), h.is.counts.len)) in
@@ -262,7 +262,7 @@ prefix_again bytes v rest h =
     rw (
       e,
       long,
-      front,
+      prefix,
       ← h.is.counts.value,
       small,
       back,
@@ -373,10 +373,10 @@ text_shorter bytes rest v h =
       h.is.is.counts.len,
     ) (omega arith)
 
-with_prefix_ok : (front : List (List ℕ)) (r : Result (List (List ℕ) × List ℕ) Error) (y : List (List ℕ) × List ℕ)
-    → with_prefix front r ≡ Ok y
-    → (x : List (List ℕ) × List ℕ) × (r ≡ Ok x) × ((front ++ x.0, x.1) ≡ y)
-with_prefix_ok front r y e = let b = bind_ok r (λ x. Ok (front ++ x.0, x.1)) y e in (b.0, b.1, ok_is _ _ b.2)
+with_prefix_ok : (prefix : List (List ℕ)) (r : Result (List (List ℕ) × List ℕ) Error) (y : List (List ℕ) × List ℕ)
+    → with_prefix prefix r ≡ Ok y
+    → (x : List (List ℕ) × List ℕ) × (r ≡ Ok x) × ((prefix ++ x.0, x.1) ≡ y)
+with_prefix_ok prefix r y e = let b = bind_ok r (λ x. Ok (prefix ++ x.0, x.1)) y e in (b.0, b.1, ok_is _ _ b.2)
 
 -- what is read to the end are texts, and nothing is left
 pub record AllTexts (vs : List (List ℕ)) (bytes rest : List ℕ) : Type 0 where
@@ -402,10 +402,10 @@ texts_takes (suc most) (b ∷ bytes) y h e =
       none = later.none;
     }
 
-text_not_empty : (v front back : List ℕ) → IsText v front → [] ≡ front ++ back → ⊥
-text_not_empty v front back h e =
-    let n = text_shorter (front ++ back) back v record { text = front; is = h; splits = refl } in
-    let l : length (front ++ back) ≡ 0 = sym (ap (λ l. length l) e) in
+text_not_empty : (v prefix back : List ℕ) → IsText v prefix → [] ≡ prefix ++ back → ⊥
+text_not_empty v prefix back h e =
+    let n = text_shorter (prefix ++ back) back v record { text = prefix; is = h; splits = refl } in
+    let l : length (prefix ++ back) ≡ 0 = sym (ap (λ l. length l) e) in
     omega (arith, n, l)
 
 texts_again : (most : ℕ) (vs : List (List ℕ)) (bytes : List ℕ) → length bytes ≤ most → AreTexts vs bytes

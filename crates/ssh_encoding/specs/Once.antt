@@ -31,15 +31,15 @@ len_once v a b p q h k = number_once v a b p q h.is k.is
 pub array_once : (n : ℕ) (v a b : List ℕ) → AreBytes a → AreBytes b → IsArray n v a → IsArray n v b → a ≡ b
 array_once n v a b p q h k = h.is ∙ sym k.is
 
--- the front of a list of bytes
-front_bytes : (a front back : List ℕ) → a ≡ front ++ back → AreBytes a → AreBytes front
+-- the prefix of a list of bytes
+front_bytes : (a prefix back : List ℕ) → a ≡ prefix ++ back → AreBytes a → AreBytes prefix
 front_bytes a [] back e h i = grind arith
-front_bytes a (x ∷ front) back e h zero = rw e at (h 0)
-front_bytes a (x ∷ front) back e h (suc i) = front_bytes (front ++ back) front back refl (λ j. rw e at (h (suc j))) i
+front_bytes a (x ∷ prefix) back e h zero = rw e at (h 0)
+front_bytes a (x ∷ prefix) back e h (suc i) = front_bytes (prefix ++ back) prefix back refl (λ j. rw e at (h (suc j))) i
 
-back_bytes : (a front back : List ℕ) → a ≡ front ++ back → AreBytes a → AreBytes back
+back_bytes : (a prefix back : List ℕ) → a ≡ prefix ++ back → AreBytes a → AreBytes back
 back_bytes a [] back e h = λ i. rw e at (h i)
-back_bytes a (x ∷ front) back e h = back_bytes (front ++ back) front back refl (λ j. rw e at (h (suc j)))
+back_bytes a (x ∷ prefix) back e h = back_bytes (prefix ++ back) prefix back refl (λ j. rw e at (h (suc j)))
 
 pub string_once : (v a b : List ℕ) → AreBytes a → AreBytes b → IsString v a → IsString v b → a ≡ b
 string_once v a b p q h k =
@@ -56,9 +56,9 @@ mpint_once v a b p q h k = string_once v a b p q h.is k.is
 texts_once : (vs : List (List ℕ)) (a b : List ℕ) → AreBytes a → AreBytes b → AreTexts vs a → AreTexts vs b → a ≡ b
 texts_once [] a b p q h k = h ∙ sym k
 texts_once (v ∷ vs) a b p q h k =
-    let front = text_once v h.0 k.0 (front_bytes a h.0 h.1 h.4 p) (front_bytes b k.0 k.1 k.4 q) h.2 k.2 in
+    let prefix = text_once v h.0 k.0 (front_bytes a h.0 h.1 h.4 p) (front_bytes b k.0 k.1 k.4 q) h.2 k.2 in
     let back = texts_once vs h.1 k.1 (back_bytes a h.0 h.1 h.4 p) (back_bytes b k.0 k.1 k.4 q) h.3 k.3 in
-    h.4 ∙ ap (λ l. l ++ h.1) front ∙ ap (λ l. k.0 ++ l) back ∙ sym k.4
+    h.4 ∙ ap (λ l. l ++ h.1) prefix ∙ ap (λ l. k.0 ++ l) back ∙ sym k.4
 
 pub text_list_once : (vs : List (List ℕ)) (a b : List ℕ) → AreBytes a → AreBytes b → IsTextList vs a → IsTextList vs b
     → a ≡ b

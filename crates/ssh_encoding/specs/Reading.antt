@@ -40,8 +40,8 @@ use Rattle.ssh_encoding.specs.declared.error.Error.TheVariants as errors
 
 -- xs ends in ys
 pub record IsSuffix (ys xs : List ℕ) : Type 0 where
-  pub front : List ℕ
-  pub is : xs ≡ front ++ ys
+  pub prefix : List ℕ
+  pub is : xs ≡ prefix ++ ys
 
 -- What `decode` returned, with `rest` left, is what the reading gives, unless the error tells of memory.
 abbrev pub DecodesAs : {T S E : Type 0} → (T → S) → (E → Type 0) → List ℕ → Result T E → Result (S × List ℕ) E → Type 0

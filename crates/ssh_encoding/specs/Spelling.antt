@@ -61,8 +61,8 @@ pub record IsText (v text : List ℕ) : Type 0 where
 -- texts one after another
 abbrev pub AreTexts : List (List ℕ) → List ℕ → Type 0
 AreTexts [] content = content ≡ []
-AreTexts (v ∷ vs) content = (front : List ℕ) × (back : List ℕ) × IsText v front × AreTexts vs back
-    × (content ≡ front ++ back)
+AreTexts (v ∷ vs) content = (prefix : List ℕ) × (back : List ℕ) × IsText v prefix × AreTexts vs back
+    × (content ≡ prefix ++ back)
 
 -- a string that holds texts to its end
 pub record IsTextList (vs : List (List ℕ)) (text : List ℕ) : Type 0 where

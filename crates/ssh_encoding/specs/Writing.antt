@@ -79,9 +79,9 @@ pub record IsPart (old new list : List ℕ) : Type 0 where
   pub added : new ≡ old ++ part
 
 -- What `encode` does to a writer that held old and then holds new.
-abbrev pub Writes : {T : Type 0} → List ℕ → List ℕ → Result T Error → List ℕ → Option Error → Type 0
-Writes old new (Ok v) list refusal = (new ≡ old ++ list) × (refusal ≡ None)
-Writes old new (Err e) list refusal = IsPart old new list × ((e ≡ errors.OutOfMemory) ⊎ (refusal ≡ Some e))
+abbrev pub WritesValue : {T : Type 0} → List ℕ → List ℕ → Result T Error → List ℕ → Option Error → Type 0
+WritesValue old new (Ok v) list refusal = (new ≡ old ++ list) × (refusal ≡ None)
+WritesValue old new (Err e) list refusal = IsPart old new list × ((e ≡ errors.OutOfMemory) ⊎ (refusal ≡ Some e))
 
 -- A number of bytes, or that it is over the greatest `usize`.
 abbrev pub Counts : Result ℕ Error → ℕ → Type 0

@@ -1,6 +1,6 @@
 ghost use Rattle.std.specs.Prelude.{◌≡◌, ℕ, List, ◌++◌, OnOk, OnErr};
 ghost use Rattle.std.proofs.Common.{◌∙◌, refl};
-ghost use Rattle.ssh_encoding.specs.Writing.{IsPart, Writes};
+ghost use Rattle.ssh_encoding.specs.Writing.{IsPart, WritesValue};
 
 use crate::encode::Encode;
 use crate::error::Error;
@@ -41,7 +41,7 @@ impl<'d, D: Absorb> Writer for DigestWriter<'d, D> {
 
 /// Writes a value into what absorbs its bytes.
 pub fn absorb_value<D: Absorb, T: Encode>(value: &T, digest: &mut D) -> Result<(), Error>
-    ensures { Writes (D.absorbed digest.old) (D.absorbed digest.new) result (T.written value.now) (T.refusal value.now) }
+    ensures { WritesValue (D.absorbed digest.old) (D.absorbed digest.new) result (T.written value.now) (T.refusal value.now) }
 {
     let mut writer = DigestWriter(digest);
     value.encode(&mut writer)

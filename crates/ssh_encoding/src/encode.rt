@@ -1,6 +1,6 @@
 ghost use Rattle.std.specs.Prelude.{◌≡◌, ◌∷◌, [], ◌+◌, ℕ, List, Option, None, length, IfOk, IfErr};
 ghost use Rattle.ssh_encoding.specs.declared.error.Error.{Error};
-ghost use Rattle.ssh_encoding.specs.Writing.{Writes, Counts, RefusesBuffer, uint32, uint64, flag, string, len_refusal, prefixed_refusal};
+ghost use Rattle.ssh_encoding.specs.Writing.{WritesValue, Counts, RefusesBuffer, uint32, uint64, flag, string, len_refusal, prefixed_refusal};
 
 use crate::error::Error;
 use crate::sums::add_lens;
@@ -24,7 +24,7 @@ pub trait Encode {
     /// that is written passes `u32::MAX`, `OutOfMemory` from the writer; the writer then holds what it held and
     /// a prefix of the value's bytes.
     fn encode<W: Writer>(&self, writer: &mut W) -> Result<(), Error>
-        ensures writes { Writes (W.wrote writer.old) (W.wrote writer.new) result (written self.now) (refusal self.now) }
+        ensures writes { WritesValue (W.wrote writer.old) (W.wrote writer.new) result (written self.now) (refusal self.now) }
         ensures same { W.goes_to writer.old writer.new };
 
     /// The number of bytes that [`Encode::encode_prefixed`] appends. `Length` where it is over `usize::MAX`.
@@ -37,7 +37,7 @@ pub trait Encode {
     /// Appends the length of the value's bytes, a uint32, and then the bytes. Refused as [`Encode::encode`], and
     /// `Overflow` where that length passes `u32::MAX`.
     final fn encode_prefixed<W: Writer>(&self, writer: &mut W) -> Result<(), Error>
-        ensures writes { Writes (W.wrote writer.old) (W.wrote writer.new) result (string (written self.now)) (prefixed_refusal (length (written self.now)) (refusal self.now)) }
+        ensures writes { WritesValue (W.wrote writer.old) (W.wrote writer.new) result (string (written self.now)) (prefixed_refusal (length (written self.now)) (refusal self.now)) }
         ensures same { W.goes_to writer.old writer.new }
     {
         self.encoded_len()?.encode(writer)?;

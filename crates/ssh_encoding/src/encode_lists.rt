@@ -1,7 +1,7 @@
 //! Lists of strings: a string that holds strings to its end.
 ghost use Rattle.std.specs.Prelude.{◌≡◌, ◌++◌, ◌≤◌, ℕ, List, length, None, OnOk, IfErr};
 ghost use Rattle.std.specs.List.{flat_map};
-ghost use Rattle.ssh_encoding.specs.Writing.{Writes, Counts, IsPart, string, prefixed_refusal};
+ghost use Rattle.ssh_encoding.specs.Writing.{WritesValue, Counts, IsPart, string, prefixed_refusal};
 
 use crate::encode::Encode;
 use crate::encode_strings::Rfc4251String;
@@ -35,7 +35,7 @@ fn write_strings<T: Rfc4251String, W: Writer>(items: &[T], writer: &mut W) -> Re
 
 /// Writes a list of strings as a string that holds them.
 fn write_list<T: Rfc4251String, W: Writer>(items: &[T], writer: &mut W) -> Result<(), Error>
-    ensures writes { Writes (W.wrote writer.old) (W.wrote writer.new) result (string (flat_map T.Encode.written items.now)) (prefixed_refusal (length (flat_map T.Encode.written items.now)) None) }
+    ensures writes { WritesValue (W.wrote writer.old) (W.wrote writer.new) result (string (flat_map T.Encode.written items.now)) (prefixed_refusal (length (flat_map T.Encode.written items.now)) None) }
     ensures same { W.goes_to writer.old writer.new }
 {
     strings_len(items)?.encode(writer)?;

@@ -1,7 +1,7 @@
 //! Strings: a length and that many bytes.
 ghost use Rattle.std.specs.Prelude.{◌≡◌, ◌+◌, ℕ, List, length, refl};
 ghost use Rattle.std.specs.String.{string_bytes};
-ghost use Rattle.ssh_encoding.specs.Writing.{Writes, Counts, string, string_refusal};
+ghost use Rattle.ssh_encoding.specs.Writing.{WritesValue, Counts, string, string_refusal};
 
 use crate::encode::Encode;
 use crate::error::Error;
@@ -32,7 +32,7 @@ fn string_len(bytes: &[u8]) -> Result<usize, Error>
 /// Writes bytes as a string.
 #[tactic(auto, using(crate::proofs::Parts::parts), unfolding(crate::specs::Writing::string))]
 fn write_string<W: Writer>(bytes: &[u8], writer: &mut W) -> Result<(), Error>
-    ensures writes { Writes (W.wrote writer.old) (W.wrote writer.new) result (string bytes.now) (string_refusal bytes.now) }
+    ensures writes { WritesValue (W.wrote writer.old) (W.wrote writer.new) result (string bytes.now) (string_refusal bytes.now) }
     ensures same { W.goes_to writer.old writer.new }
 {
     bytes.len().encode(writer)?;

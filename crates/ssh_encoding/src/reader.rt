@@ -26,7 +26,7 @@ pub trait Reader: Sized + Drop {
         ensures rest { IsSuffix (left self.new) (left self.old) };
 
     /// The next `n` bytes as a reader of their own. Nothing is read.
-    fn front(&self, n: usize) -> Self
+    fn prefix(&self, n: usize) -> Self
         requires { n ≤ length (left self.now) }
         ensures { left result ≡ take n (left self.now) };
 
@@ -146,7 +146,7 @@ pub trait Reader: Sized + Drop {
         if self.remaining_len() < n {
             return Err(Error::Length);
         }
-        Ok(self.front(n))
+        Ok(self.prefix(n))
     }
 
     /// Reads a length of four bytes and lends that many bytes to `f`. After Ok this reader stands after them,
@@ -200,7 +200,7 @@ impl<'a> Reader for &'a [u8] {
         Ok(())
     }
 
-    fn front(&self, n: usize) -> &'a [u8] {
+    fn prefix(&self, n: usize) -> &'a [u8] {
         let all: &'a [u8] = *self;
         &all[..n]
     }

@@ -117,9 +117,9 @@ abbrev pub OpensBy : ℕ → Name → FilesAt → Reply × FileTree → Found �
 OpensBy flags name before (reply.Status code message language, left) found now = (found ≡ Err code) × (now ≡ before)
 OpensBy flags name before (other, left) found now = (found ≡ Ok []) × OpensNode flags left (node_at left name) now
 
-abbrev pub Seeks : ℕ → FilesAt → Option Standing → FilesAt → Type 0
-Seeks n before None now = ⊥
-Seeks n before (Some s) now = now ≡ standing before.tree (record s { offset = n })
+abbrev pub SeeksFile : ℕ → FilesAt → Option Standing → FilesAt → Type 0
+SeeksFile n before None now = ⊥
+SeeksFile n before (Some s) now = now ≡ standing before.tree (record s { offset = n })
 
 -- the file has no byte there
 pub record TellsEnd (s : Standing) (before : FilesAt) (found : Found) (now : FilesAt) : Type 0 where
@@ -156,18 +156,18 @@ pub record WritesAt (write_len : ℕ) (bytes : List ℕ) (s : Standing) (before 
       (put_pieces before.tree s.file s.offset (pieces (length bytes) write_len bytes)).1
       (record s { offset = to })
 
-abbrev pub Writes : ℕ → List ℕ → FilesAt → Option Standing → Found → FilesAt → Type 0
-Writes write_len bytes before None found now = ⊥
-Writes write_len bytes before (Some s) found now = WritesAt write_len bytes s before found now
+abbrev pub WritesFile : ℕ → List ℕ → FilesAt → Option Standing → Found → FilesAt → Type 0
+WritesFile write_len bytes before None found now = ⊥
+WritesFile write_len bytes before (Some s) found now = WritesAt write_len bytes s before found now
 
 -- one call, where a WRITE carries at most `write_len` bytes
 abbrev pub Did : ℕ → FilesAt → Call → Found → FilesAt → Type 0
 Did write_len before (call.OpenFile slot options path) found now =
     OpensBy (flags_of options).0 (components path) before
     (after_open before.tree [] (flags_of options).0 (components path) (node_at before.tree (components path))) found now
-Did write_len before (call.Seek slot (position.Start n)) found now = Seeks n before before.slot now
+Did write_len before (call.Seek slot (position.Start n)) found now = SeeksFile n before before.slot now
 Did write_len before (call.Read slot n) found now = ReadsFound n before before.slot found now
-Did write_len before (call.WriteAll slot bytes) found now = Writes write_len bytes before before.slot found now
+Did write_len before (call.WriteAll slot bytes) found now = WritesFile write_len bytes before before.slot found now
 Did write_len before (call.Close slot) found now = now ≡ at_rest before.tree
 Did write_len before other found now = ⊥
 

@@ -54,7 +54,7 @@ use Rattle.sftp_script.specs.Lines.{
   within,
   words_of,
 }
-use Rattle.sftp_script.specs.Refusals.{Refuses, RefusesIn, RefusesScript}
+use Rattle.sftp_script.specs.Refusals.{RefusesLine, RefusesIn, RefusesScript}
 use Rattle.sftp_script.specs.Scripts.{MAX_SCRIPT_LEN}
 use Rattle.sftp_script.specs.Setup.{Draft, setup_line}
 use Rattle.sftp_script.proofs.SetupLaws.{setup_kept}
@@ -69,7 +69,7 @@ use Rattle.view_lists.specs.Lists.{ViewDraft, any_line, content_in, get_line, li
 
 -- one that is refused
 pub setup_refuses : (d : ViewDraft) (read : Option (Result Draft Reason)) (other : Result ViewDraft Reason) (e : LineError) → RefusesIn read e
-    → Refuses (or_read (with_setup d read) other) e
+    → RefusesLine (or_read (with_setup d read) other) e
 setup_refuses d None other e refused = absurd refused
 setup_refuses d (Some (Ok draft)) other line.OutOfMemory refused = tt
 setup_refuses d (Some (Ok draft)) other (line.Refused why) refused = absurd (let both : Ok draft ≡ Err why = refused in cc)

@@ -1,7 +1,7 @@
 //! Lists of operations are read from their lines.
 ghost use Rattle.std.specs.Prelude.{◌≡◌, ◌≤◌, IfErr, IfOk, Ok, OnOk};
 ghost use Rattle.sftp_script.specs.Lines.{three_words, two_words, number_in, words_of};
-ghost use Rattle.sftp_script.specs.Refusals.{Refuses, RefusesScript};
+ghost use Rattle.sftp_script.specs.Refusals.{RefusesLine, RefusesScript};
 ghost use Rattle.view_model.specs.ViewOps.{count};
 ghost use Rattle.view_lists.specs.CanView.{CanView};
 ghost use Rattle.view_lists.specs.Lists.{any_line, content_in, get_line, line_by, list_of, nothing_read, op_line, put_line, with_op};
@@ -82,7 +82,7 @@ fn count_of(block: u32, op: &ViewOp) -> u64
 fn content_in(alloc: Global, offset: u64, word: &[u8]) -> Result<ByteText, LineError>
     requires { offset ≤ 16777216 }
     ensures ok { IfOk result (λ content. content_in offset word.now ≡ Ok content) }
-    ensures refused { IfErr result (λ e. Refuses (content_in offset word.now) e) }
+    ensures refused { IfErr result (λ e. RefusesLine (content_in offset word.now) e) }
 {
     let content = bytes_in(alloc, word)?;
     if offset + content.as_slice().len() as u64 > MAX_END {
@@ -95,7 +95,7 @@ fn content_in(alloc: Global, offset: u64, word: &[u8]) -> Result<ByteText, LineE
 #[tactic(auto, using(sftp_script::proofs::Counts::not_two))]
 fn refuses_nothing(line: &[u8]) -> Result<(), LineError>
     ensures ok { OnOk result (two_words (λ a b. number_in 0 0 a) (words_of line.now) ≡ Ok 0) }
-    ensures refused { IfErr result (λ e. Refuses (two_words (λ a b. number_in 0 0 a) (words_of line.now)) e) }
+    ensures refused { IfErr result (λ e. RefusesLine (two_words (λ a b. number_in 0 0 a) (words_of line.now)) e) }
 {
     let (refuse, _) = two_words(line)?;
     number_in(0, 0, refuse)?;
@@ -129,7 +129,7 @@ impl ViewDraft {
     #[tactic(auto, using(crate::proofs::ListLaws::sum_more))]
     fn add_op(&mut self, op: ViewOp) -> Result<(), LineError>
         ensures ok { OnOk result (with_op self.old op ≡ Ok self.new) }
-        ensures refused { IfErr result (λ e. Refuses (with_op self.old op) e) }
+        ensures refused { IfErr result (λ e. RefusesLine (with_op self.old op) e) }
     {
         let counted = self.counted + count_of(self.block, &op);
         if counted > COUNT_LIMIT {
@@ -149,7 +149,7 @@ impl ViewDraft {
         len: &[u8],
     ) -> Result<(), LineError>
         ensures ok { OnOk result (get_line self.old name.now offset.now len.now ≡ Ok self.new) }
-        ensures refused { IfErr result (λ e. Refuses (get_line self.old name.now offset.now len.now) e) }
+        ensures refused { IfErr result (λ e. RefusesLine (get_line self.old name.now offset.now len.now) e) }
     {
         let name = bytes_in(alloc, name)?;
         let offset = number_in(0, MAX_OFFSET, offset)?;
@@ -166,7 +166,7 @@ impl ViewDraft {
         content: &[u8],
     ) -> Result<(), LineError>
         ensures ok { OnOk result (put_line self.old name.now offset.now content.now ≡ Ok self.new) }
-        ensures refused { IfErr result (λ e. Refuses (put_line self.old name.now offset.now content.now) e) }
+        ensures refused { IfErr result (λ e. RefusesLine (put_line self.old name.now offset.now content.now) e) }
     {
         let name = bytes_in(alloc, name)?;
         let offset = number_in(0, MAX_END, offset)?;
@@ -182,7 +182,7 @@ impl ViewDraft {
     #[tactic(auto, using(sftp_script::proofs::Counts::not_three))]
     fn get_line(&mut self, alloc: Global, line: &[u8]) -> Result<(), LineError>
         ensures ok { OnOk result (three_words (get_line self.old) (words_of line.now) ≡ Ok self.new) }
-        ensures refused { IfErr result (λ e. Refuses (three_words (get_line self.old) (words_of line.now)) e) }
+        ensures refused { IfErr result (λ e. RefusesLine (three_words (get_line self.old) (words_of line.now)) e) }
     {
         let (name, offset, len) = three_words(line)?;
         self.add_get(alloc, name, offset, len)
@@ -192,7 +192,7 @@ impl ViewDraft {
     #[tactic(auto, using(sftp_script::proofs::Counts::not_three))]
     fn put_line(&mut self, alloc: Global, line: &[u8]) -> Result<(), LineError>
         ensures ok { OnOk result (three_words (put_line self.old) (words_of line.now) ≡ Ok self.new) }
-        ensures refused { IfErr result (λ e. Refuses (three_words (put_line self.old) (words_of line.now)) e) }
+        ensures refused { IfErr result (λ e. RefusesLine (three_words (put_line self.old) (words_of line.now)) e) }
     {
         let (name, offset, content) = three_words(line)?;
         self.add_put(alloc, name, offset, content)
@@ -201,7 +201,7 @@ impl ViewDraft {
     /// A line of an operation, by its first word.
     fn op_line(&mut self, alloc: Global, word: &[u8], line: &[u8]) -> Result<(), LineError>
         ensures ok { OnOk result (op_line self.old word.now (words_of line.now) ≡ Ok self.new) }
-        ensures refused { IfErr result (λ e. Refuses (op_line self.old word.now (words_of line.now)) e) }
+        ensures refused { IfErr result (λ e. RefusesLine (op_line self.old word.now (words_of line.now)) e) }
     {
         if word == GET {
             self.get_line(alloc, line)
@@ -216,7 +216,7 @@ impl ViewDraft {
 /// A line but for what it says of choices: one of setup, or one of an operation.
 fn any_line(alloc: Global, draft: &mut ViewDraft, word: &[u8], line: &[u8]) -> Result<(), LineError>
     ensures ok { OnOk result (any_line draft.old word.now (words_of line.now) ≡ Ok draft.new) }
-    ensures refused { IfErr result (λ e. Refuses (any_line draft.old word.now (words_of line.now)) e) }
+    ensures refused { IfErr result (λ e. RefusesLine (any_line draft.old word.now (words_of line.now)) e) }
 {
     if draft.draft.read_setup(alloc, word, line)? {
         return Ok(());

@@ -4,7 +4,7 @@ use Rattle.sftp_lanes.specs.Complete.{StopsForMemory}
 use Rattle.sftp_lanes.specs.Seen.{given, seen_of}
 use Rattle.sftp_lanes.proofs.Reporting.{reported, reported_stops}
 use Rattle.session_driver.specs.Session.{Given}
-use Rattle.session_driver.specs.Logs.{Ends}
+use Rattle.session_driver.specs.Logs.{EndsSession}
 use Rattle.sftp_link.specs.Told.{Told}
 use Rattle.std.proofs.Common.{subst}
 use Rattle.sftp_lanes.proofs.driver.run_lanes.Goals as goal
@@ -12,7 +12,7 @@ use Rattle.sftp_lanes.proofs.driver.run_lanes.Goals as goal
 pub returns-in_err-run_session-clause-stops : goal.returns-in_err-run_session-clause-stops
 returns-in_err-run_session-clause-stops g c =
     rw (escaped c.from_residual.result c.in_err-run_session.field-0.0 c.from_residual.ensures.1)
-    (subst (λ (x : Given). Told (Ends x c.args.schedule.now (g.L.LinkState.state c.run_session.new.link).ended
+    (subst (λ (x : Given). Told (EndsSession x c.args.schedule.now (g.L.LinkState.state c.run_session.new.link).ended
     c.in_err-run_session.field-0.0) (g.L.LinkState.state c.args.link.now).log
     (g.L.LinkState.state c.run_session.new.link).log) c.in-Ok.ensures.made_of c.in_err-run_session.ensures.stops)
 

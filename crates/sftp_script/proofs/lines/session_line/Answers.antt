@@ -4,11 +4,11 @@ use Rattle.sftp_script.specs.declared.reason.Reason.{Reason}
 use Rattle.sftp_script.specs.Lines.{words_of}
 use Rattle.sftp_script.specs.Setup.{Draft}
 use Rattle.sftp_script.specs.Scripts.{call_in, call_line, session_line}
-use Rattle.sftp_script.specs.Refusals.{Refuses}
+use Rattle.sftp_script.specs.Refusals.{RefusesLine}
 use Rattle.sftp_script.proofs.lines.session_line.Goals as goal
 
 pub returns-else-eq-5-clause-refused : goal.returns-else-eq-5-clause-refused
 returns-else-eq-5-clause-refused c =
     let same : session_line c.args.draft.now c.args.word.now (words_of c.args.line.now)
     ≡ call_line c.args.draft.now (call_in c.args.word.now (words_of c.args.line.now)) = search rules in
-    subst (λ (read : Result Draft Reason). IfErr c.call_line.result (λ e. Refuses read e)) (sym same) c.call_line.ensures.refused
+    subst (λ (read : Result Draft Reason). IfErr c.call_line.result (λ e. RefusesLine read e)) (sym same) c.call_line.ensures.refused

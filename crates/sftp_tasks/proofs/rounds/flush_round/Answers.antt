@@ -9,7 +9,7 @@ use Rattle.sftp_model.specs.Pieces.{joined}
 use Rattle.sftp_tasks.specs.declared.frames.Handed.{Handed}
 use Rattle.sftp_tasks.specs.Entries.{by_failing, by_flush, by_nothing}
 use Rattle.sftp_tasks.specs.LockedEvents.{HandingOut, tells}
-use Rattle.sftp_tasks.specs.Rounds.{FlushStops, Flushed, Flushes}
+use Rattle.sftp_tasks.specs.Rounds.{FlushStops, Flushed, FlushesRound}
 use Rattle.sftp_tasks.specs.Shows.{shown_of}
 use Rattle.sftp_tasks.proofs.CallLaws.{settled_err, settled_ok}
 use Rattle.sftp_tasks.proofs.RoundLaws.{flush_then_failing, flush_then_nothing, hand_refused, handed_none, noted}
@@ -25,8 +25,8 @@ returns-in-Ok-None-clause-flushes g c =
     let n = c.apply-did.new.self.inner.me in
     let before = g.O.LinkState.state c.args.out.now in
     let is = c.in-Ok-None.is ∙ ap (λ o. Ok o) c.in-Ok-None.field-0-is in
-    subst (λ (r : Result Bool Error). IfOk r (λ did. Flushes did m n before before)) (sym c.settle.ensures)
-    (settled_ok false c.apply-did.result.1 (λ did. Flushes did m n before before) (handed_none m n before c.apply-did.result.0 is c.apply-did.ensures.held))
+    subst (λ (r : Result Bool Error). IfOk r (λ did. FlushesRound did m n before before)) (sym c.settle.ensures)
+    (settled_ok false c.apply-did.result.1 (λ did. FlushesRound did m n before before) (handed_none m n before c.apply-did.result.0 is c.apply-did.ensures.held))
 
 pub returns-in-Ok-None-clause-stops : goal.returns-in-Ok-None-clause-stops
 returns-in-Ok-None-clause-stops g c =
@@ -110,8 +110,8 @@ returns-in-Ok-copied-clause-flushes g c =
       sent = subst (λ (l : List (List ℕ)). SentBy {T = Unit {0}} (joined l) before after (Ok tt)) pieces c.in-Ok.ensures;
       notes = noted c.apply-did.new.self.lane n end c.apply-told.ensures.held;
     } in
-    subst (λ (r : Result Bool Error). IfOk r (λ did. Flushes did m end before after)) (sym c.settle-in-Ok-copied.ensures)
-    (settled_ok true c.apply-told.result.1 (λ did. Flushes did m end before after) flushed)
+    subst (λ (r : Result Bool Error). IfOk r (λ did. FlushesRound did m end before after)) (sym c.settle-in-Ok-copied.ensures)
+    (settled_ok true c.apply-told.result.1 (λ did. FlushesRound did m end before after) flushed)
 
 pub returns-in-Ok-copied-clause-stops : goal.returns-in-Ok-copied-clause-stops
 returns-in-Ok-copied-clause-stops g c =

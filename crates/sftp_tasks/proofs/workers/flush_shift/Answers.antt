@@ -6,7 +6,7 @@ use Rattle.sftp_model.specs.declared.error.Error.{Error}
 use Rattle.sftp_tasks.specs.Calls.{InOneHold}
 use Rattle.sftp_tasks.specs.Entries.{by_flush, by_nothing}
 use Rattle.sftp_tasks.specs.LockedEvents.{TellsStage}
-use Rattle.sftp_tasks.specs.Rounds.{FlushStops, Flushes}
+use Rattle.sftp_tasks.specs.Rounds.{FlushStops, FlushesRound}
 use Rattle.sftp_tasks.specs.Workers.{SentNone}
 use Rattle.sftp_tasks.proofs.RoundLaws.{nothing_flushes_all}
 use Rattle.sftp_tasks.proofs.workers.flush_shift.Goals as goal
@@ -18,7 +18,7 @@ returns-in-Ok-true-clause-shift g c =
     let is = c.in-Ok-true.is ∙ ap (λ o. Ok o) c.in-Ok-true.field-0-test in
     inl (
       refl,
-      subst (λ (r : Result Bool Error). IfOk r (λ did. Flushes did c.args.seat.now.inner.me c.flush_round.new.seat.inner.me before after)) is
+      subst (λ (r : Result Bool Error). IfOk r (λ did. FlushesRound did c.args.seat.now.inner.me c.flush_round.new.seat.inner.me before after)) is
           c.flush_round.ensures.flushes,
     )
 
@@ -55,7 +55,7 @@ returns-in-Ok-clause-shift g c =
     let is = c.in-Ok-false.is ∙ ap (λ o. Ok o) c.in-Ok-false.field-0-test in
     let none : SentNone (Ok c.in-Ok.stage) (m, before) (n, after) = record {
       mid = mid;
-      none = subst (λ (r : Result Bool Error). IfOk r (λ did. Flushes did m mid before after)) is c.flush_round.ensures.flushes;
+      none = subst (λ (r : Result Bool Error). IfOk r (λ did. FlushesRound did m mid before after)) is c.flush_round.ensures.flushes;
       looks = subst (λ (r : Result ℕ Error). InOneHold TellsStage r mid n) c.in-Ok.is c.stage.ensures.looks;
     } in
     inr (c.in-Ok.stage, (c.over_if.ensures, none))
@@ -70,6 +70,6 @@ returns-in-Err-stage-clause-shift g c =
     let is = c.in-Ok-false.is ∙ ap (λ o. Ok o) c.in-Ok-false.field-0-test in
     inr record {
       mid = mid;
-      none = subst (λ (r : Result Bool Error). IfOk r (λ did. Flushes did m mid before after)) is c.flush_round.ensures.flushes;
+      none = subst (λ (r : Result Bool Error). IfOk r (λ did. FlushesRound did m mid before after)) is c.flush_round.ensures.flushes;
       looks = subst (λ (r : Result ℕ Error). InOneHold TellsStage r mid n) c.in-Err-stage.is c.stage.ensures.looks;
     }

@@ -13,7 +13,7 @@ use Rattle.session_laws.specs.Places.{is_in}
 use Rattle.session_lane.specs.Tokens.{AreGrants, Spent}
 use Rattle.sftp_core.specs.Core.{Core}
 use Rattle.session_laws.specs.Rest.{opened_in}
-use Rattle.session_lane.specs.Turning.{MayAsk, RangesBy, Settles, SettlesMeanwhile, WentOn, Widened}
+use Rattle.session_lane.specs.Turning.{MayAsk, RangesBy, SettlesMove, SettlesMeanwhile, WentOn, Widened}
 use Rattle.session_lane.specs.declared.tokens.Tokens.{Tokens}
 use Rattle.session_lane.proofs.AskLaws.{held_after, held_first, held_on, may_ask, may_ask_more, may_ask_on, turned_meanwhile, turned_replied, turned_unreplied}
 use Rattle.session_lane.proofs.lane.LaneState.turn.Goals as goal
@@ -109,11 +109,11 @@ returns-in_default-awaited-clause-turned c =
     let asks : GoesOnAsking (opened_after r None) c.args.place (reads_under (Some r)) v.site c.resume.new.site n =
     subst (λ (x : Site). GoesOnAsking (opened_after r None) c.args.place (reads_under (Some r)) x c.resume.new.site n) site c.in_ok-next-2.ensures.asks in
     let to = c.settle-in_default-awaited in
-    let settles : IfOk to.result (λ m. Settles c.args.core.now to.new.core v.tickets to.new.tokens.tickets.items
+    let settles : IfOk to.result (λ m. SettlesMove c.args.core.now to.new.core v.tickets to.new.tokens.tickets.items
     v.grants to.new.tokens.grants.items to.new.running c.args.place n m) =
-    subst (λ (ts : List Ticketed). IfOk to.result (λ m. Settles c.args.core.now to.new.core ts
+    subst (λ (ts : List Ticketed). IfOk to.result (λ m. SettlesMove c.args.core.now to.new.core ts
     to.new.tokens.tickets.items v.grants to.new.tokens.grants.items to.new.running c.args.place n m)) tickets
-    (subst (λ (gs : List Held). IfOk to.result (λ m. Settles c.args.core.now to.new.core c.reserve.new.self.items
+    (subst (λ (gs : List Held). IfOk to.result (λ m. SettlesMove c.args.core.now to.new.core c.reserve.new.self.items
     to.new.tokens.tickets.items gs to.new.tokens.grants.items to.new.running c.args.place n m)) grants
     to.ensures.settled) in
     turned_unreplied c.args.call.now c.args.facts.now c.args.place c.args.core.now to.new.core v _ r n to.result was

@@ -5,7 +5,7 @@ use Rattle.sftp_model.specs.declared.slot.Slot.{Slot}
 use Rattle.session_laws.specs.Lanes.{LaneValue}
 use Rattle.session_laws.specs.Ends.{StaysOpen}
 use Rattle.session_work.specs.Closing.{HasClosed, closed_in}
-use Rattle.session_work.specs.Letting.{IsLetGo, Letting}
+use Rattle.session_work.specs.Letting.{IsLetGo, LettingLane}
 use Rattle.session_work.specs.Working.{LanesValue, contents_of, lane_in, past_of}
 use Rattle.session_work.proofs.ClosingLaws.{counted_in, grants_left}
 use Rattle.session_work.proofs.Contents.{state_at}
@@ -18,12 +18,12 @@ pub forget_unawaited-requires : goal.forget_unawaited-requires
 forget_unawaited-requires c =
     let o = c.requires.letting in
     let rest : List Slot = c.loop-rest.rest.now in
-    let h : Letting o.0 o.1.0 c.args.lane (contents_of c.loop-rest.self) rest = c.loop-rest.invariant.1 o.0 o.1.0 o.1.1 in
+    let h : LettingLane o.0 o.1.0 c.args.lane (contents_of c.loop-rest.self) rest = c.loop-rest.invariant.1 o.0 o.1.0 o.1.1 in
     record {
       opened = (
         o.0,
         (letting_over o.0 o.1.0 c.args.lane (contents_of c.args.self.now) (contents_of c.loop-rest.self)
-            (subst (λ (xs : List Slot). Letting o.0 o.1.0 c.args.lane (contents_of c.loop-rest.self) xs)
+            (subst (λ (xs : List Slot). LettingLane o.0 o.1.0 c.args.lane (contents_of c.loop-rest.self) xs)
             (none_left rest c.in-empty.len_below) h) c.loop-rest.invariant.2).works,
       );
       there = letting_there o.0 o.1.0 c.args.lane (contents_of c.loop-rest.self) rest h;
@@ -33,10 +33,10 @@ forget_unawaited-requires c =
 pub returns-in-empty-clause-let_go : goal.returns-in-empty-clause-let_go
 returns-in-empty-clause-let_go c = λ s before base.
     let rest : List Slot = c.loop-rest.rest.now in
-    let h : Letting s before c.args.lane (contents_of c.loop-rest.self) rest = c.loop-rest.invariant.1 s before base in
+    let h : LettingLane s before c.args.lane (contents_of c.loop-rest.self) rest = c.loop-rest.invariant.1 s before base in
     let gone : IsLetGo s before (contents_of c.args.self.now) (contents_of c.loop-rest.self) =
     letting_over s before c.args.lane (contents_of c.args.self.now) (contents_of c.loop-rest.self)
-    (subst (λ (xs : List Slot). Letting s before c.args.lane (contents_of c.loop-rest.self) xs)
+    (subst (λ (xs : List Slot). LettingLane s before c.args.lane (contents_of c.loop-rest.self) xs)
     (none_left rest c.in-empty.len_below) h) c.loop-rest.invariant.2 in
     let_go_on s before (contents_of c.args.self.now) (contents_of c.loop-rest.self)
     (contents_of c.forget_unawaited.new.self) gone (c.forget_unawaited.ensures.forgets s gone.works)
@@ -92,10 +92,10 @@ loop-rest-preserved-in-Some c =
     let len = c.close.ensures.one.len in
     let capacity = c.close.ensures.one.capacity in (
       omega (arith, less, same, room, len, capacity),
-      λ s before base. (let h : Letting s before c.args.lane (contents_of c.loop-rest.self) (slot ∷ later) =
-          subst (λ (xs : List Slot). Letting s before c.args.lane (contents_of c.loop-rest.self) xs) split
+      λ s before base. (let h : LettingLane s before c.args.lane (contents_of c.loop-rest.self) (slot ∷ later) =
+          subst (λ (xs : List Slot). LettingLane s before c.args.lane (contents_of c.loop-rest.self) xs) split
           (c.loop-rest.invariant.1 s before base) in
-          subst (λ (x : LanesValue). Letting s before c.args.lane x later) (sym closed.is)
+          subst (λ (x : LanesValue). LettingLane s before c.args.lane x later) (sym closed.is)
           (letting_closes s before c.args.lane k (contents_of c.loop-rest.self) f.0 slot later h f.1.1 f.1.2 here
           closed.small)),
       ap (λ (x : LanesValue). x.begun) closed.is ∙ c.loop-rest.invariant.2,
@@ -115,8 +115,8 @@ loop-rest-preserved c =
     (letting_there o.0 o.1.0 c.args.lane (contents_of c.loop-rest.self) rest
     (c.loop-rest.invariant.1 o.0 o.1.0 o.1.1)) c.index.ensures in (
       c.loop-rest.invariant.0,
-      λ s before base. (let h : Letting s before c.args.lane (contents_of c.loop-rest.self) (slot ∷ later) =
-          subst (λ (xs : List Slot). Letting s before c.args.lane (contents_of c.loop-rest.self) xs) split
+      λ s before base. (let h : LettingLane s before c.args.lane (contents_of c.loop-rest.self) (slot ∷ later) =
+          subst (λ (xs : List Slot). LettingLane s before c.args.lane (contents_of c.loop-rest.self) xs) split
           (c.loop-rest.invariant.1 s before base) in
           letting_passes s before c.args.lane (contents_of c.loop-rest.self) slot later h
           (subst (λ (y : LaneValue). StaysOpen y.grants slot later) is (c.closing.ensures.none c.in_default.is))),

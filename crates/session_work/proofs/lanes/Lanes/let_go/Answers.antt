@@ -6,7 +6,7 @@ use Rattle.session_model.specs.declared.entry.Entry.TheVariants as entry
 use Rattle.session_laws.specs.Changes.{let_go_lane}
 use Rattle.session_laws.specs.Lanes.{LaneValue}
 use Rattle.session_laws.specs.Rest.{begun_of}
-use Rattle.session_work.specs.Letting.{IsLetGo, Letting}
+use Rattle.session_work.specs.Letting.{IsLetGo, LettingLane}
 use Rattle.session_work.specs.Working.{LanesValue, contents_of, lane_in, past_of}
 use Rattle.session_work.proofs.CancellingLaws.{there_of}
 use Rattle.session_work.proofs.Contents.{pushed, state_at}
@@ -38,7 +38,7 @@ close_slots-requires-clause-letting c =
       o.0,
       (
         entry.LetGo c.args.lane ∷ old.past,
-        subst (λ (xs : List Slot). Letting o.0 (entry.LetGo c.args.lane ∷ old.past) c.args.lane
+        subst (λ (xs : List Slot). LettingLane o.0 (entry.LetGo c.args.lane ∷ old.past) c.args.lane
             (record {
               calls = old.calls;
               core = old.core;
@@ -51,7 +51,7 @@ close_slots-requires-clause-letting c =
               begun =
                   begun_of (lane_in (slice_set old.states c.args.lane c.empty-slots.new.self));
             }) xs) all
-            (subst (λ (y : LanesValue). Letting o.0 (entry.LetGo c.args.lane ∷ old.past) c.args.lane y (lane_in old.states c.args.lane).site.slots)
+            (subst (λ (y : LanesValue). LettingLane o.0 (entry.LetGo c.args.lane ∷ old.past) c.args.lane y (lane_in old.states c.args.lane).site.slots)
             (λ i. record {
               calls = old.calls;
               core = old.core;
@@ -103,9 +103,9 @@ returns-clause-lets_go c =
       begun = begun i;
     } in
     let within = there_of s old c.args.lane w there in
-    let first : Letting s (entry.LetGo c.args.lane ∷ old.past) c.args.lane mid c.as_slice.result.now =
-    subst (λ (xs : List Slot). Letting s (entry.LetGo c.args.lane ∷ old.past) c.args.lane mid xs) all
-    (subst (λ (y : LanesValue). Letting s (entry.LetGo c.args.lane ∷ old.past) c.args.lane y
+    let first : LettingLane s (entry.LetGo c.args.lane ∷ old.past) c.args.lane mid c.as_slice.result.now =
+    subst (λ (xs : List Slot). LettingLane s (entry.LetGo c.args.lane ∷ old.past) c.args.lane mid xs) all
+    (subst (λ (y : LanesValue). LettingLane s (entry.LetGo c.args.lane ∷ old.past) c.args.lane y
     (lane_in old.states c.args.lane).site.slots) same (letting_starts s c.args.lane old w within done holds)) in
     lets_lane_go s c.args.lane old (contents_of c.close_slots.new.self) w within done holds
     (subst (λ (y : LanesValue). IsLetGo s (entry.LetGo c.args.lane ∷ old.past) y (contents_of c.close_slots.new.self))

@@ -1,7 +1,7 @@
 use Rattle.std.proofs.Common.{rules, ◌≡◌, ◌==◌, true, false, length}
 use Rattle.std.specs.Prelude.{min}
 use Rattle.sftp_file.specs.Files.{facts_of}
-use Rattle.sftp_buffered.specs.Reads.{Fills}
+use Rattle.sftp_buffered.specs.Reads.{FillsBuffer}
 use Rattle.sftp_buffered.proofs.Reading.{ready_reads, ready_stays, unreadable_ready}
 use Rattle.sftp_buffered.proofs.file.TokioCompatFile.poll_fill_buf.Goals as goal
 
@@ -9,7 +9,7 @@ pub returns : goal.returns
 returns c =
     let may : c.args.self.now.file.readable ≡ true = search rules in
     let none : (length c.args.self.now.buffered == 0) ≡ true = search rules in
-    let fills : Fills (min c.args.self.now.buffer_len (facts_of c.args.core.now).read_len) c.args.core.now
+    let fills : FillsBuffer (min c.args.self.now.buffer_len (facts_of c.args.core.now).read_len) c.args.core.now
     c.fill.new.core c.args.self.now c.fill.new.self c.fill.result = search rules in
     ready_reads c.args.core.now c.fill.new.core c.args.self.now c.fill.new.self c.fill.result may none c.requires.sound fills
 

@@ -2,7 +2,7 @@ use Rattle.std.proofs.Common.{rules, ◌≡◌, ◌==◌, refl, true, false, len
 use Rattle.std.specs.Prelude.{min, max}
 use Rattle.call_state.specs.declared.poll.Poll.TheVariants as poll
 use Rattle.sftp_file.specs.Files.{facts_of}
-use Rattle.sftp_buffered.specs.Reads.{Fills}
+use Rattle.sftp_buffered.specs.Reads.{FillsBuffer}
 use Rattle.sftp_buffered.proofs.Reading.{IsPut, MayRead, buffered_reads, empty_reads, filled_reads, pending_reads, refused_reads, unreadable_reads}
 use Rattle.sftp_buffered.proofs.file.TokioCompatFile.poll_read.Goals as goal
 
@@ -19,7 +19,7 @@ pub returns-in-Pending-clause-reads : goal.returns-in-Pending-clause-reads
 returns-in-Pending-clause-reads c =
     let m : MayRead (length c.args.room.now) c.args.self.now = record { may = search rules; some = search rules } in
     let none : (length c.args.self.now.buffered == 0) ≡ true = search rules in
-    let fills : Fills (min (max (length c.args.room.now) c.args.self.now.buffer_len)
+    let fills : FillsBuffer (min (max (length c.args.room.now) c.args.self.now.buffer_len)
     (facts_of c.args.core.now).read_len) c.args.core.now c.fill.new.core c.args.self.now c.fill.new.self
     poll.Pending = search rules in
     pending_reads (length c.args.room.now) c.args.core.now c.fill.new.core c.args.self.now c.fill.new.self c.args.room.now m none c.requires.sound fills
@@ -28,7 +28,7 @@ pub returns-in-Ready-Err-clause-reads : goal.returns-in-Ready-Err-clause-reads
 returns-in-Ready-Err-clause-reads c =
     let m : MayRead (length c.args.room.now) c.args.self.now = record { may = search rules; some = search rules } in
     let none : (length c.args.self.now.buffered == 0) ≡ true = search rules in
-    let fills : Fills (min (max (length c.args.room.now) c.args.self.now.buffer_len)
+    let fills : FillsBuffer (min (max (length c.args.room.now) c.args.self.now.buffer_len)
     (facts_of c.args.core.now).read_len) c.args.core.now c.fill.new.core c.args.self.now c.fill.new.self
     (poll.Ready (Err c.in-Ready-Err.e)) = search rules in
     refused_reads (length c.args.room.now) c.args.core.now c.fill.new.core c.args.self.now c.fill.new.self
@@ -38,7 +38,7 @@ pub returns-in-Ready-Ok-clause-reads : goal.returns-in-Ready-Ok-clause-reads
 returns-in-Ready-Ok-clause-reads c =
     let m : MayRead (length c.args.room.now) c.args.self.now = record { may = search rules; some = search rules } in
     let none : (length c.args.self.now.buffered == 0) ≡ true = search rules in
-    let fills : Fills (min (max (length c.args.room.now) c.args.self.now.buffer_len)
+    let fills : FillsBuffer (min (max (length c.args.room.now) c.args.self.now.buffer_len)
     (facts_of c.args.core.now).read_len) c.args.core.now c.fill.new.core c.args.self.now c.fill.new.self
     (poll.Ready (Ok tt)) = search rules in
     let put : IsPut (length c.args.room.now) c.give-in-Ready-Ok.result c.fill.new.self.buffered c.args.room.now
