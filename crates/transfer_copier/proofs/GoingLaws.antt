@@ -1,37 +1,18 @@
 -- A session that may go on stays so over its calls.
-use Rattle.std.proofs.Common.{◌≡◌, ◌<◌, ◌-◌, ◌^◌, ◌⊎◌, inl, inr, ℕ, Bool, true, false, refl, sym, ap, ◌∙◌, subst, Option, Some, None, IsSome}
-use Rattle.std.specs.Prelude.{Result, Ok, Err}
+use Rattle.std.proofs.Common.{◌≡◌, ◌<◌, ◌-◌, ◌^◌, inl, inr, ℕ, Bool, true, false, refl, sym, ap, ◌∙◌, subst, Option, Some, None, IsSome}
+use Rattle.std.specs.Prelude.{Ok, Err}
 use Rattle.sftp_model.specs.ReplyReadings.{reply_at}
 use Rattle.sftp_model.specs.declared.error.Error.{Error}
 use Rattle.sftp_model.specs.declared.error.Error.TheVariants as error
 use Rattle.sftp_model.specs.declared.error.Fault.{Fault}
 use Rattle.sftp_core.specs.declared.handshake.Handshake.{Handshake}
-use Rattle.sftp_core.specs.Core.{Core, failed_with, handed_out}
+use Rattle.sftp_core.specs.Core.{Core, failed_with}
 use Rattle.sftp_core.specs.Info.{info_of}
 use Rattle.sftp_link.specs.Views.{LinkView}
 use Rattle.session_exchange.specs.Causes.{Cause}
 use Rattle.call_state.specs.Keeping.{KeepsHeld}
 use Rattle.call_state.proofs.Keeping.{keeps_both, keeps_failed, keeps_handed_out, keeps_same, keeps_taken, keeps_unchanged}
-use Rattle.sftp_client.specs.Sessions.{
-  FlushesQueue,
-  FlushesUnfailed,
-  GetStops,
-  IsKept,
-  RefusesFrame,
-  SendStops,
-  SendsAll,
-  SftpValue,
-  TakeStops,
-  TakesOrKept,
-  TakesFrame,
-  TakesNone,
-  TakesUnfailed,
-  TakesWhole,
-  failed_by,
-  fault_by,
-  handed,
-  kept_after,
-}
+use Rattle.sftp_client.specs.Sessions.{FlushesQueue, IsKept, RefusesFrame, SendStops, SendsAll, SftpValue, TakesOrKept, TakesFrame, failed_by, fault_by, handed, kept_after}
 use Rattle.sftp_client.proofs.Lowering.{take_stays_open}
 use Rattle.transfer_copier.specs.Sessions.{IsGoing, TookTurn}
 

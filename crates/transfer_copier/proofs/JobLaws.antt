@@ -1,7 +1,6 @@
 -- A list of files that are copied, so many at once.
 use Rattle.std.proofs.Common.{
   ◌≡◌,
-  ◌⊎◌,
   inl,
   inr,
   ◌<◌,
@@ -25,21 +24,17 @@ use Rattle.std.proofs.Common.{
   ◌∙◌,
   subst,
   arith,
-  Option,
   Some,
   None,
 }
 use Rattle.std.specs.Prelude.{IsSome, Result, Ok, Err}
 use Rattle.std.proofs.lemmas.List.{nil_from_length}
 use Rattle.sftp_core.specs.declared.handshake.Handshake.{Handshake}
-use Rattle.sftp_core.specs.Core.{Core}
 use Rattle.sftp_core.specs.Info.{info_of}
 use Rattle.sftp_link.specs.Views.{LinkView}
 use Rattle.sftp_client.specs.Sessions.{SftpValue, with_core}
 use Rattle.transfer_states.specs.declared.failure.Failure.{Failure}
 use Rattle.transfer_local.specs.Local.{LocalAct}
-use Rattle.transfer_copier.specs.declared.copier.CopierStep.{CopierStep}
-use Rattle.transfer_copier.specs.declared.copier.CopierStep.TheVariants as copier_step
 use Rattle.transfer_copier.specs.declared.jobs.Beginning.TheVariants as beginning
 use Rattle.transfer_copier.specs.declared.jobs.JobTurn.TheVariants as turn
 use Rattle.transfer_copier.specs.declared.jobs.Telling.TheVariants as telling
@@ -47,19 +42,18 @@ use Rattle.transfer_copier.specs.declared.jobs.Wanted.{Wanted}
 use Rattle.transfer_copier.specs.declared.running.Copied.{Copied}
 use Rattle.transfer_copier.specs.declared.running.CopyJob.{CopyJob}
 use Rattle.transfer_copier.specs.declared.running.Running.{Running}
-use Rattle.transfer_copier.specs.Copies.{AreTogether, CopierSteps, CopierValue, NextEnded, SparesAll, WorkedOn, Working, WorksOnce, job_begun}
+use Rattle.transfer_copier.specs.Copies.{AreTogether, CopierValue, NextEnded, SparesAll, WorkedOn, Working, WorksOnce, job_begun}
 use Rattle.transfer_copier.specs.Jobs.{
   BeginsJob,
   BeginsOrNot,
-  CopiesAll,
   Given,
   JobNote,
-  JobStep,
   JobSteps,
   JobTurned,
   Jobs,
   JobsDone,
   NoMore,
+  NotesUnbegun,
   Over,
   TellsNext,
   TellsOne,
@@ -71,7 +65,10 @@ use Rattle.transfer_copier.specs.Jobs.{
   with_copy,
   working_in,
 }
+use Rattle.transfer_copier.specs.CopyLegs.{HasOwnLegs, JobLeg, ended_legs, jobs_legs}
 use Rattle.transfer_copier.specs.Sessions.{IsGoing}
+use Rattle.transfer_copier.specs.Told.{AreNoted, CopiesAll}
+use Rattle.transfer_copier.proofs.LegLaws.{AreCopies, begun_copies, ended_copies, no_more_copies}
 
 -- ---- how many copies there are
 
@@ -194,10 +191,10 @@ pub turn_short : {L S F H N : Type 0} (state : L → LinkView S) (done : LocalAc
     → IsGoing state now.session → AreTogether now.session.core now.running
     → BeginsJob noted window (record { running = now.running }) (record { running = running }) now.notes after beginning.Short
     → JobTurned state done history noted window most now now.session running after (turn.Stopped e)
-turn_short {F = F} state done history noted window most now running after e going together is = record {
+turn_short {F = F} state done history noted window most now running after e going together (is, unbegun) = record {
   going = going;
   together = subst (λ (l : List (Running F)). AreTogether now.session.core l) (sym (ap (λ (c : CopierValue F). c.running) is)) together;
-  did = tt;
+  did = inr unbegun;
 }
 
 -- what came of a copy was told
@@ -224,7 +221,7 @@ pub turn_failed : {L S F H N : Type 0} (state : L → LinkView S) (done : LocalA
     → TellsNext state done history noted (working_in now) (record { session = session; running = running }) now.notes after (telling.Failed e)
     → JobTurned state done history noted window most now session running after (turn.Stopped x)
 turn_failed state done history noted window most now session running after e x tells =
-    record { going = tells.going; together = tells.together; did = tt }
+    record { going = tells.going; together = tells.together; did = inl tells.did }
 
 pub jobs_on : {L S F H N : Type 0} (state : L → LinkView S) (done : LocalAct → H → H) (history : F → H) (noted : JobNote F → N → N)
     (window most : ℕ) (first now : Jobs L F N) (session : SftpValue L) (running : List (Running F)) (notes : N) (more : Bool)
@@ -248,12 +245,27 @@ jobs_done state done history noted window most first now session running notes w
     let none = idle_none state done history (working_in now) (record { session = session; running = running }) t.did.0 in
     (w.steps, now, w.run, one_fits (length now.running) most now.more (ap length none.0) some t.did.1, none.0, none.1, t.did.2)
 
+pub jobs_stopped : {L S F H N : Type 0} (state : L → LinkView S) (done : LocalAct → H → H) (history : F → H) (noted : JobNote F → N → N)
+    (window most : ℕ) (first now : Jobs L F N) (session : SftpValue L) (running : List (Running F)) (notes : N) (e x : Failure)
+    → JobsSoFar state done history noted window most first now
+    → JobTurned state done history noted window most now session running notes (turn.Stopped e)
+    → JobsDone state done history noted window most first session running notes (Err x)
+jobs_stopped state done history noted window most first now session running notes e x w t = (w.steps, now, w.run, t.did)
+
+pub jobs_too_long : {L S F H N : Type 0} (state : L → LinkView S) (done : LocalAct → H → H) (history : F → H) (noted : JobNote F → N → N)
+    (window most : ℕ) (first now : Jobs L F N) (x : Failure) → JobsSoFar state done history noted window most first now
+    → JobsDone state done history noted window most first now.session now.running now.notes (Err x)
+jobs_too_long state done history noted window most first now x w = (w.steps, now, w.run, inl refl)
+
 -- ---- what was told is what was given
 
-pub record IsTold {L F N : Type 0} (noted : JobNote F → N → N) (first now : Jobs L F N) : Type 0 where
+-- and each copy that was told has its legs among these
+pub record IsTold {L F H N : Type 0} (done : LocalAct → H → H) (history : F → H) (noted : JobNote F → N → N) (window : ℕ)
+    (legs : List (JobLeg H)) (first now : Jobs L F N) : Type 0 where
   pub notes : List (JobNote F)
   pub told : now.notes ≡ all_noted noted notes first.notes
   pub count : (test : CopyJob → Bool) → given_in test notes ≡ over_in test notes + running_in test now.running
+  pub copies : AreCopies done history window legs notes now.running
 
 noted_last : {F N : Type 0} (noted : JobNote F → N → N) (notes : List (JobNote F)) (note : JobNote F) (n : N)
     → all_noted noted (notes ++ note ∷ []) n ≡ noted note (all_noted noted notes n)
@@ -277,9 +289,11 @@ over_join test (Over c ∷ xs) ys = (let e = over_join test xs ys in omega (arit
 abbrev begun_copy : {F : Type 0} → Wanted F → ℕ → Running F
 begun_copy wanted window = record { job = wanted.job; local = wanted.local; state = job_begun wanted.job window }
 
-begun_told : {L F N : Type 0} (noted : JobNote F → N → N) (window most : ℕ) (first mid new : Jobs L F N) → IsTold noted first mid
-    → BeginsOrNot noted window most mid new → IsTold noted first new
-begun_told {L = L} {F = F} {N = N} noted window most first mid new t (more, few, inl (wanted, is)) =
+begun_told : {L F H N : Type 0} (done : LocalAct → H → H) (history : F → H) (noted : JobNote F → N → N) (window most : ℕ)
+    (legs : List (JobLeg H)) (first mid new : Jobs L F N) → IsTold done history noted window legs first mid
+    → BeginsOrNot noted window most mid new → IsTold done history noted window legs first new
+begun_told {L = L} {F = F} {N = N} done history noted window most legs first mid new t (more, few, inl (wanted, is)) =
+    let running_is : new.running ≡ mid.running ++ begun_copy wanted window ∷ [] = ap (λ (j : Jobs L F N). j.running) is in
     record {
       notes = t.notes ++ Given wanted ∷ [];
       told = ap (λ (j : Jobs L F N). j.notes) is ∙ (ap (noted (Given wanted)) t.told ∙ sym (noted_last noted t.notes (Given wanted) first.notes));
@@ -289,11 +303,14 @@ begun_told {L = L} {F = F} {N = N} noted window most first mid new t (more, few,
           let over : over_in test (t.notes ++ Given wanted ∷ []) ≡ over_in test t.notes + 0 =
           over_join test t.notes (Given wanted ∷ []) in
           let now : running_in test new.running ≡ running_in test mid.running + one_if (test wanted.job) =
-          ap (λ (j : Jobs L F N). running_in test j.running) is ∙ running_last test mid.running (begun_copy wanted window) in
+          ap (running_in test) running_is ∙ running_last test mid.running (begun_copy wanted window) in
           let count = t.count test in
           omega (arith, given, over, now, count);
+      copies = subst (λ (l : List (Running F)). AreCopies done history window legs (t.notes ++ Given wanted ∷ []) l) (sym running_is)
+          (begun_copies done history window legs t.notes mid.running wanted t.copies);
     }
-begun_told {L = L} {F = F} {N = N} noted window most first mid new t (more, few, inr is) =
+begun_told {L = L} {F = F} {N = N} done history noted window most legs first mid new t (more, few, inr is) =
+    let running_is : new.running ≡ mid.running = ap (λ (j : Jobs L F N). j.running) is in
     record {
       notes = t.notes ++ NoMore ∷ [];
       told = ap (λ (j : Jobs L F N). j.notes) is ∙ (ap (noted NoMore) t.told ∙ sym (noted_last noted t.notes NoMore first.notes));
@@ -302,15 +319,18 @@ begun_told {L = L} {F = F} {N = N} noted window most first mid new t (more, few,
           given_join {F = F} test t.notes (NoMore ∷ []) in
           let over : over_in test (t.notes ++ NoMore ∷ []) ≡ over_in test t.notes + 0 =
           over_join {F = F} test t.notes (NoMore ∷ []) in
-          let now : running_in test new.running ≡ running_in test mid.running =
-          ap (λ (j : Jobs L F N). running_in test j.running) is in
+          let now : running_in test new.running ≡ running_in test mid.running = ap (running_in test) running_is in
           let count = t.count test in
           omega (arith, given, over, now, count);
+      copies = subst (λ (l : List (Running F)). AreCopies done history window legs (t.notes ++ NoMore ∷ []) l) (sym running_is)
+          (no_more_copies done history window legs t.notes mid.running t.copies);
     }
 
-ended_told : {L S F H N : Type 0} (state : L → LinkView S) (done : LocalAct → H → H) (history : F → H) (noted : JobNote F → N → N)
-    (first mid new : Jobs L F N) → IsTold noted first mid → TellsOne state done history noted mid new → IsTold noted first new
-ended_told state done history noted first mid new t one =
+ended_told : {L S F H N : Type 0} (state : L → LinkView S) (done : LocalAct → H → H) (history : F → H) (noted : JobNote F → N → N) (window : ℕ)
+    (legs : List (JobLeg H)) (first mid new : Jobs L F N) → IsTold done history noted window legs first mid
+    → (one : TellsOne state done history noted mid new) → IsTold done history noted window
+    (ended_legs state done history (working_in mid) (working_in new) one.copied one.ended ++ legs) first new
+ended_told state done history noted window legs first mid new t one =
     record {
       notes = t.notes ++ Over one.copied ∷ [];
       told = one.told ∙ (ap (noted (Over one.copied)) t.told ∙ sym (noted_last noted t.notes (Over one.copied) first.notes));
@@ -323,29 +343,38 @@ ended_told state done history noted first mid new t one =
           ended_counted state done history test (working_in mid) (working_in new) one.copied one.ended in
           let count = t.count test in
           omega (arith, given, over, now, count);
+      copies = ended_copies state done history window legs t.notes (working_in mid) (working_in new) one.copied t.copies one.ended;
     }
 
-step_told : {L S F H N : Type 0} (state : L → LinkView S) (done : LocalAct → H → H) (history : F → H) (noted : JobNote F → N → N)
-    (window most : ℕ) (first mid new : Jobs L F N) → IsTold noted first mid
-    → JobStep state done history noted window most mid new → IsTold noted first new
-step_told state done history noted window most first mid new t (inl begins) = begun_told noted window most first mid new t begins
-step_told state done history noted window most first mid new t (inr one) = ended_told state done history noted first mid new t one
-
 pub steps_told : {L S F H N : Type 0} (state : L → LinkView S) (done : LocalAct → H → H) (history : F → H) (noted : JobNote F → N → N)
-    (window most n : ℕ) (first now : Jobs L F N) → first.running ≡ [] → JobSteps state done history noted window most n first now
-    → IsTold noted first now
+    (window most n : ℕ) (first now : Jobs L F N) → first.running ≡ [] → (steps : JobSteps state done history noted window most n first now)
+    → IsTold done history noted window (jobs_legs state done history noted window most n first now steps) first now
 steps_told {L = L} {F = F} {N = N} state done history noted window most zero first now none same =
+    let now_none : now.running ≡ [] = ap (λ (j : Jobs L F N). j.running) same ∙ none in
     record {
       notes = [];
       told = ap (λ (j : Jobs L F N). j.notes) same;
-      count = λ test.
-          let now : running_in test now.running ≡ 0 =
-          ap (λ (j : Jobs L F N). running_in test j.running) same ∙ ap (running_in test) none in
-          omega (arith, now);
+      count = λ test. (let now : running_in test now.running ≡ 0 = ap (running_in test) now_none in omega (arith, now));
+      copies = subst (λ (l : List (Running F)). AreCopies done history window [] [] l) (sym now_none) (record { under_way = tt; told = tt });
     }
-steps_told state done history noted window most (suc n) first now none (mid, earlier, step) =
-    step_told state done history noted window most first mid now
-    (steps_told state done history noted window most n first mid none earlier) step
+steps_told state done history noted window most (suc n) first now none (mid, earlier, inl begins) =
+    begun_told done history noted window most (jobs_legs state done history noted window most n first mid earlier) first mid now
+    (steps_told state done history noted window most n first mid none earlier) begins
+steps_told state done history noted window most (suc n) first now none (mid, earlier, inr one) =
+    ended_told state done history noted window (jobs_legs state done history noted window most n first mid earlier) first mid now
+    (steps_told state done history noted window most n first mid none earlier) one
+
+-- before there was no memory
+stopped_noted : {L F H N : Type 0} (done : LocalAct → H → H) (history : F → H) (noted : JobNote F → N → N) (window : ℕ)
+    (legs : List (JobLeg H)) (first last : Jobs L F N) (after : N) → IsTold done history noted window legs first last
+    → NotesUnbegun noted last.notes after → AreNoted noted (HasOwnLegs done history window legs) first.notes after
+stopped_noted done history noted window legs first last after t (inl same) =
+    record { notes = t.notes; noted_all = same ∙ t.told; copies = t.copies.told }
+stopped_noted done history noted window legs first last after t (inr (wanted, given)) = record {
+  notes = t.notes ++ Given wanted ∷ [];
+  noted_all = given ∙ (ap (noted (Given wanted)) t.told ∙ sym (noted_last noted t.notes (Given wanted) first.notes));
+  copies = (begun_copies done history window legs t.notes last.running wanted t.copies).told;
+}
 
 pub copied_all : {L S F H N : Type 0} (state : L → LinkView S) (done : LocalAct → H → H) (history : F → H) (noted : JobNote F → N → N)
     (window most : ℕ) (old session : SftpValue L) (running : List (Running F)) (before after : N) (result : Result (Unit {0}) Failure)
@@ -364,10 +393,20 @@ copied_all state done history noted window most old session running before after
             let none : running_in test last.running ≡ 0 = ap (running_in test) over in
             let count = t.count test in
             omega (arith, count, none);
+        copies = t.copies.told;
       };
+      stopped = tt;
     }
-copied_all state done history noted window most old session running before after (Err e) did =
-    record { session = session; running = running; did = did; each = tt }
+copied_all state done history noted window most old session running before after (Err e) (n, last, steps, stopped) =
+    let t = steps_told state done history noted window most n (jobs_at old [] before) last refl steps in
+    record {
+      session = session;
+      running = running;
+      did = (n, last, steps, stopped);
+      each = tt;
+      stopped = stopped_noted done history noted window (jobs_legs state done history noted window most n (jobs_at old [] before) last steps)
+          (jobs_at old [] before) last after t stopped;
+    }
 
 -- ---- the session may go on once the copies are given up
 

@@ -1,32 +1,11 @@
 -- Copies that stand together over one core.
-use Rattle.std.proofs.Common.{
-  ◌≡◌,
-  ◌≢◌,
-  ◌⊎◌,
-  inl,
-  inr,
-  ℕ,
-  true,
-  false,
-  List,
-  [],
-  ◌∷◌,
-  ◌++◌,
-  refl,
-  sym,
-  ap,
-  ◌∙◌,
-  subst,
-  Option,
-  Some,
-  None,
-}
-use Rattle.std.specs.Prelude.{IsTrue, IsSome, Result, Ok, Err}
+use Rattle.std.proofs.Common.{◌≡◌, ◌≢◌, inl, inr, ℕ, List, [], ◌∷◌, ◌++◌, refl, sym, ap, ◌∙◌, subst, Option, Some, None}
+use Rattle.std.specs.Prelude.{IsTrue, IsSome, Result}
 use Rattle.sftp_model.specs.declared.answers.Expected.{Expected}
 use Rattle.sftp_model.specs.declared.file_attrs.FileAttrs.{FileAttrs}
 use Rattle.sftp_core.specs.declared.handshake.Handshake.{Handshake}
-use Rattle.sftp_core.specs.declared.place.Place.{Place}
-use Rattle.sftp_core.specs.declared.place.Place.TheVariants.{Granted}
+use Rattle.sftp_core.specs.declared.id_record.IdRecord.{IdRecord}
+use Rattle.sftp_core.specs.declared.id_record.IdRecord.TheVariants.{Granted}
 use Rattle.sftp_core.specs.Core.{Core, at, is_ticket}
 use Rattle.sftp_core.specs.Info.{info_of}
 use Rattle.call_state.specs.Asked.{HoldsTicket}
@@ -46,7 +25,7 @@ use Rattle.transfer_states.specs.Holdings.{
   IsNotOfFile,
   IsNotOfParts,
   IsOfOthers,
-  SparesPlaces,
+  SparesIds,
   nothing_held,
 }
 use Rattle.transfer_local.specs.Local.{LocalAct}
@@ -69,10 +48,8 @@ use Rattle.transfer_copier.specs.Copies.{
   IsOfNone,
   IsOfFile,
   IsOfParts,
-  MayCancel,
   MayStepCopy,
   SparesAll,
-  StandsAfter,
   TakesTurn,
   copy_begun,
   holding_of,
@@ -111,27 +88,27 @@ disjoint_sym g h apart id is =
 
 -- ---- what stands under them
 
-held_place : (core : Core) (ticket : ℕ) (kind : Expected) → HoldsTicket core ticket kind → (place : Place) × (at core ticket ≡ Some place)
+held_place : (core : Core) (ticket : ℕ) (kind : Expected) → HoldsTicket core ticket kind → (place : IdRecord) × (at core ticket ≡ Some place)
 held_place core ticket kind h = by_place (at core ticket) refl
   where
-    by_place : (p : Option Place) → at core ticket ≡ p → (place : Place) × (at core ticket ≡ Some place)
+    by_place : (p : Option IdRecord) → at core ticket ≡ p → (place : IdRecord) × (at core ticket ≡ Some place)
     by_place (Some place) is = (place, is)
-    by_place None is = (let gone = subst (λ (x : Option Place). IsTrue (is_ticket x)) is h.counted in absurd cc)
+    by_place None is = (let gone = subst (λ (x : Option IdRecord). IsTrue (is_ticket x)) is h.counted in absurd cc)
 
-file_place : (core : Core) (file : FileHold) (id : ℕ) → IsFileHeld core file → IsOfFile id file → (place : Place) × (at core id ≡ Some place)
+file_place : (core : Core) (file : FileHold) (id : ℕ) → IsFileHeld core file → IsOfFile id file → (place : IdRecord) × (at core id ≡ Some place)
 file_place core hold.Nothing id held never = absurd never
 file_place core (hold.Asked ticket kind) id held is =
     (let here = held_place core ticket kind held in (here.0, ap (λ n. at core n) is ∙ here.1))
 file_place core (hold.Opened grant) id held is = (Granted grant.handle 1, ap (λ n. at core n) is ∙ held)
 
 part_place : (core : Core) (file : FileHold) (parts : List Part) (id : ℕ) → ArePartsHeld core file parts → IsOfParts id parts
-    → (place : Place) × (at core id ≡ Some place)
+    → (place : IdRecord) × (at core id ≡ Some place)
 part_place core file [] id held never = absurd never
 part_place core file (part ∷ later) id (h, p, f, own, held) (inl is) =
     (let here = held_place core part.ticket part.kind h in (here.0, ap (λ n. at core n) is ∙ here.1))
 part_place core file (part ∷ later) id (h, p, f, own, held) (inr is) = part_place core file later id held is
 
-of_place : (core : Core) (h : HoldingValue) (id : ℕ) → HoldsAll core h → IsNumberOf id h → (place : Place) × (at core id ≡ Some place)
+of_place : (core : Core) (h : HoldingValue) (id : ℕ) → HoldsAll core h → IsNumberOf id h → (place : IdRecord) × (at core id ≡ Some place)
 of_place core h id held (inl is) = file_place core h.file id held.file is
 of_place core h id held (inr is) = part_place core h.file h.parts id held.parts is
 
@@ -153,7 +130,7 @@ parts_still old new file (part ∷ later) same (h, p, f, own, held) = (
   parts_still old new file later (λ id is. same id (inr is)) held,
 )
 
-holds_over : (old new : Core) (before after h : HoldingValue) → SparesPlaces before after old new → AreDisjoint h before
+holds_over : (old new : Core) (before after h : HoldingValue) → SparesIds before after old new → AreDisjoint h before
     → HoldsAll old h → HoldsAll new h × AreDisjoint h after
 holds_over old new before after h spares apart held =
     let same : (id : ℕ) → IsNumberOf id h → at new id ≡ at old id =
@@ -180,7 +157,7 @@ go_over core after (state.Put p) stays held may = record {
   going = may.going;
 }
 
-together_over : {F : Type 0} (core after : Core) (before next : HoldingValue) (rs : List (Running F)) → SparesPlaces before next core after
+together_over : {F : Type 0} (core after : Core) (before next : HoldingValue) (rs : List (Running F)) → SparesIds before next core after
     → AreApartFrom before rs → AreTogether core rs → AreTogether after rs × AreApartFrom next rs
 together_over core after before next [] spares apart all = (tt, tt)
 together_over core after before next (r ∷ later) spares (disjoint, apart) (may, own, all) =
@@ -251,7 +228,7 @@ together_stepped {F = F} done history core after old later new copy next result 
 pub turn_ended : {F H : Type 0} (done : LocalAct → H → H) (history : F → H) (core mid after : Core) (old later : List (Running F))
     (copy last : Running F) (result : Result ℕ Failure) (copied : Copied F) → old ≡ copy ∷ later
     → StepsCopy done history core copy mid last (progress.Ended result) → IsEndedAs last result copied
-    → SparesPlaces (holding_of last.state) nothing_held mid after → EndsTurn done history core old after later copied
+    → SparesIds (holding_of last.state) nothing_held mid after → EndsTurn done history core old after later copied
 turn_ended done history core mid after old later copy last result copied first goes ended spent = record {
   copy = copy;
   later = later;
@@ -266,7 +243,7 @@ turn_ended done history core mid after old later copy last result copied first g
 
 pub together_ended : {F H : Type 0} (done : LocalAct → H → H) (history : F → H) (core mid after : Core) (old later : List (Running F))
     (copy last : Running F) (result : Result ℕ Failure) → old ≡ copy ∷ later
-    → StepsCopy done history core copy mid last (progress.Ended result) → SparesPlaces (holding_of last.state) nothing_held mid after
+    → StepsCopy done history core copy mid last (progress.Ended result) → SparesIds (holding_of last.state) nothing_held mid after
     → AreTogether core old → AreTogether after later
 together_ended {F = F} done history core mid after old later copy last result first goes spent all =
     let here = subst (λ (l : List (Running F)). AreTogether core l) first all in
@@ -277,7 +254,7 @@ together_ended {F = F} done history core mid after old later copy last result fi
 
 pub record Cancelling {F : Type 0} (first core : Core) (all rs : List (Running F)) : Type 0 where
   pub together : AreTogether core rs
-  pub places : (id : ℕ) (place : Place) → IsOfNone id all → at first id ≡ Some place → (at core id ≡ Some place) × IsOfNone id rs
+  pub places : (id : ℕ) (place : IdRecord) → IsOfNone id all → at first id ≡ Some place → (at core id ≡ Some place) × IsOfNone id rs
   pub phase : core.phase ≡ first.phase
   pub fault : core.fault ≡ first.fault
 
@@ -289,7 +266,7 @@ pub cancels_may : {F : Type 0} (first core : Core) (all rs : List (Running F)) (
 cancels_may {F = F} first core all rs r later c is = (subst (λ (l : List (Running F)). AreTogether core l) is c.together).0
 
 pub cancels_next : {F : Type 0} (first core after : Core) (all rs : List (Running F)) (r : Running F) (later : List (Running F))
-    → Cancelling first core all rs → rs ≡ r ∷ later → SparesPlaces (holding_of r.state) nothing_held core after
+    → Cancelling first core all rs → rs ≡ r ∷ later → SparesIds (holding_of r.state) nothing_held core after
     → Cancelling first after all later
 cancels_next {F = F} first core after all rs r later c is spares =
     let here = subst (λ (l : List (Running F)). Cancelling first core all l) is c in

@@ -1,31 +1,21 @@
 -- Steps of copies and turns of their session.
-use Rattle.std.proofs.Common.{◌≡◌, ◌<◌, ◌-◌, ◌^◌, ◌⊎◌, inl, inr, ℕ, zero, suc, ◌+◌, List, [], ◌∷◌, refl, sym, ap, ◌∙◌, subst, Option, Some, None}
+use Rattle.std.proofs.Common.{◌≡◌, ◌<◌, ◌-◌, ◌^◌, ◌⊎◌, inl, inr, ℕ, zero, suc, List, refl, sym, ap, ◌∙◌, subst, Option, Some, None}
 use Rattle.std.specs.Prelude.{IsSome, Result, Ok, Err}
 use Rattle.sftp_model.specs.declared.error.Error.{Error}
 use Rattle.sftp_core.specs.declared.handshake.Handshake.{Handshake}
 use Rattle.sftp_core.specs.Core.{Core}
 use Rattle.sftp_core.specs.Info.{info_of}
 use Rattle.sftp_link.specs.Views.{LinkView}
-use Rattle.sftp_client.specs.Sessions.{SftpValue, with_core}
+use Rattle.sftp_client.specs.Sessions.{SftpValue}
 use Rattle.transfer_states.specs.declared.failure.Failure.{Failure}
 use Rattle.transfer_local.specs.Local.{LocalAct}
 use Rattle.transfer_copier.specs.Sessions.{IsGoing, TookTurn}
-use Rattle.transfer_copier.specs.declared.copier.Advance.{Advance}
 use Rattle.transfer_copier.specs.declared.copier.Advance.TheVariants as advance
 use Rattle.transfer_copier.specs.declared.copier.CopierStep.{CopierStep}
 use Rattle.transfer_copier.specs.declared.copier.CopierStep.TheVariants as copier_step
 use Rattle.transfer_copier.specs.declared.running.Copied.{Copied}
 use Rattle.transfer_copier.specs.declared.running.Running.{Running}
-use Rattle.transfer_copier.specs.Copies.{
-  Advanced,
-  AreTogether,
-  CopierSteps,
-  NextEnded,
-  StepsCopies,
-  WorkedOn,
-  Working,
-  WorksOnce,
-}
+use Rattle.transfer_copier.specs.Copies.{Advanced, AreTogether, CopierSteps, NextEnded, StepsCopies, WorkedOn, Working}
 use Rattle.transfer_copier.proofs.TogetherLaws.{together_kept}
 
 -- ---- a step leaves how far the greeting has come, and the fault

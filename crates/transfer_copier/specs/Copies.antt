@@ -20,7 +20,7 @@ use Rattle.std.specs.String.{string_bytes}
 use Rattle.sftp_model.specs.declared.error.Error.{Error}
 use Rattle.sftp_model.specs.declared.file_attrs.FileAttrs.{FileAttrs}
 use Rattle.sftp_core.specs.Core.{Core, at}
-use Rattle.sftp_core.specs.declared.place.Place.{Place}
+use Rattle.sftp_core.specs.declared.id_record.IdRecord.{IdRecord}
 use Rattle.sftp_link.specs.Views.{LinkView}
 use Rattle.sftp_client.specs.Sessions.{SftpValue, with_core}
 use Rattle.transfer_states.specs.declared.failure.Failure.{Failure}
@@ -30,7 +30,7 @@ use Rattle.transfer_states.specs.declared.holding.Part.{Part}
 use Rattle.transfer_states.specs.declared.progress.Progress.{Progress}
 use Rattle.transfer_states.specs.declared.progress.Progress.TheVariants as progress
 use Rattle.transfer_states.specs.Gets.{GetStepDid, IsGetting, MayGet, get_begun}
-use Rattle.transfer_states.specs.Holdings.{HoldingValue, IsOfOthers, SparesPlaces, nothing_held}
+use Rattle.transfer_states.specs.Holdings.{HoldingValue, IsOfOthers, SparesIds, nothing_held}
 use Rattle.transfer_local.specs.Local.{LocalAct}
 use Rattle.transfer_states.specs.Puts.{IsPutting, MayPut, PutStepDid, put_begun}
 use Rattle.transfer_copier.specs.Sessions.{IsGoing, TookTurn}
@@ -96,7 +96,7 @@ pub record StepsCopy {F H : Type 0} (done : LocalAct → H → H) (history : F �
   pub job : new.job ≡ old.job
   pub did : CopyStepDid done old.job core old.state after new.state (history old.local) (history new.local) result
   pub stands : StandsAfter after new.state result
-  pub spares : SparesPlaces (holding_of old.state) (holding_of new.state) core after
+  pub spares : SparesIds (holding_of old.state) (holding_of new.state) core after
 
 -- what is told of a copy that has ended
 pub record IsEndedAs {F : Type 0} (running : Running F) (result : Result ℕ Failure) (copied : Copied F) : Type 0 where
@@ -140,7 +140,7 @@ IsOfNone id (r ∷ later) = IsOfOthers id (holding_of r.state) × IsOfNone id la
 
 -- what stands in the core under a number of no copy stays
 pub record SparesAll {F : Type 0} (copies : List (Running F)) (old new : Core) : Type 0 where
-  pub places : (id : ℕ) (place : Place) → IsOfNone id copies → at old id ≡ Some place → at new id ≡ Some place
+  pub places : (id : ℕ) (place : IdRecord) → IsOfNone id copies → at old id ≡ Some place → at new id ≡ Some place
   pub phase : new.phase ≡ old.phase
   pub fault : new.fault ≡ old.fault
 
@@ -171,7 +171,7 @@ pub record EndsTurn {F H : Type 0} (done : LocalAct → H → H) (history : F �
   pub now : new ≡ later
   pub goes : StepsCopy done history core copy mid last (progress.Ended copied.result)
   pub ended : IsEndedAs last copied.result copied
-  pub spent : SparesPlaces (holding_of last.state) nothing_held mid after
+  pub spent : SparesIds (holding_of last.state) nothing_held mid after
 
 abbrev pub CopierSteps : {F H : Type 0} → (LocalAct → H → H) → (F → H) → Core → List (Running F) → Core
     → List (Running F) → CopierStep F → Type 0

@@ -22,7 +22,6 @@ use Rattle.std.specs.Prelude.{
   Ok,
   Err,
   IsSome,
-  OnOk,
 }
 use Rattle.sftp_core.specs.Core.{Core}
 use Rattle.sftp_core.specs.Info.{info_of}
@@ -94,7 +93,8 @@ BeginsJob {F = F} noted window old new before after beginning.Begun = (wanted : 
     × (after ≡ noted (Given wanted) before)
     × Joins old.running new.running
 BeginsJob noted window old new before after beginning.NoJob = (new ≡ old) × (after ≡ noted NoMore before)
-BeginsJob noted window old new before after beginning.Short = new ≡ old
+BeginsJob {F = F} noted window old new before after beginning.Short = (new ≡ old)
+    × ((wanted : Wanted F) × (after ≡ noted (Given wanted) before))
 
 -- one copy ended, and this was told
 pub record TellsOne {L S F H N : Type 0} (state : L → LinkView S) (done : LocalAct → H → H) (history : F → H)
@@ -132,6 +132,11 @@ pub record TellsNext {L S F H N : Type 0} (state : L → LinkView S) (done : Loc
   pub together : AreTogether new.session.core new.running
   pub did : ToldDid state done history noted old new before after result
 
+-- nothing was noted, or that a job was given, whose copy was not begun
+abbrev pub NotesUnbegun : {F N : Type 0} → (JobNote F → N → N) → N → N → Type 0
+NotesUnbegun {F = F} noted before after = (after ≡ before)
+    ⊎ ((wanted : Wanted F) × (after ≡ noted (Given wanted) before))
+
 -- a step of jobs; or no copy was under way, and none could be begun; or there was no memory
 abbrev pub JobTurnDid : {L S F H N : Type 0} → (L → LinkView S) → (LocalAct → H → H) → (F → H) → (JobNote F → N → N)
     → ℕ → ℕ → Jobs L F N → SftpValue L → List (Running F) → N → JobTurn → Type 0
@@ -142,7 +147,8 @@ JobTurnDid state done history noted window most old session running notes turn.O
     NextEnded state done history (working_in old) (record { session = session; running = running }) (Ok None)
     × (old.more ≡ true → length old.running < most → ⊥)
     × (notes ≡ old.notes)
-JobTurnDid state done history noted window most old session running notes (turn.Stopped e) = Unit {0}
+JobTurnDid state done history noted window most old session running notes (turn.Stopped e) =
+    NotesUnbegun noted old.notes notes
 
 pub record JobTurned {L S F H N : Type 0} (state : L → LinkView S) (done : LocalAct → H → H) (history : F → H)
     (noted : JobNote F → N → N) (window most : ℕ) (old : Jobs L F N) (session : SftpValue L)
@@ -152,7 +158,8 @@ pub record JobTurned {L S F H N : Type 0} (state : L → LinkView S) (done : Loc
   pub together : AreTogether session.core running
   pub did : JobTurnDid state done history noted window most old session running notes result
 
--- Steps of jobs until there is none any more and no copy is under way; or there was no memory.
+-- Steps of jobs until there is none any more and no copy is under way; or there was no memory, maybe to begin the copy
+-- of a job that was given.
 abbrev pub JobsDone : {L S F H N : Type 0} → (L → LinkView S) → (LocalAct → H → H) → (F → H) → (JobNote F → N → N) → ℕ
     → ℕ → Jobs L F N → SftpValue L → List (Running F) → N → Result (Unit {0}) Failure → Type 0
 JobsDone {L = L} {F = F} {N = N} state done history noted window most old session running notes (Ok u) = (n : ℕ)
@@ -162,7 +169,10 @@ JobsDone {L = L} {F = F} {N = N} state done history noted window most old sessio
     × (last.running ≡ [])
     × (running ≡ [])
     × (notes ≡ last.notes)
-JobsDone state done history noted window most old session running notes (Err e) = Unit {0}
+JobsDone {L = L} {F = F} {N = N} state done history noted window most old session running notes (Err e) = (n : ℕ)
+    × (last : Jobs L F N)
+    × JobSteps state done history noted window most n old last
+    × NotesUnbegun noted last.notes notes
 
 -- jobs over a session, of which nothing was asked yet
 abbrev pub jobs_at : {L F N : Type 0} → SftpValue L → List (Running F) → N → Jobs L F N
@@ -189,22 +199,3 @@ abbrev pub over_in : {F : Type 0} → (CopyJob → Bool) → List (JobNote F) �
 over_in test [] = 0
 over_in test (Over copied ∷ later) = one_if (test copied.job) + over_in test later
 over_in test (other ∷ later) = over_in test later
-
--- These notes were made, and of each job that was given it was told what came of it, once, and of no other: whatever
--- jobs are counted, as many were told as given.
-pub record IsEachTold {F N : Type 0} (noted : JobNote F → N → N) (before after : N) : Type 0 where
-  pub notes : List (JobNote F)
-  pub noted_all : after ≡ all_noted noted notes before
-  pub each : (test : CopyJob → Bool) → over_in test notes ≡ given_in test notes
-
--- ---- all jobs
-
--- All jobs over a session, of which none was under way: steps of jobs until there is none any more, and what came of
--- each was told.
-pub record CopiesAll {L S F H N : Type 0} (state : L → LinkView S) (done : LocalAct → H → H) (history : F → H)
-    (noted : JobNote F → N → N) (window most : ℕ) (old : SftpValue L) (before after : N)
-    (result : Result (Unit {0}) Failure) : Type 0 where
-  pub session : SftpValue L
-  pub running : List (Running F)
-  pub did : JobsDone state done history noted window most (jobs_at old [] before) session running after result
-  pub each : OnOk result (IsEachTold noted before after)

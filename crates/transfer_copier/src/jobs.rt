@@ -1,8 +1,9 @@
 //! A list of files that are copied, so many at once.
 ghost use Rattle.std.specs.Prelude.{max};
 ghost use Rattle.transfer_copier.specs.Copies.{AreTogether};
-ghost use Rattle.transfer_copier.specs.Jobs.{BeginsJob, CopiesAll, JobNote, JobTurned, JobsDone, NotesJob, NotesOver, TellsNext, jobs_at};
+ghost use Rattle.transfer_copier.specs.Jobs.{BeginsJob, JobNote, JobTurned, JobsDone, NotesJob, NotesOver, TellsNext, jobs_at};
 ghost use Rattle.transfer_copier.specs.Sessions.{IsGoing};
+ghost use Rattle.transfer_copier.specs.Told.{CopiesAll};
 
 use crate::copier::Copier;
 use crate::running::{Copied, CopyJob};

@@ -2,7 +2,7 @@
 ghost use Rattle.std.specs.Prelude.{◌≡◌, IsSome};
 ghost use Rattle.sftp_core.specs.Core.{Core as CoreValue};
 ghost use Rattle.sftp_core.specs.Info.{info_of};
-ghost use Rattle.transfer_states.specs.Holdings.{SparesPlaces, nothing_held};
+ghost use Rattle.transfer_states.specs.Holdings.{SparesIds, nothing_held};
 ghost use Rattle.transfer_copier.specs.Copies.{StepsCopy, IsEndedAs, MayCancel, MayStepCopy, copy_begun, holding_of};
 
 use sftp_core::Core;
@@ -78,7 +78,7 @@ impl CopyState {
     /// Gives the copy up, or spends it where it has ended.
     pub(crate) fn cancel(self, core: &mut Core)
         requires { MayCancel core.old self }
-        ensures { SparesPlaces (holding_of self) nothing_held core.old core.new }
+        ensures { SparesIds (holding_of self) nothing_held core.old core.new }
     {
         match self {
             CopyState::Get(get) => get.cancel(core),
@@ -107,7 +107,7 @@ impl<F: LocalFile> Running<F> {
     where
         F: Drop,
         requires { MayStepCopy core.old self.state }
-        ensures { SparesPlaces (holding_of self.state) nothing_held core.old core.new }
+        ensures { SparesIds (holding_of self.state) nothing_held core.old core.new }
     {
         let Running {
             job: _,
@@ -121,7 +121,7 @@ impl<F: LocalFile> Running<F> {
     pub(crate) fn end(self, core: &mut Core, outcome: Result<u64, Failure>) -> Copied<F>
         requires { MayCancel core.old self.state }
         ensures is { IsEndedAs self outcome result }
-        ensures spares { SparesPlaces (holding_of self.state) nothing_held core.old core.new }
+        ensures spares { SparesIds (holding_of self.state) nothing_held core.old core.new }
     {
         let Running { job, local, state } = self;
         state.cancel(core);

@@ -5,7 +5,7 @@ use Rattle.std.specs.Str.{bytes_eq}
 use Rattle.std.proofs.lemmas.List.{append_assoc, append-nil}
 use Rattle.std.proofs.lemmas.List.Folds.{list_any-append}
 use Rattle.std.proofs.lemmas.Slice.Eq.{bytes_eq-Decides}
-use Rattle.transfer_jobs.specs.Apart.{AreApart, apart_behind, found_apart, has_path, has_twins, is_part, is_target, kept_apart, task_among, task_apart}
+use Rattle.transfer_jobs.specs.Apart.{FilesAreApart, apart_behind, found_apart, has_path, has_twins, is_part, is_target, kept_apart, task_among, task_apart}
 use Rattle.transfer_jobs.specs.Jobs.{is_file}
 use Rattle.transfer_paths.specs.Cuts.{part_of}
 use Rattle.transfer_walk.specs.declared.found.Found.{Found}
@@ -25,23 +25,20 @@ among_apart all before parts taken found p t = λ i.
     else found.task
 
 -- one job more was looked at
-pub target_more : (before : List Found) (found : Found) (p : List ℕ)
-    → is_target (before ++ found ∷ []) p ≡ (is_target before p || (is_file found.task && bytes_eq p found.target))
-target_more before found p = list_any-append (λ (f : Found). is_file f.task && bytes_eq p f.target) before (found ∷ [])
-    ∙ ap (λ b. is_target before p || b) (or_false (is_file found.task && bytes_eq p found.target))
+any_more : (test : Found → Bool) (before : List Found) (found : Found) → list_any test (before ++ found ∷ []) ≡ (list_any test before || test found)
+any_more test before found = list_any-append test before (found ∷ []) ∙ ap (λ b. list_any test before || b) (or_false (test found))
   where
     or_false : (a : Bool) → (a || false) ≡ a
     or_false true = refl
     or_false false = refl
 
+pub target_more : (before : List Found) (found : Found) (p : List ℕ)
+    → is_target (before ++ found ∷ []) p ≡ (is_target before p || (is_file found.task && bytes_eq p found.target))
+target_more before found p = any_more (λ (f : Found). is_file f.task && bytes_eq p f.target) before found
+
 pub part_more : (before : List Found) (found : Found) (p : List ℕ)
     → is_part (before ++ found ∷ []) p ≡ (is_part before p || (is_file found.task && bytes_eq p (part_of found.target)))
-part_more before found p = list_any-append (λ (f : Found). is_file f.task && bytes_eq p (part_of f.target)) before (found ∷ [])
-    ∙ ap (λ b. is_part before p || b) (or_false (is_file found.task && bytes_eq p (part_of found.target)))
-  where
-    or_false : (a : Bool) → (a || false) ≡ a
-    or_false true = refl
-    or_false false = refl
+part_more before found p = any_more (λ (f : Found). is_file f.task && bytes_eq p (part_of f.target)) before found
 
 pub behind_more : (all before jobs : List Found) (found : Found)
     → apart_behind all before (jobs ++ found ∷ []) ≡ apart_behind all before jobs ++ found_apart all (before ++ jobs) found ∷ []
@@ -158,13 +155,13 @@ no_parts all kept before (job ∷ jobs) fewer =
     by_test false is = rw is refl
     by_test true is = rw is (fewer job.target (kept_file all before job is).no_part)
 
-pub are_apart : (jobs : List Found) → AreApart (kept_apart jobs)
+pub are_apart : (jobs : List Found) → FilesAreApart (kept_apart jobs)
 are_apart jobs = record {
   targets = no_twins jobs [] jobs;
   parts = no_parts jobs (kept_apart jobs) [] jobs (fewer_parts jobs [] jobs);
 }
 
 pub all_apart : {V E : Type 0} (jobs : List Found) (items : V → List Found) (result : Result V E)
-    → IfOk result (λ v. items v ≡ kept_apart jobs) → IfOk result (λ v. AreApart (items v))
-all_apart jobs items (Ok v) is = subst AreApart (sym is) (are_apart jobs)
+    → IfOk result (λ v. items v ≡ kept_apart jobs) → IfOk result (λ v. FilesAreApart (items v))
+all_apart jobs items (Ok v) is = subst FilesAreApart (sym is) (are_apart jobs)
 all_apart jobs items (Err e) is = tt

@@ -2,8 +2,8 @@
 use Rattle.std.proofs.Common.{◌≡◌, ◌==◌, ◌&&◌, ◌++◌, Bool, true, false, not, List, [], ◌∷◌, reverse, if◌then◌else◌, refl, sym, ap, ◌∙◌, subst}
 use Rattle.std.specs.List.{list_any, starts_with}
 use Rattle.transfer_jobs.proofs.ActLaws.{worked_append}
-use Rattle.transfer_jobs.specs.declared.carry.Phase.{Phase}
-use Rattle.transfer_jobs.specs.declared.carry.Phase.TheVariants as phase
+use Rattle.transfer_jobs.specs.declared.carry.TaskKind.{TaskKind}
+use Rattle.transfer_jobs.specs.declared.carry.TaskKind.TheVariants as kind
 use Rattle.transfer_jobs.specs.declared.hand.Verdict.{Verdict}
 use Rattle.transfer_jobs.specs.declared.hand.Verdict.TheVariants.{Done, NotDone, Stop}
 use Rattle.transfer_jobs.specs.Jobs.{
@@ -26,7 +26,7 @@ use Rattle.transfer_jobs.specs.Jobs.{
   all_work,
   all_worked,
   files_in,
-  in_phase,
+  of_kind,
   is_done,
   is_file,
   is_folder,
@@ -67,14 +67,14 @@ is_done_one Done e = refl
 is_done_one NotDone e = absurd cc
 is_done_one Stop e = absurd cc
 
--- a phase of which the tally says that all was done: each job of it was
-record IsPhaseDone (part : Phase) (jobs : List Found) (acts : List JobAct) (t new : TallyValue) : Type 0 where
+-- a kind of which the tally says that all was done: each job of it was
+record IsKindDone (part : TaskKind) (jobs : List Found) (acts : List JobAct) (t new : TallyValue) : Type 0 where
   start : t.all_done ≡ true
   acts_are : acts ≡ all_work part jobs
   goes : Goes new
   unmade : t.unmade ≡ [] → new.unmade ≡ []
 
-out_of : (part : Phase) (found : Found) (later : List Found) → is_of part found.task ≡ false
+out_of : (part : TaskKind) (found : Found) (later : List Found) → is_of part found.task ≡ false
     → all_work part (found ∷ later) ≡ all_work part later
 out_of part found later out = by_test (is_of part found.task) out
   where
@@ -84,7 +84,7 @@ out_of part found later out = by_test (is_of part found.task) out
     by_test true e = absurd cc
     by_test false e = refl
 
-into : (part : Phase) (found : Found) (later : List Found) → is_of part found.task ≡ true
+into : (part : TaskKind) (found : Found) (later : List Found) → is_of part found.task ≡ true
     → all_work part (found ∷ later) ≡ Worked found Done ∷ all_work part later
 into part found later in_it = by_test (is_of part found.task) in_it
   where
@@ -94,16 +94,16 @@ into part found later in_it = by_test (is_of part found.task) in_it
     by_test true e = refl
     by_test false e = absurd cc
 
--- what is left of the phase from a tally on
-abbrev Onward : Phase → List Found → TallyValue → Type 0
-Onward part later new = (u : TallyValue) → (more : List JobAct) → Goes u → AreActs (in_phase part) IsJob later u more new
-    → IsPhaseDone part later more u new
+-- what is left of the kind from a tally on
+abbrev Onward : TaskKind → List Found → TallyValue → Type 0
+Onward part later new = (u : TallyValue) → (more : List JobAct) → Goes u → AreActs (of_kind part) IsJob later u more new
+    → IsKindDone part later more u new
 
-one_done : (part : Phase) (found : Found) (later : List Found) (t : TallyValue) (acts rest : List JobAct) (new : TallyValue)
+one_done : (part : TaskKind) (found : Found) (later : List Found) (t : TallyValue) (acts rest : List JobAct) (new : TallyValue)
     (act : JobAct) → Onward part later new → Goes t → is_of part found.task ≡ true → acts ≡ act ∷ rest → IsJob t found act
-    → AreActs (in_phase part) IsJob later (after_job act t) rest new → IsPhaseDone part (found ∷ later) acts t new
+    → AreActs (of_kind part) IsJob later (after_job act t) rest new → IsKindDone part (found ∷ later) acts t new
 one_done part found later t acts rest new (Worked other v) next goes in_it is job a =
-    let r : IsPhaseDone part later rest (after_job (Worked other v) t) new =
+    let r : IsKindDone part later rest (after_job (Worked other v) t) new =
     next (after_job (Worked other v) t) rest (goes_on other v t goes) a in
     let one : v ≡ Done = is_done_one v (and_right t.all_done (is_done v) r.start) in
     record {
@@ -117,54 +117,54 @@ one_done part found later t acts rest new (Worked other v) next goes in_it is jo
 one_done part found later t acts rest new (Copied files) next goes in_it is job a = absurd job
 one_done part found later t acts rest new (Kept other v) next goes in_it is job a = absurd job
 one_done part found later t acts rest new (Skipped other) next goes in_it is job a =
-    let r : IsPhaseDone part later rest (after_job (Skipped other) t) new =
+    let r : IsKindDone part later rest (after_job (Skipped other) t) new =
     next (after_job (Skipped other) t) rest (λ e. absurd cc) a in
     absurd (let never : false ≡ true = r.start in cc)
 
-phase_done : (part : Phase) (jobs : List Found) (t : TallyValue) (acts : List JobAct) (new : TallyValue) → Goes t
-    → new.all_done ≡ true → AreActs (in_phase part) IsJob jobs t acts new → IsPhaseDone part jobs acts t new
-phase_done part [] t acts new goes all h = record {
+kind_done : (part : TaskKind) (jobs : List Found) (t : TallyValue) (acts : List JobAct) (new : TallyValue) → Goes t
+    → new.all_done ≡ true → AreActs (of_kind part) IsJob jobs t acts new → IsKindDone part jobs acts t new
+kind_done part [] t acts new goes all h = record {
   start = ap (λ (x : TallyValue). x.all_done) (sym h.1) ∙ all;
   acts_are = h.0;
   goes = subst Goes (sym h.1) goes;
   unmade = λ none. ap (λ (x : TallyValue). x.unmade) h.1 ∙ none;
 }
-phase_done part (found ∷ later) t acts new goes all h =
-    by_test (is_of part found.task) t.stopped refl refl (λ u more g a. phase_done part later u more new g all a) h
+kind_done part (found ∷ later) t acts new goes all h =
+    by_test (is_of part found.task) t.stopped refl refl (λ u more g a. kind_done part later u more new g all a) h
   where
     by_test : (of stopped : Bool) → is_of part found.task ≡ of → t.stopped ≡ stopped → Onward part later new
         → FactBy (of && not stopped)
         ((act : JobAct) × (rest : List JobAct) × (acts ≡ act ∷ rest) × IsJob t found act
-        × AreActs (in_phase part) IsJob later (after_job act t) rest new)
-        (AreActs (in_phase part) IsJob later t acts new)
-        → IsPhaseDone part (found ∷ later) acts t new
+        × AreActs (of_kind part) IsJob later (after_job act t) rest new)
+        (AreActs (of_kind part) IsJob later t acts new)
+        → IsKindDone part (found ∷ later) acts t new
     by_test false stopped is at next h =
-        let r : IsPhaseDone part later acts t new = next t acts goes h in
+        let r : IsKindDone part later acts t new = next t acts goes h in
         record { start = r.start; acts_are = r.acts_are ∙ sym (out_of part found later is); goes = r.goes; unmade = r.unmade }
     by_test true true is at next h =
-        let r : IsPhaseDone part later acts t new = next t acts goes h in
+        let r : IsKindDone part later acts t new = next t acts goes h in
         absurd (let never : true ≡ false = sym at ∙ goes r.start in cc)
     by_test true false is at next h = one_done part found later t acts (h.1) new (h.0) next goes is (h.2) (h.3) (h.4)
 
--- all was done before a phase where all is after it
+-- all was done before a kind where all is after it
 job_before : (act : JobAct) (t : TallyValue) → (after_job act t).all_done ≡ true → t.all_done ≡ true
 job_before (Copied files) t e = e
 job_before (Worked other v) t e = and_left t.all_done (is_done v) e
 job_before (Kept other v) t e = and_left t.all_done (is_done v) e
 job_before (Skipped other) t e = absurd cc
 
-phase_start : (part : Phase) (jobs : List Found) (t : TallyValue) (acts : List JobAct) (new : TallyValue)
-    → new.all_done ≡ true → AreActs (in_phase part) IsJob jobs t acts new → t.all_done ≡ true
-phase_start part [] t acts new all h = ap (λ (x : TallyValue). x.all_done) (sym h.1) ∙ all
-phase_start part (found ∷ later) t acts new all h =
-    by_test (in_phase part t found) (λ u more a. phase_start part later u more new all a) h
+kind_start : (part : TaskKind) (jobs : List Found) (t : TallyValue) (acts : List JobAct) (new : TallyValue)
+    → new.all_done ≡ true → AreActs (of_kind part) IsJob jobs t acts new → t.all_done ≡ true
+kind_start part [] t acts new all h = ap (λ (x : TallyValue). x.all_done) (sym h.1) ∙ all
+kind_start part (found ∷ later) t acts new all h =
+    by_test (of_kind part t found) (λ u more a. kind_start part later u more new all a) h
   where
     by_test : (b : Bool)
-        → ((u : TallyValue) → (more : List JobAct) → AreActs (in_phase part) IsJob later u more new → u.all_done ≡ true)
+        → ((u : TallyValue) → (more : List JobAct) → AreActs (of_kind part) IsJob later u more new → u.all_done ≡ true)
         → FactBy b
         ((act : JobAct) × (rest : List JobAct) × (acts ≡ act ∷ rest) × IsJob t found act
-        × AreActs (in_phase part) IsJob later (after_job act t) rest new)
-        (AreActs (in_phase part) IsJob later t acts new)
+        × AreActs (of_kind part) IsJob later (after_job act t) rest new)
+        (AreActs (of_kind part) IsJob later t acts new)
         → t.all_done ≡ true
     by_test true next h = job_before (h.0) t (next (after_job (h.0) t) (h.1) (h.4))
     by_test false next h = next t acts h
@@ -237,30 +237,30 @@ pub all_were_done : {H : Type 0} (done : JobAct → H → H) (keeps : Bool) (job
     → AreAllDone done jobs before after
 all_were_done {H = H} done keeps jobs before after new h all =
     let k : KeptAfter done h.linked h.with_links after = kept_after done keeps jobs h.linked new h.with_links after all h.keeps_all in
-    let makes : HasActed done (in_phase phase.Folders) IsJob jobs no_job h.made before h.with_folders = h.makes in
-    let tells : HasActed done (in_phase phase.Files) IsJob jobs h.made h.told h.with_copies h.with_files = h.tells in
-    let links : HasActed done (in_phase phase.Links) IsJob jobs h.told h.linked h.with_files h.with_links = h.links in
-    let told_all : h.told.all_done ≡ true = phase_start phase.Links jobs h.told (links.0) h.linked k.start (links.1) in
-    let made_all : h.made.all_done ≡ true = phase_start phase.Files jobs h.made (tells.0) h.told told_all (tells.1) in
-    let first : IsPhaseDone phase.Folders jobs (makes.0) no_job h.made =
-    phase_done phase.Folders jobs no_job (makes.0) h.made (λ e. refl) made_all (makes.1) in
-    let second : IsPhaseDone phase.Files jobs (tells.0) h.made h.told =
-    phase_done phase.Files jobs h.made (tells.0) h.told first.goes told_all (tells.1) in
-    let third : IsPhaseDone phase.Links jobs (links.0) h.told h.linked =
-    phase_done phase.Links jobs h.told (links.0) h.linked second.goes k.start (links.1) in
-    let folders : h.with_folders ≡ all_worked done (all_work phase.Folders jobs) before =
+    let makes : HasActed done (of_kind kind.Folders) IsJob jobs no_job h.made before h.with_folders = h.makes in
+    let tells : HasActed done (of_kind kind.Files) IsJob jobs h.made h.told h.with_copies h.with_files = h.tells in
+    let links : HasActed done (of_kind kind.Links) IsJob jobs h.told h.linked h.with_files h.with_links = h.links in
+    let told_all : h.told.all_done ≡ true = kind_start kind.Links jobs h.told (links.0) h.linked k.start (links.1) in
+    let made_all : h.made.all_done ≡ true = kind_start kind.Files jobs h.made (tells.0) h.told told_all (tells.1) in
+    let first : IsKindDone kind.Folders jobs (makes.0) no_job h.made =
+    kind_done kind.Folders jobs no_job (makes.0) h.made (λ e. refl) made_all (makes.1) in
+    let second : IsKindDone kind.Files jobs (tells.0) h.made h.told =
+    kind_done kind.Files jobs h.made (tells.0) h.told first.goes told_all (tells.1) in
+    let third : IsKindDone kind.Links jobs (links.0) h.told h.linked =
+    kind_done kind.Links jobs h.told (links.0) h.linked second.goes k.start (links.1) in
+    let folders : h.with_folders ≡ all_worked done (all_work kind.Folders jobs) before =
     makes.2 ∙ ap (λ (l : List JobAct). all_worked done l before) first.acts_are in
     let copies : h.with_copies ≡ done (Copied (files_in no_job jobs)) h.with_folders =
     copied_then done jobs h.made h.with_folders h.with_copies (first.goes made_all) (first.unmade refl) h.copies in
-    let files : h.with_files ≡ all_worked done (all_work phase.Files jobs) h.with_copies =
+    let files : h.with_files ≡ all_worked done (all_work kind.Files jobs) h.with_copies =
     tells.2 ∙ ap (λ (l : List JobAct). all_worked done l h.with_copies) second.acts_are in
-    let linked : h.with_links ≡ all_worked done (all_work phase.Links jobs) h.with_files =
+    let linked : h.with_links ≡ all_worked done (all_work kind.Links jobs) h.with_files =
     links.2 ∙ ap (λ (l : List JobAct). all_worked done l h.with_files) third.acts_are in (
       k.acts,
       k.told ∙ ap (λ (x : H). all_worked done k.acts x)
-          (linked ∙ ap (λ (x : H). all_worked done (all_work phase.Links jobs) x)
-          (files ∙ ap (λ (x : H). all_worked done (all_work phase.Files jobs) x)
+          (linked ∙ ap (λ (x : H). all_worked done (all_work kind.Links jobs) x)
+          (files ∙ ap (λ (x : H). all_worked done (all_work kind.Files jobs) x)
           (copies ∙ ap (λ (x : H). done (Copied (files_in no_job jobs)) x) folders)))
-          ∙ sym (four_parts done (all_work phase.Folders jobs) (all_work phase.Files jobs) (all_work phase.Links jobs) k.acts
+          ∙ sym (four_parts done (all_work kind.Folders jobs) (all_work kind.Files jobs) (all_work kind.Links jobs) k.acts
           (Copied (files_in no_job jobs)) before),
     )

@@ -59,6 +59,6 @@ abbrev pub has_part : List Found → Bool
 has_part jobs = list_any (λ f. is_file f.task && is_part jobs f.target) jobs
 
 -- Each file is copied to a path of its own, which is no part of another one.
-pub record AreApart (jobs : List Found) : Type 0 where
+pub record FilesAreApart (jobs : List Found) : Type 0 where
   pub targets : has_twins jobs ≡ false
   pub parts : has_part jobs ≡ false

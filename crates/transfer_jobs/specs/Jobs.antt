@@ -18,8 +18,8 @@ use Rattle.std.specs.Prelude.{
 }
 use Rattle.std.specs.List.{list_any, starts_with}
 use Rattle.transfer_paths.specs.Names.{path_in}
-use Rattle.transfer_jobs.specs.declared.carry.Phase.{Phase}
-use Rattle.transfer_jobs.specs.declared.carry.Phase.TheVariants as phase
+use Rattle.transfer_jobs.specs.declared.carry.TaskKind.{TaskKind}
+use Rattle.transfer_jobs.specs.declared.carry.TaskKind.TheVariants as kind
 use Rattle.transfer_jobs.specs.declared.hand.Verdict.{Verdict}
 use Rattle.transfer_jobs.specs.declared.hand.Verdict.TheVariants.{Done, Stop}
 use Rattle.transfer_walk.specs.declared.found.Found.{Found}
@@ -103,15 +103,15 @@ is_skipped t found = list_any (λ folder. starts_with ◌==◌ found.target fold
 abbrev pub is_unmade : TallyValue → Found → Bool
 is_unmade t found = list_any (λ folder. starts_with ◌==◌ (path_in found.target []) folder) t.unmade
 
--- files and symbolic links have a phase of their own each, all else is of that in which folders are made
-abbrev pub is_of : Phase → Task → Bool
-is_of phase.Folders task = not (is_file task) && not (is_link task)
-is_of phase.Files task = is_file task
-is_of phase.Links task = is_link task
+-- files and symbolic links have a kind of their own each, all else is of that in which folders are made
+abbrev pub is_of : TaskKind → Task → Bool
+is_of kind.Folders task = not (is_file task) && not (is_link task)
+is_of kind.Files task = is_file task
+is_of kind.Links task = is_link task
 
 -- nothing is done any more once no job can be
-abbrev pub in_phase : Phase → TallyValue → Found → Bool
-in_phase phase t found = is_of phase found.task && not t.stopped
+abbrev pub of_kind : TaskKind → TallyValue → Found → Bool
+of_kind kind t found = is_of kind found.task && not t.stopped
 
 -- the files that stand in no folder that was not made
 abbrev pub files_in : TallyValue → List Found → List Found
@@ -142,14 +142,14 @@ abbrev pub FactBy : Bool → Type 0 → Type 0 → Type 0
 FactBy true A B = A
 FactBy false A B = B
 
--- One act for each of these that is in the phase, in their order.
+-- One act for each of these that is in the kind, in their order.
 abbrev pub AreActs : (TallyValue → Found → Bool) → (TallyValue → Found → JobAct → Type 0) → List Found → TallyValue
     → List JobAct → TallyValue → Type 0
-AreActs phase Is [] t acts new = (acts ≡ []) × (new ≡ t)
-AreActs phase Is (found ∷ later) t acts new = FactBy (phase t found)
+AreActs kind Is [] t acts new = (acts ≡ []) × (new ≡ t)
+AreActs kind Is (found ∷ later) t acts new = FactBy (kind t found)
     ((act : JobAct) × (rest : List JobAct) × (acts ≡ act ∷ rest) × Is t found act
-    × AreActs phase Is later (after_job act t) rest new)
-    (AreActs phase Is later t acts new)
+    × AreActs kind Is later (after_job act t) rest new)
+    (AreActs kind Is later t acts new)
 
 -- one job was done or skipped, and noted
 abbrev pub WorksOne : {H : Type 0} → (JobAct → H → H) → (TallyValue → Found → JobAct → Type 0) → Found → TallyValue
@@ -157,16 +157,16 @@ abbrev pub WorksOne : {H : Type 0} → (JobAct → H → H) → (TallyValue → 
 WorksOne done Is found old new before after = (act : JobAct) × Is old found act × (new ≡ after_job act old)
     × (after ≡ done act before)
 
--- so where it is in the phase, and else nothing was done
+-- so where it is in the kind, and else nothing was done
 abbrev pub MayWorkOne : {H : Type 0} → (JobAct → H → H) → (TallyValue → Found → Bool)
     → (TallyValue → Found → JobAct → Type 0) → Found → TallyValue → TallyValue → H → H → Type 0
-MayWorkOne done phase Is found old new before after = FactBy (phase old found)
+MayWorkOne done kind Is found old new before after = FactBy (kind old found)
     (WorksOne done Is found old new before after) ((new ≡ old) × (after ≡ before))
 
--- those of a phase were, and nothing else
+-- those of a kind were, and nothing else
 abbrev pub HasActed : {H : Type 0} → (JobAct → H → H) → (TallyValue → Found → Bool)
     → (TallyValue → Found → JobAct → Type 0) → List Found → TallyValue → TallyValue → H → H → Type 0
-HasActed done phase Is jobs old new before after = (acts : List JobAct) × AreActs phase Is jobs old acts new
+HasActed done kind Is jobs old new before after = (acts : List JobAct) × AreActs kind Is jobs old acts new
     × (after ≡ all_worked done acts before)
 
 -- the files that stand in no folder that was not made were copied; or nothing was done, since no job can be any more
@@ -190,23 +190,23 @@ pub record CarriesOut {H : Type 0} (done : JobAct → H → H) (keeps : Bool) (j
   pub with_copies : H
   pub with_files : H
   pub with_links : H
-  pub makes : HasActed done (in_phase phase.Folders) IsJob jobs no_job made before with_folders
+  pub makes : HasActed done (of_kind kind.Folders) IsJob jobs no_job made before with_folders
   pub copies : HasCopied done jobs made with_folders with_copies
-  pub tells : HasActed done (in_phase phase.Files) IsJob jobs made told with_copies with_files
-  pub links : HasActed done (in_phase phase.Links) IsJob jobs told linked with_files with_links
+  pub tells : HasActed done (of_kind kind.Files) IsJob jobs made told with_copies with_files
+  pub links : HasActed done (of_kind kind.Links) IsJob jobs told linked with_files with_links
   pub keeps_all : HasKept done keeps jobs linked new with_links after
 
 -- ---- where all was done
 
 -- each of these was worked at, and done
-abbrev pub all_work : Phase → List Found → List JobAct
-all_work phase [] = []
-all_work phase (found ∷ later) =
-    if is_of phase found.task then Worked found Done ∷ all_work phase later else all_work phase later
+abbrev pub all_work : TaskKind → List Found → List JobAct
+all_work kind [] = []
+all_work kind (found ∷ later) =
+    if is_of kind found.task then Worked found Done ∷ all_work kind later else all_work kind later
 
 -- Each folder was made, then all files were copied, each of them well, then each symbolic link was made, and nothing
 -- was done behind them but to give folders their permissions and times.
 abbrev pub AreAllDone : {H : Type 0} → (JobAct → H → H) → List Found → H → H → Type 0
 AreAllDone done jobs before after = (kept : List JobAct)
-    × (after ≡ all_worked done (all_work phase.Folders jobs ++ (Copied (files_in no_job jobs)
-    ∷ (all_work phase.Files jobs ++ (all_work phase.Links jobs ++ kept)))) before)
+    × (after ≡ all_worked done (all_work kind.Folders jobs ++ (Copied (files_in no_job jobs)
+    ∷ (all_work kind.Files jobs ++ (all_work kind.Links jobs ++ kept)))) before)

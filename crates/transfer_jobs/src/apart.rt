@@ -1,7 +1,7 @@
 //! Files are copied to paths of their own.
 ghost use Rattle.std.specs.Prelude.{◌≡◌, ◌&&◌, ◌||◌, ℕ, List, IfOk, OnOk};
 ghost use Rattle.std.specs.Str.{bytes_eq};
-ghost use Rattle.transfer_jobs.specs.Apart.{AreApart, has_path, is_part, kept_apart, task_among};
+ghost use Rattle.transfer_jobs.specs.Apart.{FilesAreApart, has_path, is_part, kept_apart, task_among};
 ghost use Rattle.transfer_jobs.specs.Jobs.{is_file};
 ghost use Rattle.transfer_paths.specs.Cuts.{part_of};
 
@@ -84,7 +84,7 @@ fn refuse_others(
 /// All other jobs are as they were.
 pub fn keep_apart(alloc: Global, jobs: Vec<Found>) -> Result<Vec<Found>, OutOfMemory>
     ensures is { IfOk result (λ kept. kept.items ≡ kept_apart jobs.items) }
-    ensures apart { IfOk result (λ kept. AreApart kept.items) }
+    ensures apart { IfOk result (λ kept. FilesAreApart kept.items) }
 {
     let parts = parts_of(alloc, jobs.as_slice())?;
     refuse_others(alloc, jobs, &parts)

@@ -1,7 +1,7 @@
 //! The jobs are done.
 ghost use Rattle.std.specs.Prelude.{◌≡◌, true, IfOk, OnOk};
-ghost use Rattle.transfer_jobs.specs.Apart.{AreApart};
-ghost use Rattle.transfer_jobs.specs.Jobs.{AreAllDone, CarriesOut, HasActed, HasCopied, HasKept, IsJob, IsKeep, MayWorkOne, WorksOne, in_phase, is_of, to_keep};
+ghost use Rattle.transfer_jobs.specs.Apart.{FilesAreApart};
+ghost use Rattle.transfer_jobs.specs.Jobs.{AreAllDone, CarriesOut, HasActed, HasCopied, HasKept, IsJob, IsKeep, MayWorkOne, WorksOne, of_kind, is_of, to_keep};
 
 use crate::hand::Hand;
 use crate::tally::Tally;
@@ -11,7 +11,7 @@ use transfer_walk::{Found, Task};
 
 /// Jobs that are done together.
 #[derive(Clone, Copy, Debug, PartialEq, Eq)]
-pub(crate) enum Phase {
+pub(crate) enum TaskKind {
     /// Folders are made; what is passed over or refused is told here too.
     Folders,
     /// What came of each file is told.
@@ -20,14 +20,14 @@ pub(crate) enum Phase {
     Links,
 }
 
-/// Whether a task is one of a phase.
-fn is_of(phase: Phase, task: Task) -> bool
-    ensures { result ≡ is_of phase task }
+/// Whether a task is one of a kind.
+fn is_of(kind: TaskKind, task: Task) -> bool
+    ensures { result ≡ is_of kind task }
 {
-    match phase {
-        Phase::Folders => task != Task::CopyFile && task != Task::CopyLink,
-        Phase::Files => task == Task::CopyFile,
-        Phase::Links => task == Task::CopyLink,
+    match kind {
+        TaskKind::Folders => task != Task::CopyFile && task != Task::CopyLink,
+        TaskKind::Files => task == Task::CopyFile,
+        TaskKind::Links => task == Task::CopyLink,
     }
 }
 
@@ -51,19 +51,19 @@ fn work_one<H: Hand>(
     tally.note_worked(alloc, found, verdict)
 }
 
-/// Does one job where it is of a phase, unless no other job can be done.
+/// Does one job where it is of a kind, unless no other job can be done.
 fn work_step<H: Hand>(
     alloc: Global,
     hand: &mut H,
     tally: &mut Tally,
     found: &Found,
-    phase: Phase,
+    kind: TaskKind,
 ) -> Result<(), OutOfMemory>
     requires { H.may hand.old }
     ensures may { H.may hand.new }
-    ensures works { OnOk result (MayWorkOne H.done (in_phase phase) IsJob found.now tally.old tally.new (H.history hand.old) (H.history hand.new)) }
+    ensures works { OnOk result (MayWorkOne H.done (of_kind kind) IsJob found.now tally.old tally.new (H.history hand.old) (H.history hand.new)) }
 {
-    if !is_of(phase, found.task) || tally.stopped() {
+    if !is_of(kind, found.task) || tally.stopped() {
         return Ok(());
     }
     work_one(alloc, hand, tally, found)
@@ -91,20 +91,20 @@ fn keep_step<H: Hand>(
     Ok(())
 }
 
-/// Does the jobs of a phase, in their order, until no other can be done.
+/// Does the jobs of a kind, in their order, until no other can be done.
 fn work_all<H: Hand>(
     alloc: Global,
     hand: &mut H,
     tally: &mut Tally,
     jobs: &[Found],
-    phase: Phase,
+    kind: TaskKind,
 ) -> Result<(), OutOfMemory>
     requires { H.may hand.old }
     ensures may { H.may hand.new }
-    ensures acts { OnOk result (HasActed H.done (in_phase phase) IsJob jobs.now tally.old tally.new (H.history hand.old) (H.history hand.new)) }
+    ensures acts { OnOk result (HasActed H.done (of_kind kind) IsJob jobs.now tally.old tally.new (H.history hand.old) (H.history hand.new)) }
 {
     for found in jobs {
-        work_step(alloc, hand, tally, found, phase)?;
+        work_step(alloc, hand, tally, found, kind)?;
     }
     Ok(())
 }
@@ -112,7 +112,7 @@ fn work_all<H: Hand>(
 /// Copies all files that stand in no folder that was not made, unless no other job can be done.
 fn copy_files<H: Hand>(hand: &mut H, tally: &Tally, jobs: &[Found])
     requires may { H.may hand.old }
-    requires apart { AreApart jobs.now }
+    requires apart { FilesAreApart jobs.now }
     ensures may { H.may hand.new }
     ensures copies { HasCopied H.done jobs.now tally.now (H.history hand.old) (H.history hand.new) }
 {
@@ -170,16 +170,16 @@ pub fn carry_out<H: Hand>(
     keeps: bool,
 ) -> Result<Tally, OutOfMemory>
     requires may { H.may hand.old }
-    requires apart { AreApart jobs.now }
+    requires apart { FilesAreApart jobs.now }
     ensures may { H.may hand.new }
     ensures carries_out { IfOk result (CarriesOut H.done keeps jobs.now (H.history hand.old) (H.history hand.new)) }
     ensures all_done { IfOk result (λ tally. tally.all_done ≡ true → AreAllDone H.done jobs.now (H.history hand.old) (H.history hand.new)) }
 {
     let mut tally = Tally::new(alloc);
-    work_all(alloc, hand, &mut tally, jobs, Phase::Folders)?;
+    work_all(alloc, hand, &mut tally, jobs, TaskKind::Folders)?;
     copy_files(hand, &tally, jobs);
-    work_all(alloc, hand, &mut tally, jobs, Phase::Files)?;
-    work_all(alloc, hand, &mut tally, jobs, Phase::Links)?;
+    work_all(alloc, hand, &mut tally, jobs, TaskKind::Files)?;
+    work_all(alloc, hand, &mut tally, jobs, TaskKind::Links)?;
     keep_where(alloc, hand, &mut tally, jobs, keeps)?;
     Ok(tally)
 }

@@ -1,6 +1,6 @@
 //! Who does the jobs.
 ghost use Rattle.std.specs.Prelude.{◌≡◌};
-ghost use Rattle.transfer_jobs.specs.Apart.{AreApart};
+ghost use Rattle.transfer_jobs.specs.Apart.{FilesAreApart};
 ghost use Rattle.transfer_jobs.specs.Jobs.{Copied, JobAct, Kept, Skipped, Worked, files_in};
 
 use crate::tally::Tally;
@@ -34,7 +34,7 @@ pub trait Hand {
     /// Copies all files among the jobs that stand in no folder that was not made, many at once, in any order.
     fn copy(&mut self, jobs: &[Found], tally: &Tally)
         requires may { Self.may self.old }
-        requires apart { AreApart jobs.now }
+        requires apart { FilesAreApart jobs.now }
         ensures may { Self.may self.new }
         ensures did { Self.history self.new ≡ Self.done (Copied (files_in tally.now jobs.now)) (Self.history self.old) };
 

@@ -34,8 +34,8 @@ use Rattle.sftp_model.specs.declared.error.Error.TheVariants as error
 use Rattle.sftp_core.specs.declared.handshake.Handshake.{Handshake}
 use Rattle.sftp_model.specs.declared.request.Request.TheVariants.{Close}
 use Rattle.sftp_core.specs.Grant.{GrantValue}
-use Rattle.sftp_core.specs.declared.place.Place.TheVariants.{Granted}
-use Rattle.sftp_core.specs.Core.{Core, abandoned, after_poll, at, queued_last, release_leaves, released, reply_in, users_of, with_place}
+use Rattle.sftp_core.specs.declared.id_record.IdRecord.TheVariants.{Granted}
+use Rattle.sftp_core.specs.Core.{Core, abandoned, after_poll, at, queued_last, release_leaves, released, reply_in, users_of, with_record}
 use Rattle.sftp_core.specs.Info.{info_of}
 use Rattle.sftp_core.proofs.Elsewhere.{abandon_phase, poll_phase, release_phase}
 use Rattle.sftp_link.specs.Views.{LinkView}
@@ -158,7 +158,7 @@ released_fault : (core : Core) (grant : GrantValue) (users : ℕ) → (release_l
 released_fault core grant users = by_test (users == 1)
   where
     by_test : (b : Bool) → (cond b (queued_last core grant.id (Close grant.handle) true)
-        (with_place core grant.id (Granted grant.handle (users - 1)))).fault ≡ core.fault
+        (with_record core grant.id (Granted grant.handle (users - 1)))).fault ≡ core.fault
     by_test true = refl
     by_test false = refl
 

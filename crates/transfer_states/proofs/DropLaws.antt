@@ -25,8 +25,8 @@ use Rattle.std.proofs.Common.{
 use Rattle.std.specs.Prelude.{IsTrue}
 use Rattle.sftp_model.specs.declared.answers.Expected.TheVariants as expected
 use Rattle.sftp_model.specs.declared.request.Request.TheVariants.{Close}
-use Rattle.sftp_core.specs.declared.place.Place.{Place}
-use Rattle.sftp_core.specs.declared.place.Place.TheVariants.{Waiting, Answered, Granted}
+use Rattle.sftp_core.specs.declared.id_record.IdRecord.{IdRecord}
+use Rattle.sftp_core.specs.declared.id_record.IdRecord.TheVariants.{Waiting, Answered, Granted}
 use Rattle.sftp_core.specs.Core.{
   Core,
   abandon_leaves,
@@ -38,7 +38,7 @@ use Rattle.sftp_core.specs.Core.{
   release_leaves,
   released,
   users_of,
-  with_place,
+  with_record,
 }
 use Rattle.sftp_core.specs.Grant.{GrantValue}
 use Rattle.sftp_core.specs.Table.{brings}
@@ -59,7 +59,7 @@ use Rattle.transfer_states.specs.Holdings.{
   IsNotOfParts,
   IsOfOthers,
   KeepsApart,
-  SparesPlaces,
+  SparesIds,
   drops_file,
   drops_parts,
   nothing_held,
@@ -112,14 +112,14 @@ dropped_fault : (core : Core) (k : ℕ) (brought : Option (List ℕ)) → (dropp
 dropped_fault core k (Some handle) = refl
 dropped_fault core k None = refl
 
-abandon_fault : (core : Core) (k : ℕ) (p : Option Place) → (abandon_leaves core k p).fault ≡ core.fault
+abandon_fault : (core : Core) (k : ℕ) (p : Option IdRecord) → (abandon_leaves core k p).fault ≡ core.fault
 abandon_fault core k (Some (Waiting e s w)) = refl
 abandon_fault core k (Some (Answered e r)) = dropped_fault core k (brings r)
 abandon_fault core k (Some (Granted handle users)) = refl
 abandon_fault core k None = refl
 
 abandoned_spares : (core : Core) (ticket : ℕ) (before next : HoldingValue)
-    → ((id : ℕ) → IsOfOthers id before → (id ≢ ticket) × IsOfOthers id next) → SparesPlaces before next core (abandoned core ticket)
+    → ((id : ℕ) → IsOfOthers id before → (id ≢ ticket) × IsOfOthers id next) → SparesIds before next core (abandoned core ticket)
 abandoned_spares core ticket before next others = record {
   places = λ id place mine here. (let o = others id mine in (abandon_elsewhere core ticket (at core ticket) id o.0 ∙ here, o.1));
   phase = abandon_phase core ticket (at core ticket);
@@ -136,7 +136,7 @@ abandoned_file core ticket (hold.Opened grant) counted apart held =
 -- no part is left, and the file stays what it was
 dropped_apart : (core : Core) (file : FileHold) (parts : List Part) → IsFileHeld core file → ArePartsHeld core file parts
     → IsFileHeld (drops_parts core parts) file
-    × SparesPlaces (record { file = file; parts = parts }) (record { file = file; parts = [] }) core (drops_parts core parts)
+    × SparesIds (record { file = file; parts = parts }) (record { file = file; parts = [] }) core (drops_parts core parts)
 dropped_apart core file [] held none = (held, spares_same (record { file = file; parts = [] }) core)
 dropped_apart core file (part ∷ later) held (h, p, f, own, parts) =
     let mid = abandoned core part.ticket in
@@ -164,12 +164,12 @@ released_fault : (core : Core) (grant : GrantValue) (users : ℕ) → (release_l
 released_fault core grant users = by_test (users == 1)
   where
     by_test : (b : Bool) → (cond b (queued_last core grant.id (Close grant.handle) true)
-        (with_place core grant.id (Granted grant.handle (users - 1)))).fault ≡ core.fault
+        (with_record core grant.id (Granted grant.handle (users - 1)))).fault ≡ core.fault
     by_test true = refl
     by_test false = refl
 
 released_spares : (core : Core) (grant : GrantValue) (before next : HoldingValue)
-    → ((id : ℕ) → IsOfOthers id before → (id ≢ grant.id) × IsOfOthers id next) → SparesPlaces before next core (released core grant)
+    → ((id : ℕ) → IsOfOthers id before → (id ≢ grant.id) × IsOfOthers id next) → SparesIds before next core (released core grant)
 released_spares core grant before next others = record {
   places = λ id place mine here. (let o = others id mine in
       (release_elsewhere core grant (users_of (at core grant.id)) id o.0 ∙ here, o.1));
@@ -211,7 +211,7 @@ file_closed core after old new held closes =
 -- ---- a file that is given up
 
 file_dropped : (core : Core) (file : FileHold) → IsFileHeld core file
-    → SparesPlaces (record { file = file; parts = [] }) nothing_held core (drops_file core file)
+    → SparesIds (record { file = file; parts = [] }) nothing_held core (drops_file core file)
 file_dropped core hold.Nothing held = spares_same nothing_held core
 file_dropped core (hold.Asked ticket kind) held = abandoned_spares core ticket
     (record { file = hold.Asked ticket kind; parts = [] }) nothing_held
@@ -223,10 +223,10 @@ file_dropped core (hold.Opened grant) held =
     (abandoned_spares (released core grant) grant.id old nothing_held (λ id others. (others.file, record { file = tt; parts = tt })))
 
 pub all_dropped : (core after : Core) (h : HoldingValue) → HoldsAll core h → after ≡ drops_file (drops_parts core h.parts) h.file
-    → SparesPlaces h nothing_held core after
+    → SparesIds h nothing_held core after
 all_dropped core after h held is =
     let both = dropped_apart core h.file h.parts held.file held.parts in
-    subst (λ (x : Core). SparesPlaces h nothing_held core x) (sym is)
+    subst (λ (x : Core). SparesIds h nothing_held core x) (sym is)
     (spares_both h (record { file = h.file; parts = [] }) nothing_held core (drops_parts core h.parts)
     (drops_file (drops_parts core h.parts) h.file) both.1 (file_dropped (drops_parts core h.parts) h.file both.0))
 

@@ -6,8 +6,8 @@ use Rattle.sftp_model.specs.declared.answers.Expected.{Expected}
 use Rattle.sftp_model.specs.declared.answers.Expected.TheVariants as expected
 use Rattle.sftp_model.specs.declared.error.Fault.{Fault}
 use Rattle.sftp_model.specs.declared.request.Request.{Request}
-use Rattle.sftp_core.specs.declared.place.Place.{Place}
-use Rattle.sftp_core.specs.declared.place.Place.TheVariants.{Waiting, Answered, Granted}
+use Rattle.sftp_core.specs.declared.id_record.IdRecord.{IdRecord}
+use Rattle.sftp_core.specs.declared.id_record.IdRecord.TheVariants.{Waiting, Answered, Granted}
 use Rattle.sftp_core.specs.Core.{Core, after_poll, at, given_leaves, is_ticket, poll_leaves}
 use Rattle.sftp_core.specs.Grant.{GrantValue}
 use Rattle.sftp_core.specs.Table.{asks_handle, brings}
@@ -38,18 +38,18 @@ use Rattle.transfer_states.specs.Holdings.{
   IsOfOthers,
   KeepsApart,
   SettlesFile,
-  SparesPlaces,
+  SparesIds,
   after_file,
   file_reply,
 }
 
 -- ---- a number that a ticket has stands in the core
 
-clash : (p : Option Place) (place : Place) → p ≡ None → p ≡ Some place → ⊥
-clash p place none some = let bad : (◌≡◌ {A = Option Place} None (Some place)) = sym none ∙ some in cc
+clash : (p : Option IdRecord) (place : IdRecord) → p ≡ None → p ≡ Some place → ⊥
+clash p place none some = let bad : (◌≡◌ {A = Option IdRecord} None (Some place)) = sym none ∙ some in cc
 
-no_ticket : (p : Option Place) → IsTrue (is_ticket p) → p ≡ None → ⊥
-no_ticket p counted none = let gone = subst (λ (x : Option Place). IsTrue (is_ticket x)) none counted in cc
+no_ticket : (p : Option IdRecord) → IsTrue (is_ticket p) → p ≡ None → ⊥
+no_ticket p counted none = let gone = subst (λ (x : Option IdRecord). IsTrue (is_ticket x)) none counted in cc
 
 -- a held ticket is not one that is free
 pub held_apart : (core : Core) (id ticket : ℕ) (kind : Expected) → HoldsTicket core id kind → at core ticket ≡ None → id ≢ ticket
@@ -57,10 +57,10 @@ held_apart core id ticket kind h free same = no_ticket (at core id) h.counted (a
 
 -- ---- both, one after the other
 
-pub spares_same : (h : HoldingValue) (core : Core) → SparesPlaces h h core core
+pub spares_same : (h : HoldingValue) (core : Core) → SparesIds h h core core
 spares_same h core = record { places = λ id place others here. (here, others); phase = refl; fault = refl }
 
-pub spares_both : (a b c : HoldingValue) (x y z : Core) → SparesPlaces a b x y → SparesPlaces b c y z → SparesPlaces a c x z
+pub spares_both : (a b c : HoldingValue) (x y z : Core) → SparesIds a b x y → SparesIds b c y z → SparesIds a c x z
 spares_both a b c x y z s t = record {
   places = λ id place others here. (let mid = s.places id place others here in t.places id place mid.1 mid.0);
   phase = t.phase ∙ s.phase;
@@ -75,7 +75,7 @@ apart_both a b c x y z s t = record { held = t.held; spares = spares_both a b c 
 
 -- ---- a request that is submitted
 
-queued_stays : (core : Core) (ticket : ℕ) (asking : Asking) (id : ℕ) (place : Place) → at core ticket ≡ None
+queued_stays : (core : Core) (ticket : ℕ) (asking : Asking) (id : ℕ) (place : IdRecord) → at core ticket ≡ None
     → at core id ≡ Some place → at (queued_by core ticket asking) id ≡ Some place
 queued_stays core ticket (Whole asked) id place free here =
     put_elsewhere core.table ticket _ id (λ same. clash (at core id) place (ap (λ n. at core n) same ∙ free) here) ∙ here
@@ -92,7 +92,7 @@ queued_fault core ticket (Parts handle offset parts) = refl
 
 submitted_spares : (old new : Core) (asking : Asking) (ticket : ℕ) (before after : HoldingValue)
     → Submitted old asking ticket new
-    → ((id : ℕ) → id ≢ ticket → IsOfOthers id before → IsOfOthers id after) → SparesPlaces before after old new
+    → ((id : ℕ) → id ≢ ticket → IsOfOthers id before → IsOfOthers id after) → SparesIds before after old new
 submitted_spares old new asking ticket before after s others = record {
   places = λ id place mine here. (
     ap (λ (x : Core). at x id) s.queued ∙ queued_stays old ticket asking id place s.free here,
@@ -201,7 +201,7 @@ given_fault : (core : Core) (k : ℕ) (brought : Option (List ℕ)) → (given_l
 given_fault core k (Some handle) = refl
 given_fault core k None = refl
 
-poll_fault : (core : Core) (k : ℕ) (f : Option Fault) (p : Option Place) → (poll_leaves core k f p).fault ≡ core.fault
+poll_fault : (core : Core) (k : ℕ) (f : Option Fault) (p : Option IdRecord) → (poll_leaves core k f p).fault ≡ core.fault
 poll_fault core k f (Some (Answered e r)) = given_fault core k (brings r)
 poll_fault core k (Some f) (Some (Waiting e s w)) = refl
 poll_fault core k None (Some (Waiting e s w)) = refl
@@ -209,9 +209,9 @@ poll_fault core k f (Some (Granted handle users)) = refl
 poll_fault core k f None = refl
 
 polled_spares : (core after : Core) (ticket : ℕ) (before next : HoldingValue) → after ≡ after_poll core ticket
-    → ((id : ℕ) → IsOfOthers id before → (id ≢ ticket) × IsOfOthers id next) → SparesPlaces before next core after
+    → ((id : ℕ) → IsOfOthers id before → (id ≢ ticket) × IsOfOthers id next) → SparesIds before next core after
 polled_spares core after ticket before next is others =
-    subst (λ (x : Core). SparesPlaces before next core x) (sym is) (record {
+    subst (λ (x : Core). SparesIds before next core x) (sym is) (record {
       places = λ id place mine here. (let o = others id mine in (poll_elsewhere core ticket core.fault (at core ticket) id o.0 ∙ here, o.1));
       phase = poll_phase core ticket core.fault (at core ticket);
       fault = poll_fault core ticket core.fault (at core ticket);

@@ -5,3 +5,8 @@ pub mod PutLaws
 pub mod ActLaws
 pub mod PutActLaws
 pub mod DiskLaws
+pub mod LegLaws
+pub mod WholeGetLaws
+pub mod WholeGetSteps
+pub mod WholePutLaws
+pub mod WholePutSteps

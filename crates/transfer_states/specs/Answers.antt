@@ -6,7 +6,7 @@ use Rattle.sftp_model.specs.declared.reply.Reply.{Reply}
 use Rattle.sftp_model.specs.declared.reply.Reply.TheVariants as reply
 use Rattle.sftp_core.specs.Core.{Core, after_poll, at, reply_in}
 use Rattle.sftp_core.specs.Table.{expected_at}
-use Rattle.sftp_core.specs.declared.place.Place.TheVariants.{Granted}
+use Rattle.sftp_core.specs.declared.id_record.IdRecord.TheVariants.{Granted}
 use Rattle.transfer_states.specs.declared.answers.TicketAnswer.{TicketAnswer}
 use Rattle.transfer_states.specs.declared.answers.TicketAnswer.TheVariants as answer
 

@@ -13,8 +13,8 @@ use Rattle.sftp_model.specs.declared.request.Request.TheVariants as request
 use Rattle.sftp_core.specs.Core.{Core, abandoned, after_poll, at, released, reply_in}
 use Rattle.sftp_core.specs.Grant.{GrantValue}
 use Rattle.sftp_core.specs.Table.{asks_handle}
-use Rattle.sftp_core.specs.declared.place.Place.{Place}
-use Rattle.sftp_core.specs.declared.place.Place.TheVariants.{Granted}
+use Rattle.sftp_core.specs.declared.id_record.IdRecord.{IdRecord}
+use Rattle.sftp_core.specs.declared.id_record.IdRecord.TheVariants.{Granted}
 use Rattle.call_state.specs.Asked.{HoldsTicket, Submitted, request_of}
 use Rattle.call_state.specs.declared.asking.Asking.{Asking}
 use Rattle.call_state.specs.declared.asking.Asking.TheVariants.{Whole, Parts}
@@ -83,8 +83,8 @@ pub record HoldsAll (core : Core) (h : HoldingValue) : Type 0 where
   pub parts : ArePartsHeld core h.file h.parts
 
 -- What stands in the core under a number of others stays, and is of others still.
-pub record SparesPlaces (before after : HoldingValue) (old new : Core) : Type 0 where
-  pub places : (id : ℕ) (place : Place) → IsOfOthers id before → at old id ≡ Some place
+pub record SparesIds (before after : HoldingValue) (old new : Core) : Type 0 where
+  pub places : (id : ℕ) (place : IdRecord) → IsOfOthers id before → at old id ≡ Some place
       → (at new id ≡ Some place) × IsOfOthers id after
   pub phase : new.phase ≡ old.phase
   pub fault : new.fault ≡ old.fault
@@ -92,7 +92,7 @@ pub record SparesPlaces (before after : HoldingValue) (old new : Core) : Type 0 
 -- What the copy has it may go on with, and what others have stays theirs.
 pub record KeepsApart (before after : HoldingValue) (old new : Core) : Type 0 where
   pub held : HoldsAll new after
-  pub spares : SparesPlaces before after old new
+  pub spares : SparesIds before after old new
 
 -- ---- what it has of the file
 

@@ -5,3 +5,7 @@ pub mod Gets
 pub mod Puts
 pub mod Acts
 pub mod Disks
+pub mod Legs
+pub mod WholeGets
+pub mod WholePuts
+pub mod WholeRows

@@ -7,7 +7,7 @@ ghost use Rattle.sftp_model.specs.Answers.{allows};
 ghost use Rattle.sftp_model.specs.declared.answers.Expected.TheVariants as expected;
 ghost use Rattle.transfer_states.specs.declared.get.GetStage.TheVariants as stage;
 ghost use Rattle.transfer_states.specs.Gets.{AsksNext, GetAsksOn, GetEnds, GetFinishes, GetStepDid, GetLeaves, GetGivesUp, TakesReply, GetHasEnded, IsBehindRead, IsGetting, IsOpenAt, IsReadingOn, KeepsPiece, MakesPart, MayGet, GetOpens, GetReadsOn, GetStarts, WritesPiece, get_begun, get_is_over, read_flags};
-ghost use Rattle.transfer_states.specs.Holdings.{SparesPlaces, drops_file, drops_parts, nothing_held};
+ghost use Rattle.transfer_states.specs.Holdings.{SparesIds, drops_file, drops_parts, nothing_held};
 ghost use Rattle.transfer_local.specs.Local.{HasDone, part_opened, tried};
 
 use crate::failure::Failure;
@@ -143,7 +143,7 @@ impl FileGet {
     pub fn cancel(self, core: &mut Core)
         requires { IsGetting core.old self }
         ensures core { core.new ≡ drops_file (drops_parts core.old self.holding.parts) self.holding.file }
-        ensures spares { SparesPlaces self.holding nothing_held core.old core.new }
+        ensures spares { SparesIds self.holding nothing_held core.old core.new }
     {
         let FileGet {
             holding,

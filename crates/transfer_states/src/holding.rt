@@ -4,7 +4,7 @@ ghost use Rattle.sftp_model.specs.declared.answers.Expected.TheVariants as expec
 ghost use Rattle.sftp_core.specs.Core.{is_call};
 ghost use Rattle.sftp_core.specs.Info.{info_of};
 ghost use Rattle.transfer_states.specs.declared.holding.FileHold.TheVariants as hold;
-ghost use Rattle.transfer_states.specs.Holdings.{AsksFile, ClosesFile, DropsParts, HoldsAll, IsFileAsked, IsFileHeld, IsOnly, IsFileOpen, ArePartsHeld, AsksForAttrs, AsksForRead, AsksForWrite, KeepsApart, LetsFileGo, SettlesFile, SettlesStatus, SparesPlaces, TakesPart, drops_file, drops_parts, nothing_held};
+ghost use Rattle.transfer_states.specs.Holdings.{AsksFile, ClosesFile, DropsParts, HoldsAll, IsFileAsked, IsFileHeld, IsOnly, IsFileOpen, ArePartsHeld, AsksForAttrs, AsksForRead, AsksForWrite, KeepsApart, LetsFileGo, SettlesFile, SettlesStatus, SparesIds, TakesPart, drops_file, drops_parts, nothing_held};
 ghost use Rattle.transfer_states.specs.declared.holding.FileHold.{FileHold as FileValue};
 
 use crate::answers::{TicketAnswer, answer_to};
@@ -351,7 +351,7 @@ impl Holding {
     pub(crate) fn cancel(self, core: &mut Core)
         requires { HoldsAll core.old self }
         ensures core { core.new ≡ drops_file (drops_parts core.old self.parts) self.file }
-        ensures spares { SparesPlaces self nothing_held core.old core.new }
+        ensures spares { SparesIds self nothing_held core.old core.new }
     {
         let Holding { file, mut parts } = self;
         drop_parts(&mut parts, core);

@@ -1,5 +1,5 @@
 //! Laws of the definitions. The functions do nothing: what they ensure holds of all values.
-ghost use Rattle.std.specs.Prelude.{◌≡◌, ◌≢◌, ◌∷◌, ◌++◌, ℕ, List, Option, Some};
+ghost use Rattle.std.specs.Prelude.{◌≡◌, ◌≢◌, ◌∷◌, ◌++◌, ℕ, List, Option, Some, Ok};
 ghost use Rattle.sftp_model.specs.Pieces.{joined};
 ghost use Rattle.sftp_core.specs.Core.{Core};
 ghost use Rattle.sftp_model.specs.declared.file_attrs.FileAttrs.{FileAttrs};
@@ -7,7 +7,10 @@ ghost use Rattle.transfer_local.specs.Local.{Created, Renamed, Reopened, all_don
 ghost use Rattle.transfer_states.specs.Acts.{GotAfter, GotSoFar, SentAfter, SentSoFar};
 ghost use Rattle.transfer_states.specs.Disks.{Disk, IsCopied, after_act};
 ghost use Rattle.transfer_states.specs.Gets.{GetStepDid, get_begun};
+ghost use Rattle.transfer_states.specs.Legs.{IsWholeCopy, Leg};
 ghost use Rattle.transfer_states.specs.Puts.{MayPut, PutStepDid, put_begun};
+ghost use Rattle.transfer_states.specs.WholeGets.{GotWhole, IsGetLeg};
+ghost use Rattle.transfer_states.specs.WholePuts.{IsPutLeg, SentWhole};
 ghost use Rattle.transfer_states.specs.declared.get.FileGet.{FileGet};
 ghost use Rattle.transfer_states.specs.declared.put.FilePut.{FilePut};
 ghost use Rattle.transfer_states.specs.declared.put.PutStage.TheVariants as put;
@@ -37,6 +40,24 @@ pub fn puts_read_their_file<F: LocalFile>()
         (result : Progress) → MayPut core old → SentSoFar F.done name from old first before old.stage
         → PutStepDid F.done name part remote core old after new before now result old.stage
         → SentAfter F.done name from new first now result }
+{}
+
+/// What came of all legs of a copy from the server that gave a count: the bytes that were written are those of the DATA to
+/// its READs, each at its offset, from where the copy began up to the READ that was answered by EOF.
+pub fn gets_are_whole<F: LocalFile>()
+    ensures { (remote part name : List ℕ) (most from len : ℕ) (first : F.History) (earlier : List (Leg FileGet F.History))
+        (last : Leg FileGet F.History)
+        → IsWholeCopy (IsGetLeg F.done remote part name) (get_begun most from) first earlier last (Ok len)
+        → GotWhole F.done remote part name from len first last.now (last ∷ earlier) }
+{}
+
+/// What came of all legs of a copy to the server that gave a count: the bytes that were got were each carried by a WRITE at
+/// its offset, from where the copy began up to the count, and each of these had OK before the file was closed.
+pub fn puts_are_whole<F: LocalFile>()
+    ensures { (name part remote : List ℕ) (window from len : ℕ) (attrs : Option FileAttrs) (first : F.History)
+        (earlier : List (Leg FilePut F.History)) (last : Leg FilePut F.History)
+        → IsWholeCopy (IsPutLeg F.done name part remote) (put_begun window from attrs) first earlier last (Ok len)
+        → SentWhole F.done name part remote from len first last.now (last ∷ earlier) }
 {}
 
 /// On a disk where each act does what it says, the acts of a copy from the server leave its pieces, joined, under the

@@ -16,7 +16,10 @@ mod refusals;
 pub use failure::Failure;
 pub use get::{FileGet, GetStage};
 pub use holding::{FileHold, Holding, Part};
-pub use laws::{gets_write_their_part, one_name_is_changed, puts_read_their_file};
+pub use laws::{
+    gets_are_whole, gets_write_their_part, one_name_is_changed, puts_are_whole,
+    puts_read_their_file,
+};
 pub use progress::Progress;
 pub use put::{FilePut, PutStage};
 pub use transfer_local::{LocalError, LocalFile};

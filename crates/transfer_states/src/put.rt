@@ -5,7 +5,7 @@ ghost use Rattle.sftp_core.specs.Info.{info_of};
 ghost use Rattle.sftp_model.specs.OpenOptions.{flags_of};
 ghost use Rattle.plan_model.specs.FilePlans.{open_request};
 ghost use Rattle.transfer_states.specs.declared.put.PutStage.TheVariants as stage;
-ghost use Rattle.transfer_states.specs.Holdings.{SparesPlaces, drops_file, drops_parts, nothing_held};
+ghost use Rattle.transfer_states.specs.Holdings.{SparesIds, drops_file, drops_parts, nothing_held};
 ghost use Rattle.transfer_states.specs.Puts.{AcceptsWrite, AsksAt, IsBehindWrite, IsOpenToWrite, IsPutting, MayPut, OpensPut, PutAsksAttrs, PutEndsSending, PutStepDid, PutFinishes, PutGivesUp, PutHasEnded, PutLeaves, PutReadsNext, PutSendsOn, StartsPut, PutWritesNext, WritesOn, put_begun, put_is_over, write_flags};
 
 mod naming;
@@ -146,7 +146,7 @@ impl FilePut {
     pub fn cancel(self, core: &mut Core)
         requires { IsPutting core.old self }
         ensures core { core.new ≡ drops_file (drops_parts core.old self.holding.parts) self.holding.file }
-        ensures spares { SparesPlaces self.holding nothing_held core.old core.new }
+        ensures spares { SparesIds self.holding nothing_held core.old core.new }
     {
         let FilePut {
             holding,

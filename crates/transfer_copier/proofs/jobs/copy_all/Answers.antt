@@ -1,4 +1,4 @@
-use Rattle.std.proofs.Common.{rules, refl, subst, max, [], ◌≡◌}
+use Rattle.std.proofs.Common.{refl, subst, max}
 use Rattle.sftp_core.specs.Core.{Core}
 use Rattle.sftp_client.specs.Sessions.{with_core}
 use Rattle.transfer_copier.specs.Copies.{CopierValue, SparesAll}

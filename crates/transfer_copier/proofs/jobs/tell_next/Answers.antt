@@ -1,6 +1,5 @@
-use Rattle.std.proofs.Common.{rules, ◌≡◌, Ok, Some, subst, ap}
-use Rattle.std.specs.Prelude.{Option, Result}
-use Rattle.transfer_states.specs.declared.failure.Failure.{Failure}
+use Rattle.std.proofs.Common.{Ok, subst}
+use Rattle.std.specs.Prelude.{Option}
 use Rattle.transfer_copier.specs.declared.running.Copied.{Copied}
 use Rattle.transfer_copier.specs.Copies.{NextEnded}
 use Rattle.transfer_copier.proofs.jobs.tell_next.Goals as goal

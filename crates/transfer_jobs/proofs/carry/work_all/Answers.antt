@@ -1,7 +1,7 @@
 use Rattle.std.proofs.Common.{rules, ◌≡◌, ◌+◌, ◌<◌, ◌≤◌, ◌∷◌, drop, length, sym, ap, ◌∙◌}
 use Rattle.std.proofs.lemmas.List.{drop_all, drop_more}
 use Rattle.transfer_jobs.proofs.ActLaws.{ended, went_on}
-use Rattle.transfer_jobs.specs.Jobs.{IsJob, in_phase}
+use Rattle.transfer_jobs.specs.Jobs.{IsJob, of_kind}
 use Rattle.transfer_walk.specs.declared.found.Found.{Found}
 use Rattle.transfer_jobs.proofs.carry.work_all.Goals as goal
 
@@ -15,12 +15,12 @@ loop-found-preserved g c =
     record {
       may = c.work_step.ensures.may;
       acting =
-          went_on g.H.Hand.done (in_phase c.args.phase) IsJob c.args.jobs.now _ _ c.found-item.result c.args.tally.now
+          went_on g.H.Hand.done (of_kind c.args.kind) IsJob c.args.jobs.now _ _ c.found-item.result c.args.tally.now
           c.loop-found.tally c.work_step.new.tally _ _ _ left c.in_ok-work_step.ensures.works c.loop-found.invariant.acting;
     }
 
 pub returns-clause-acts : goal.returns-clause-acts
 returns-clause-acts g c =
     let past : length c.args.jobs.now ≤ c.loop-found.found-index = search rules in
-    ended g.H.Hand.done (in_phase c.args.phase) IsJob c.args.jobs.now _ c.args.tally.now c.loop-found.tally _ _
+    ended g.H.Hand.done (of_kind c.args.kind) IsJob c.args.jobs.now _ c.args.tally.now c.loop-found.tally _ _
     (drop_all c.loop-found.found-index c.args.jobs.now past) c.loop-found.invariant.acting

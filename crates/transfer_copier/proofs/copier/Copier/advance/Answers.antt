@@ -1,4 +1,4 @@
-use Rattle.std.proofs.Common.{rules, ◌≡◌, refl, sym, subst, inl, inr}
+use Rattle.std.proofs.Common.{refl, subst, inl, inr}
 use Rattle.sftp_core.specs.Core.{Core}
 use Rattle.sftp_client.specs.Sessions.{with_core}
 use Rattle.transfer_copier.specs.declared.copier.CopierStep.TheVariants as copier_step

@@ -1,6 +1,5 @@
-use Rattle.std.proofs.Common.{rules, ◌≡◌, ◌∙◌, ap, [], ◌∷◌, ◌++◌, List}
-use Rattle.transfer_copier.specs.declared.running.Running.{Running}
-use Rattle.transfer_copier.specs.Copies.{CopierValue, job_begun}
+use Rattle.std.proofs.Common.{rules, ◌≡◌, [], ◌∷◌, ◌++◌}
+use Rattle.transfer_copier.specs.Copies.{job_begun}
 use Rattle.transfer_copier.proofs.TogetherLaws.{together_begun}
 use Rattle.transfer_copier.proofs.copier.Copier.begin.Goals as goal
 

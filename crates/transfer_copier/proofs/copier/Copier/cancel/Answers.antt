@@ -1,4 +1,4 @@
-use Rattle.std.proofs.Common.{rules, ap, subst, sym, List}
+use Rattle.std.proofs.Common.{subst, sym}
 use Rattle.transfer_copier.specs.Copies.{AreTogether, CopierValue, SparesAll}
 use Rattle.transfer_copier.proofs.TogetherLaws.{cancels_all, cancels_first, cancels_may, cancels_next}
 use Rattle.transfer_copier.proofs.copier.Copier.cancel.Goals as goal

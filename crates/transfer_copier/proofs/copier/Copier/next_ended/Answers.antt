@@ -1,5 +1,4 @@
 use Rattle.transfer_copier.proofs.WorkLaws.{works_on, works_over, works_stopped}
-use Rattle.transfer_copier.specs.Copies.{Working}
 use Rattle.transfer_copier.proofs.copier.Copier.next_ended.Goals as goal
 
 pub returns-in-Over-clause-ended : goal.returns-in-Over-clause-ended
