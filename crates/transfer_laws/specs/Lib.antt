@@ -1,0 +1,2 @@
+pub mod UnchangedFiles
+pub mod FileRows
