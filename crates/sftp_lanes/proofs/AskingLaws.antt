@@ -14,10 +14,10 @@ use Rattle.sftp_model.specs.declared.options.SftpOptions.{SftpOptions}
 use Rattle.sftp_model.specs.declared.reply.Reply.{Reply}
 use Rattle.sftp_core.specs.declared.errors.TakeError.{TakeError}
 use Rattle.sftp_core.specs.declared.errors.TakeError.TheVariants as take
-use Rattle.sftp_core.specs.declared.place.Place.{Place}
-use Rattle.sftp_core.specs.declared.place.Place.TheVariants.{Waiting}
+use Rattle.sftp_core.specs.declared.id_record.IdRecord.{IdRecord}
+use Rattle.sftp_core.specs.declared.id_record.IdRecord.TheVariants.{Waiting}
 use Rattle.sftp_core.specs.Core.{Core, at}
-use Rattle.sftp_core.specs.Table.{all_sent, sent_place}
+use Rattle.sftp_core.specs.Table.{all_sent, sent_record}
 use Rattle.ssh_encoding.specs.Writing.{or_else}
 use Rattle.sftp_core.specs.Take.{First, IsFirst, IsTakeError, Read, Refused, fault_of, take_refusal, wrong_at, wrong_limits}
 use Rattle.sftp_core.proofs.Elsewhere.{put_elsewhere, put_here}
@@ -42,13 +42,13 @@ unsent_wrong options extensions id r = by_id (0 == id) refl
     by_id true e =
         let zero : 0 ≡ id = grind (arith, nat_tests) in
         subst (λ (k : ℕ). or_else (wrong_at k r (at core k)) (wrong_limits r) ≡ Some (take.InvalidResponseId k)) zero
-        (ap (λ (p : Option Place). or_else (wrong_at 0 r p) (wrong_limits r))
+        (ap (λ (p : Option IdRecord). or_else (wrong_at 0 r p) (wrong_limits r))
         (put_here (all_sent fin.empty) 0 (Waiting expected.Limits false false)))
     by_id false e =
         let apart : id ≢ 0 = grind (arith, nat_tests) in
-        ap (λ (p : Option Place). or_else (wrong_at id r p) (wrong_limits r))
+        ap (λ (p : Option IdRecord). or_else (wrong_at id r p) (wrong_limits r))
         (put_elsewhere (all_sent fin.empty) 0 (Waiting expected.Limits false false) id apart
-        ∙ get_sent fin.empty id ∙ ap (option_map sent_place) (get-empty nat_cmp id))
+        ∙ get_sent fin.empty id ∙ ap (option_map sent_record) (get-empty nat_cmp id))
 
 -- the journal has none that was sent
 unsent_refused : (b : Bool) (id : ℕ) (r : Reply)

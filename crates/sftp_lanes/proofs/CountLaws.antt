@@ -10,10 +10,10 @@ use Rattle.sftp_model.specs.declared.flags.Extensions.{Extensions}
 use Rattle.sftp_model.specs.declared.options.SftpOptions.{SftpOptions}
 use Rattle.sftp_model.specs.declared.reply.Reply.{Reply}
 use Rattle.sftp_core.specs.declared.info.Info.{Info}
-use Rattle.sftp_core.specs.declared.place.Place.{Place}
-use Rattle.sftp_core.specs.declared.place.Place.TheVariants.{Waiting}
+use Rattle.sftp_core.specs.declared.id_record.IdRecord.{IdRecord}
+use Rattle.sftp_core.specs.declared.id_record.IdRecord.TheVariants.{Waiting}
 use Rattle.sftp_core.specs.Core.{Core, awaited_of, fresh, handed_out, queued_of, unanswered_of}
-use Rattle.sftp_core.specs.Table.{Places, all_sent, count, is_sent, is_waiting, sent_place}
+use Rattle.sftp_core.specs.Table.{IdRecords, all_sent, count, is_sent, is_waiting, sent_record}
 use Rattle.sftp_core.proofs.Counts.{count-empty, count_len, count_unsent_sent, count_waiting_sent, len_sent, waiting_split}
 use Rattle.sftp_core.proofs.Sent.{get_sent}
 use Rattle.sftp_core.proofs.Tables.{count-insert_new}
@@ -40,20 +40,20 @@ pub record Shows (phase : Phase) (past : List Entry) (core : Core) : Type 0 wher
 -- ---- cores of the opening
 
 none_at : fin.get (all_sent fin.empty) 0 ≡ None
-none_at = get_sent fin.empty 0 ∙ ap (option_map sent_place) (get-empty nat_cmp 0)
+none_at = get_sent fin.empty 0 ∙ ap (option_map sent_record) (get-empty nat_cmp 0)
 
 none_sent : count is_sent (all_sent fin.empty) ≡ 0
 none_sent =
     let few = count_len is_sent (all_sent fin.empty) in
     let same = len_sent fin.empty in
-    let none = fin.len-empty nat_cmp Place in
+    let none = fin.len-empty nat_cmp IdRecord in
     omega (arith, few, same, none)
 
 none_waiting : count is_waiting (all_sent fin.empty) ≡ 0
 none_waiting = count_waiting_sent fin.empty ∙ count-empty is_waiting
 
 -- the table while the query for limits is in the queue
-abbrev asked_table : Places
+abbrev asked_table : IdRecords
 asked_table = fin.insert (all_sent fin.empty) 0 (Waiting expected.Limits false false)
 
 one_waiting : count is_waiting asked_table ≡ 1

@@ -16,7 +16,7 @@ use Rattle.sftp_core.specs.declared.info.Info.{Info}
 use Rattle.sftp_model.specs.declared.options.SftpOptions.{SftpOptions}
 use Rattle.sftp_core.specs.declared.tokens.Taken.{Taken}
 use Rattle.sftp_core.specs.declared.tokens.Taken.TheVariants as taken_of
-use Rattle.sftp_core.specs.declared.place.Place.{Place}
+use Rattle.sftp_core.specs.declared.id_record.IdRecord.{IdRecord}
 use Rattle.sftp_core.specs.Core.{Core, at, handed_out}
 use Rattle.sftp_core.specs.Take.{Read, TakenFrom, take_refusal, taken}
 use Rattle.sftp_core.specs.Info.{hello_of, info_with}
@@ -176,7 +176,7 @@ idle_all : (s : Setting) (past : List Entry) (options : SftpOptions) (info : Inf
 idle_all s past options info core calm =
     record {
       each = λ lane lt. idle_spends s.facts (spending s past lane fresh_lane.running) refl;
-      few = (let none : kept core ≡ 0 = ap kept calm ∙ len-empty nat_cmp Place in omega (arith, none));
+      few = (let none : kept core ≡ 0 = ap kept calm ∙ len-empty nat_cmp IdRecord in omega (arith, none));
     }
 
 -- a session whose lanes have done nothing is at rest

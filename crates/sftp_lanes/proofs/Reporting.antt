@@ -41,22 +41,22 @@ pub reported_stops : (first given : Given) (now : Seen) (schedule : List Turn) (
     → Told (EndsSession given schedule ended OutOfMemory) before after
 reported_stops first given now schedule ended before after same ran = stops before after ran.shows
   where
-    fixed : IsFixed given now.version now.stage.past now.setting
-    fixed = subst (λ (x : Given). IsFixed x now.version now.stage.past now.setting) same ran.fixed
+    fixed : IsFixed given now.version now.progress.past now.setting
+    fixed = subst (λ (x : Given). IsFixed x now.version now.progress.past now.setting) same ran.fixed
 
-    stops : (b a : Option (List Piece)) → Told (Showing now.version now.stage.past) b a → Told (EndsSession given schedule ended OutOfMemory) b a
+    stops : (b a : Option (List Piece)) → Told (Showing now.version now.progress.past) b a → Told (EndsSession given schedule ended OutOfMemory) b a
     stops None a shows = tt
     stops (Some b) None shows = absurd shows
     stops (Some b) (Some a) shows =
-        let s : Setting = setting_of given.lanes given.options fixed.0 now.stage.past in
-        let run : IsRun s schedule now.stage.past = subst (λ (x : Setting). IsRun x schedule now.stage.past) fixed.1.1 ran.run in
+        let s : Setting = setting_of given.lanes given.options fixed.0 now.progress.past in
+        let run : IsRun s schedule now.progress.past = subst (λ (x : Setting). IsRun x schedule now.progress.past) fixed.1.1 ran.run in
         inr (record {
           extensions = fixed.0;
-          now = now.stage.past;
+          now = now.progress.past;
           mid = a;
-          later = later_all s now.stage.past (runs_are_journals s schedule now.stage.past run);
+          later = later_all s now.progress.past (runs_are_journals s schedule now.progress.past run);
           so_far = whole run;
-          shows = subst (λ (v : Option Reply). Showing v now.stage.past b a) fixed.1.0 shows;
+          shows = subst (λ (v : Option Reply). Showing v now.progress.past b a) fixed.1.0 shows;
           behind = inl (inl refl);
         })
 
@@ -64,31 +64,31 @@ reported_stops first given now schedule ended before after same ran = stops befo
 pub reported : (first : Given) (lanes : List Lane) (options : SftpOptions) (now : Seen) (schedule : List Turn)
     (before after : Option (List Piece)) (report : Report) → first ≡ given lanes options
     → HasRun first schedule now before after
-    → report.hello ≡ now.version → report.trace ≡ trace_of now.stage.past → report.outcomes
-    ≡ outcomes_below now.stage.past (length now.setting.lanes) → IsReport lanes options schedule before after report
+    → report.hello ≡ now.version → report.trace ≡ trace_of now.progress.past → report.outcomes
+    ≡ outcomes_below now.progress.past (length now.setting.lanes) → IsReport lanes options schedule before after report
 reported first lanes options now schedule before after report same ran hello trace outcomes =
     record {
       extensions = fixed.0;
-      past = now.stage.past;
+      past = now.progress.past;
       run = is_run;
       hello = hello ∙ fixed.1.0;
       trace = trace;
-      outcomes = outcomes ∙ ap (λ (x : Setting). outcomes_below now.stage.past (length x.lanes)) fixed.1.1;
-      closed = handles_closed now.setting schedule now.stage.past ran.run;
+      outcomes = outcomes ∙ ap (λ (x : Setting). outcomes_below now.progress.past (length x.lanes)) fixed.1.1;
+      closed = handles_closed now.setting schedule now.progress.past ran.run;
       log = shown before after ran.shows;
-      files = λ config choices tree left well served. run_keeps_files lanes options fixed.0 schedule now.stage.past config choices tree left is_run well served;
+      files = λ config choices tree left well served. run_keeps_files lanes options fixed.0 schedule now.progress.past config choices tree left is_run well served;
     }
   where
-    fixed : IsFixed (given lanes options) now.version now.stage.past now.setting
-    fixed = subst (λ (x : Given). IsFixed x now.version now.stage.past now.setting) same ran.fixed
+    fixed : IsFixed (given lanes options) now.version now.progress.past now.setting
+    fixed = subst (λ (x : Given). IsFixed x now.version now.progress.past now.setting) same ran.fixed
 
-    is_run : IsRun (setting_of lanes options fixed.0 now.stage.past) schedule now.stage.past
-    is_run = subst (λ (x : Setting). IsRun x schedule now.stage.past) fixed.1.1 ran.run
+    is_run : IsRun (setting_of lanes options fixed.0 now.progress.past) schedule now.progress.past
+    is_run = subst (λ (x : Setting). IsRun x schedule now.progress.past) fixed.1.1 ran.run
 
-    shown : (b a : Option (List Piece)) → Told (Showing now.version now.stage.past) b a → Told (Shows (greeting fixed.0) now.stage.past) b a
+    shown : (b a : Option (List Piece)) → Told (Showing now.version now.progress.past) b a → Told (Shows (greeting fixed.0) now.progress.past) b a
     shown None a h = tt
     shown (Some b) None h = absurd h
-    shown (Some b) (Some a) h = subst (λ (v : Option Reply). Showing v now.stage.past b a) fixed.1.0 h
+    shown (Some b) (Some a) h = subst (λ (v : Option Reply). Showing v now.progress.past b a) fixed.1.0 h
 
 -- over a link that served files, as its log tells, what was written is read back and is left
 pub link_keeps_files : (lanes : List Lane) (options : SftpOptions) (schedule : List Turn) (before log : List Piece)

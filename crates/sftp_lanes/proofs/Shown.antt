@@ -18,7 +18,7 @@ use Rattle.session_model.specs.Calls.{Setting}
 use Rattle.session_model.specs.Turns.{RunProgress}
 use Rattle.session_work.specs.declared.lanes.Lanes.{Lanes}
 use Rattle.session_work.specs.SoFar.{refused_past}
-use Rattle.session_work.specs.Working.{CancelsLane, LetsLaneGo, StepsLane, past_of, stage_in, stage_of, work_in, work_of}
+use Rattle.session_work.specs.Working.{CancelsLane, LetsLaneGo, StepsLane, past_of, progress_in, progress_of, work_in, work_of}
 use Rattle.sftp_lanes.specs.Adding.{AddsCall, IsSame}
 use Rattle.sftp_lanes.specs.Events.{BeginsBy, CancelsIn, LanesDid, HasFailed, IsRefused, LetsGoIn, StepsIn, TakesVersion}
 use Rattle.sftp_lanes.specs.Seen.{SessionValue, given_of, seen_of, setting_at}
@@ -40,7 +40,7 @@ stays Did old new g = ap seen_of g.rest
 holds_in : (phase : Phase) (old new : SessionValue) → new ≡ record old { phase = phase; work = new.work } → KeepsMade (seen_of old) (seen_of new)
 holds_in phase old new rest =
     let same : new.phase ≡ phase = ap (λ (s : SessionValue). s.phase) rest in
-    subst (λ (p : Phase). seen_of new ≡ record (seen_of old) { phase = p; stage = stage_of new.work; work = work_of new.work }) (sym same) (ap seen_of rest)
+    subst (λ (p : Phase). seen_of new ≡ record (seen_of old) { phase = p; progress = progress_of new.work; work = work_of new.work }) (sym same) (ap seen_of rest)
 
 -- also where it has failed
 pub failed_left : (old new : SessionValue) → HasFailed old new → IsUnmoved (seen_of old) (seen_of new)
@@ -77,11 +77,11 @@ opened_let_go r lane old new is goes = subst (λ (p : Phase). OnOk r (LetsGoIn p
 
 pub adds_to : (lane : ℕ) (call : Call) (old new : SessionValue) → AddsCall lane call old new → AddsTo lane call (seen_of old) (seen_of new)
 adds_to lane call old new a =
-    record { goes = record { stays = ap seen_of a.rest; later = a.later }; is = ap stage_in a.is }
+    record { goes = record { stays = ap seen_of a.rest; later = a.later }; is = ap progress_in a.is }
 
 pub same_seen : (old new : SessionValue) → IsSame old new → seen_of new ≡ seen_of old
 same_seen old new same =
-    ap seen_of same.rest ∙ (λ i. record (seen_of old) { stage = stage_in (same.contents i); work = work_in (same.contents i) })
+    ap seen_of same.rest ∙ (λ i. record (seen_of old) { progress = progress_in (same.contents i); work = work_in (same.contents i) })
 
 -- ---- VERSION
 
@@ -90,7 +90,7 @@ begins_first true phase before now none b = subst (λ (p : List Entry). BeginsBy
 begins_first false phase before now none b = (b.0, b.1 ∙ none)
 
 -- a session whose journal was empty is greeted
-pub greets_first : (body_reads : Result (Option ℕ × Reply) FrameError) (asks : Bool) (old new : SessionValue) → (seen_of old).stage ≡ at_rest
+pub greets_first : (body_reads : Result (Option ℕ × Reply) FrameError) (asks : Bool) (old new : SessionValue) → (seen_of old).progress ≡ at_rest
     → TakesVersion body_reads asks old new → Greets body_reads (given_of old) asks (seen_of new)
 greets_first body_reads asks old new rest v =
     let none : past_of old.work ≡ [] = ap (λ (x : RunProgress). x.past) rest in

@@ -55,7 +55,7 @@ use Rattle.session_work.specs.Working.{
   TakesBody,
   contents_of,
   past_of,
-  stage_of,
+  progress_of,
 }
 use Rattle.sftp_lanes.specs.Seen.{SessionValue, given_of, seen_of, setting_at}
 
@@ -84,9 +84,10 @@ pub record IsRefused (e : TakeError) (old new : SessionValue) : Type 0 where
 
 -- ---- the opening
 
--- the hello was handed out
+-- the hello was handed out, before anything was told
 pub record HandsHello (old new : SessionValue) : Type 0 where
   pub rest : new ≡ record old { phase = Greeted; work = new.work }
+  pub untold : old.version ≡ None
   pub greeted : IsGreeted (seen_of old) (seen_of new)
   pub calls : new.work.calls ≡ old.work.calls
 
@@ -114,7 +115,7 @@ pub record TakesVersion (body_reads : Result (Option ℕ × Reply) FrameError) (
   pub told : new.version ≡ Some (greeting extensions)
   pub asked : asks ≡ offers_limits extensions
   pub begins : BeginsBy asks new.phase (past_of old.work) (past_of new.work)
-  pub begun : (stage_of new.work).begun ≡ (stage_of old.work).begun
+  pub begun : (progress_of new.work).begun ≡ (progress_of old.work).begun
   pub later : IsLater (setting_at new) (past_of old.work) (past_of new.work)
   pub fixed : IsFixed (given_of old) new.version (past_of new.work) (setting_at new)
   pub calls : new.work.calls ≡ old.work.calls

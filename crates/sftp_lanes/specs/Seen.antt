@@ -43,7 +43,7 @@ use Rattle.session_driver.specs.Session.{Given, IsFixed, IsFresh, Seen}
 use Rattle.session_work.specs.declared.lanes.Lanes.{Lanes}
 use Rattle.session_work.specs.Fresh.{IsUntouched}
 use Rattle.session_work.specs.SoFar.{IsIntact, IsSoFar}
-use Rattle.session_work.specs.Working.{IsWorking, past_of, stage_of, work_of}
+use Rattle.session_work.specs.Working.{IsWorking, past_of, progress_of, work_of}
 
 -- the lanes that were handed in, the options, how far the opening has come, VERSION and what is known of the server
 -- once they were told, and what the lanes work with
@@ -92,8 +92,8 @@ seen_of s = record {
   setting = setting_at s;
   phase = s.phase;
   version = s.version;
-  stage =
-      stage_of s.work;
+  progress =
+      progress_of s.work;
   work = work_of s.work;
 }
 

@@ -1,6 +1,6 @@
 -- A run of a script's lanes in threads, and what its replay says of it.
 use Rattle.std.proofs.Common.{◌≡◌, ◌<◌, ◌∙◌, ◌++◌, ℕ, Bool, List, length, refl, ap, sym, subst, inr}
-use Rattle.std.specs.Prelude.{Option, Some, Result, Ok, Err, IfErr, IfOk, OnOk, reverse}
+use Rattle.std.specs.Prelude.{Option, Some, Result, Ok, Err, IfErr, IfOk, reverse}
 use Rattle.machine_model.specs.FirstTree.{first_tree}
 use Rattle.plan_model.specs.declared.call.Lane.{Lane}
 use Rattle.session_model.specs.Served.{Serves}
@@ -28,7 +28,7 @@ use Rattle.sftp_share.specs.Shared.{HasRun, HasStopped, IsShared, IsStopped, dif
 
 pub has_run : {A B : Type 0} (out out' : LinkView A) (input input' : LinkView B) (last : Option Halves) (script : Script) (lanes : List Lane)
     (report : SharedReport) → lanes ≡ script.lanes → IsNewHalf out → IsNewHalf input → last ≡ Some (halves_of out' input')
-    → RunsShared lanes script.options report → IsEnded (length lanes) (reverse report.journal.items) → Ended out out' input input'
+    → RunsShared lanes script.options report → IsEnded (length lanes) (reverse report.journal.items) → Ended out out' input input' report
     → HasRun A B last script report
 has_run out out' input input' last script lanes report same fresh input_fresh back runs over ends = record {
   runs = subst (λ (l : List Lane). RunsShared l script.options report) same runs;
@@ -62,7 +62,7 @@ has_stopped out out' input input' last e fresh input_fresh back stops = inr (rec
 pub ran_if : {A B : Type 0} (out out' : LinkView A) (input input' : LinkView B) (last : Option Halves) (script : Script) (lanes : List Lane)
     (result : Result SharedReport Error) → lanes ≡ script.lanes → IsNewHalf out → IsNewHalf input → last ≡ Some (halves_of out' input')
     → IfOk result (λ report. RunsShared lanes script.options report)
-    → IfOk result (λ report. IsEnded (length lanes) (reverse report.journal.items)) → OnOk result (Ended out out' input input')
+    → IfOk result (λ report. IsEnded (length lanes) (reverse report.journal.items)) → IfOk result (Ended out out' input input')
     → IfOk result (λ report. HasRun A B last script report)
 ran_if out out' input input' last script lanes (Ok report) same fresh input_fresh back runs over ends =
     has_run out out' input input' last script lanes report same fresh input_fresh back runs over ends

@@ -82,14 +82,15 @@ pub record PutBack (A B : Type 0) (Did : LinkView A → LinkView A → LinkView 
 
 -- ---- a run
 
--- The lanes of a script ran to their end: the journal is a run so far of them, each was let go, each request has its
--- reply, no call was added or cancelled, and both workers came to the end, each over its half.
+-- The lanes of a script ran to their end: the journal is a run so far of them with no grant that is to be closed, each
+-- was let go, each request has its reply, no call was added or cancelled, and both workers came to the end, each over
+-- its half. The halves show the report's journal.
 pub record HasRun (A B : Type 0) (last : Option Halves) (script : Script) (report : SharedReport) : Type 0 where
   pub runs : RunsShared script.lanes script.options report
   pub over : IsEnded (length script.lanes) (reverse report.journal.items)
-  pub halves : PutBack A B (λ out out_now input input_now. Ended out out_now input input_now) last
+  pub halves : PutBack A B (λ out out_now input input_now. Ended out out_now input input_now report) last
 
--- An error stopped the run: memory was wanting, or one of the workers stopped by this over its half.
+-- An error stopped the run: memory was wanting, or the opening or one of the workers stopped by this over its half.
 abbrev pub HasStopped : (A B : Type 0) → Option Halves → Error → Type 0
 HasStopped A B last e =
     (e ≡ error.OutOfMemory) ⊎ PutBack A B (λ out out_now input input_now. StopsBy out out_now input input_now e) last

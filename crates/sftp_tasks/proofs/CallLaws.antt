@@ -43,7 +43,7 @@ use Rattle.sftp_model.specs.declared.error.Error.{Error}
 use Rattle.sftp_model.specs.declared.error.Error.TheVariants as error
 use Rattle.sftp_tasks.specs.declared.locked.Locked.{Locked}
 use Rattle.sftp_tasks.specs.Calls.{AnswersSeat, BeginsWith, InOneHold, settled}
-use Rattle.sftp_tasks.specs.LockedEvents.{OfLane, Submitting}
+use Rattle.sftp_tasks.specs.LockedEvents.{OfLane, Submitting, UnlessFault}
 use Rattle.sftp_tasks.specs.Rounds.{Token}
 use Rattle.sftp_tasks.specs.SessionEvents.{SubmitsCall}
 use Rattle.sftp_tasks.specs.Shows.{shown_of}
@@ -51,18 +51,18 @@ use Rattle.sftp_tasks.proofs.EntryLaws.{steps_extended}
 
 pub answers_of : {A X Y : Type 0} {test : Entry → Bool} {needs : Allowance} (Does : Locked → Locked → Result A Error → Type 0)
     (did : Result A Error) (copied : Result X Y) (old new : List Receipt) (m n : Token)
-    → Hold shown_of (Applied shown_of test needs (λ y z. Does y z did) copied old new) m n
+    → Hold shown_of (Applied shown_of test needs (λ y z. UnlessFault Does y z did) copied old new) m n
     → AnswersSeat Does old new (settled did copied) m n
-answers_of Does (Err e) copied old new m n h = hold_map shown_of m n h (inl h.did.does)
-answers_of Does (Ok a) (Ok x) old new m n h = hold_map shown_of m n h (h.did.does, h.did.kept)
-answers_of Does (Ok a) (Err y) old new m n h = hold_map shown_of m n h (inr (refl, (a, h.did.does)))
+answers_of Does (Err e) copied old new m n h = hold_map shown_of m n h (inl h.did.does.0)
+answers_of Does (Ok a) (Ok x) old new m n h = hold_map shown_of m n h (h.did.does.0, h.did.kept, h.did.does.1)
+answers_of Does (Ok a) (Err y) old new m n h = hold_map shown_of m n h (inr (refl, (a, h.did.does.0)))
 
 pub in_one_hold : {A X Y : Type 0} {test : Entry → Bool} {needs : Allowance} (Does : Locked → Locked → Result A Error → Type 0)
     (did : Result A Error) (copied : Result X Y) {old new : List Receipt} (m n : Token)
-    → Hold shown_of (Applied shown_of test needs (λ y z. Does y z did) copied old new) m n → InOneHold Does (settled did copied) m n
-in_one_hold Does (Err e) copied m n h = hold_map shown_of m n h (inl h.did.does)
+    → Hold shown_of (Applied shown_of test needs (λ y z. UnlessFault Does y z did) copied old new) m n → InOneHold Does (settled did copied) m n
+in_one_hold Does (Err e) copied m n h = hold_map shown_of m n h (inl h.did.does.0)
 in_one_hold Does (Ok a) (Ok x) m n h = hold_map shown_of m n h h.did.does
-in_one_hold Does (Ok a) (Err y) m n h = hold_map shown_of m n h (inr (refl, (a, h.did.does)))
+in_one_hold Does (Ok a) (Err y) m n h = hold_map shown_of m n h (inr (refl, (a, h.did.does.0)))
 
 pub settled_ok : {A X Y : Type 0} (a : A) (copied : Result X Y) (P : A → Type 0) → P a → IfOk (settled (Ok a) copied) P
 settled_ok a (Ok x) P p = p
@@ -92,7 +92,7 @@ added_first lane call old new more h past =
     (stepped.0, append_cancel_right more (stepped.0 ++ entry.Added lane call ∷ []) (past_of old.work) (sym past ∙ all))
 
 pub first_receipt : (lane : Option ℕ) (call : Call) (old new : List Receipt) (r : Result Bool Error) (m n : Token)
-    → AnswersSeat (OfLane (Submitting call) (Ok false) lane) old new r m n
+    → AnswersSeat (OfLane (Submitting call) false lane) old new r m n
     → IfOk r (λ did. did ≡ true → IfSome lane (λ l. BeginsWith l call old new))
 first_receipt None call old new (Ok did) m n h = λ yes. tt
 first_receipt None call old new (Err e) m n h = tt

@@ -1,5 +1,5 @@
 -- What is reported once the session was taken out.
-use Rattle.std.proofs.Common.{◌≡◌, ◌≢◌, ◌<◌, ℕ, List, length, map, refl, sym, ap, ◌∙◌, subst, reverse, None, Some, inl, inr, ◌⊎◌, Ok, Err, IfOk, IfSome, Global}
+use Rattle.std.proofs.Common.{◌≡◌, ◌≢◌, ◌<◌, ℕ, List, length, map, sym, ap, ◌∙◌, subst, reverse, None, Some, inl, inr, true, Ok, Err, IfOk, IfSome, Global}
 use Rattle.std.specs.Prelude.{Option, Result}
 use Rattle.sftp_model.specs.declared.error.Error.{Error}
 use Rattle.sftp_model.specs.declared.error.Error.TheVariants as error
@@ -11,8 +11,11 @@ use Rattle.session_seats.specs.declared.rule.Held.{Ghosts}
 use Rattle.session_seats.specs.declared.seat.Seat.{Seat}
 use Rattle.session_seats.specs.declared.view.Sight.{Sight}
 use Rattle.session_seats.specs.declared.view.Receipt.{Receipt}
-use Rattle.session_seats.specs.Closes.{Closes, HandsBack, Returns, items_of}
+use Rattle.session_seats.specs.Closes.{Closes, HandsBack, Returns, items_of, part}
+use Rattle.session_seats.specs.Holds.{sight_by}
+use Rattle.session_seats.specs.NewSeats.{Looks}
 use Rattle.session_driver.specs.Session.{IsFixed}
+use Rattle.session_model.specs.Grants.{next_due}
 use Rattle.session_model.specs.Journals.{IsJournal}
 use Rattle.session_model.specs.Readings.{outcomes_below, trace_of}
 use Rattle.sftp_lanes.specs.Seen.{Reports, SessionValue, given, given_of, setting_at, setting_by}
@@ -22,19 +25,35 @@ use Rattle.session_work.specs.SoFar.{kept_in}
 use Rattle.session_work.specs.Working.{past_of}
 use Rattle.sftp_tasks.specs.declared.locked.Locked.{Locked}
 use Rattle.sftp_tasks.specs.declared.report.SharedReport.{SharedReport}
-use Rattle.sftp_tasks.specs.Reported.{ComesBack, MayTakeCalls, HasStopped, IsRefusedFor, ListsJournal, Reported, reason_of}
+use Rattle.sftp_tasks.specs.Reported.{
+  HasStopped,
+  HaveLanes,
+  IsRefusedFor,
+  ListsJournal,
+  MayTakeCalls,
+  Refused,
+  Reported,
+  TellsFault,
+  lane_named,
+  reason_of,
+}
+use Rattle.sftp_tasks.specs.Rounds.{Token}
 use Rattle.sftp_tasks.specs.Shows.{shown_of}
+use Rattle.sftp_tasks.proofs.LaneLaws.{have_lanes}
 
 pub reported : {G : Ghosts Locked} (seats : List (Seat Locked G)) (e : Ended Locked) (r : SharedReport) → Closes shown_of seats e
-    → MayTakeCalls e.value.session → Reports e.value.session r.report → ListsJournal e.value.session r.journal.items → r.receipts ≡ e.receipts → Reported seats r
-reported seats e r closes goes reports lists receipts =
+    → MayTakeCalls e.value.session → Reports e.value.session r.report → ListsJournal e.value.session r.journal.items
+    → (r.is_open ≡ true → next_due (setting_at e.value.session) (past_of e.value.session.work) ≡ None) → r.receipts ≡ e.receipts → Reported seats r
+reported seats e r closes goes reports lists settled same =
     let s = e.value.session in
     let now = closes.now in
     let past : past_of s.work ≡ entries now.log = closes.shows.past in
     let told : now ≡ sight_of (shown_of e.value) now.log now.seats = closes.shows.told in
     let lanes : s.lanes ≡ now.lanes = ap (λ (x : Sight). x.lanes) (sym told) in
     let options : s.options ≡ now.options = ap (λ (x : Sight). x.options) (sym told) in
-    let version : s.version ≡ now.version = ap (λ (x : Sight). x.version) (sym told) in record {
+    let version : s.version ≡ now.version = ap (λ (x : Sight). x.version) (sym told) in
+    let receipts : map items_of r.receipts.items ≡ map (part now) seats =
+    ap (λ (v : Vec (Vec Receipt Global) Global). map items_of v.items) same ∙ closes.receipts in record {
       now = now;
       info = s.info;
       journal = lists.journal ∙ past;
@@ -43,11 +62,14 @@ reported seats e r closes goes reports lists receipts =
           → IsFixed (given x.0.lanes x.0.options) x.0.version x.1 (setting_by x.0.lanes x.0.options x.0.version s.info))
           (λ i. (sym told i, past i)) lists.fixed;
       unkept = ap kept_in (sym past) ∙ goes.0;
+      settled = subst (λ (x : Sight × List Entry). r.is_open ≡ true
+          → next_due (setting_by x.0.lanes x.0.options x.0.version s.info) x.1 ≡ None) (λ i. (sym told i, past i)) settled;
       hello = reports.hello ∙ version;
       trace = reports.trace ∙ ap trace_of past;
       outcomes = reports.outcomes ∙ (λ i. outcomes_below (past i) (length (lanes i)));
       lawful = closes.lawful;
-      receipts = ap (λ (v : Vec (Vec Receipt Global) Global). map items_of v.items) receipts ∙ closes.receipts;
+      receipts = receipts;
+      lanes = subst (HaveLanes (entries now.log) (map lane_named seats)) (sym receipts) (have_lanes now closes.lawful seats closes.told);
       distinct = closes.distinct;
       told = closes.told;
     }
@@ -65,19 +87,33 @@ pub lists_of : {E : Type 0} (s : SessionValue) (journal : List Entry) (copied : 
 lists_of s journal (Ok v) is run fixed same = record { journal = ap reverse same ∙ is; run = run; fixed = fixed }
 lists_of s journal (Err e) is run fixed same = tt
 
+tells_memory : (e : Error) (past : List Entry) → e ≡ error.OutOfMemory → TellsFault e past
+tells_memory e past is = subst (λ (x : Error). TellsFault x past) (sym is) tt
+
+tells_stopped : (e : Error) (s : SessionValue) → HasStopped e s → TellsFault e (past_of s.work)
+tells_stopped error.OutOfMemory s h = tt
+tells_stopped (error.BackgroundTaskFailure fault) s h = h
+tells_stopped error.LinkFault s h = absurd h
+tells_stopped other s h = absurd h
+
+tells_refused : (e : Error) (s : SessionValue) → IsRefusedFor e s → TellsFault e (past_of s.work)
+tells_refused e s (inl memory) = tells_memory e (past_of s.work) memory
+tells_refused e s (inr stopped) = tells_stopped e s stopped
+
+-- a seat that looked at the value has seen its journal
+looks_past : (m n : Token) (h : Looks shown_of m n) → entries (sight_by n).log ≡ past_of h.before.session.work
+looks_past m n h = ap (λ (s : Sight). entries s.log) h.sight ∙ sym h.took.shows.past
+
 refused_by : {G : Ghosts Locked} (seat new : Seat Locked G) (o : Option Error) → IfSome o (Returns shown_of (λ y e. IsRefusedFor e y.session) seat new)
-    → (reason_of o ≡ error.OutOfMemory) ⊎ ((y : Locked) × HasStopped (reason_of o) y.session)
-refused_by seat new None h = inl refl
-refused_by seat new (Some e) h = why h.refuses
-  where
-    why : IsRefusedFor e h.looks.before.session → (e ≡ error.OutOfMemory) ⊎ ((y : Locked) × HasStopped e y.session)
-    why (inl memory) = inl memory
-    why (inr stopped) = inr (h.looks.before, stopped)
+    → TellsFault (reason_of o) (entries (sight_by new.inner.me).log)
+refused_by seat new None h = tt
+refused_by seat new (Some e) h =
+    subst (TellsFault e) (sym (looks_past seat.inner.me new.inner.me h.looks)) (tells_refused e h.looks.before.session h.refuses)
 
 pub refused : {G : Ghosts Locked} (seat new : Seat Locked G) (others rest : List (Seat Locked G)) (o : Option Error) (e : Error)
     → HandsBack shown_of (λ y e. IsRefusedFor e y.session) seat others o new rest → e ≡ reason_of o
-    → ComesBack seat new others rest × ((e ≡ error.OutOfMemory) ⊎ ((y : Locked) × HasStopped e y.session))
+    → Refused seat others e new rest
 refused seat new others rest o e h is = (
   record { rest_is = h.rest_is; receipts = h.receipts; lane = h.lane },
-  subst (λ (x : Error). (x ≡ error.OutOfMemory) ⊎ ((y : Locked) × HasStopped x y.session)) (sym is) (refused_by seat new o h.why),
+  subst (λ (x : Error). TellsFault x (entries (sight_by new.inner.me).log)) (sym is) (refused_by seat new o h.why),
 )

@@ -3,8 +3,6 @@ use Rattle.std.proofs.Common.{
   ◌≡◌,
   ◌⊎◌,
   ℕ,
-  ◌+◌,
-  ◌-◌,
   ◌==◌,
   List,
   [],
@@ -69,7 +67,7 @@ use Rattle.sftp_lanes.specs.Events.{
   TakesIn,
 }
 use Rattle.sftp_lanes.specs.Seen.{SessionValue, given_of, seen_of, setting_at}
-use Rattle.session_work.specs.Working.{LanesValue, past_of, stage_of}
+use Rattle.session_work.specs.Working.{LanesValue, past_of, progress_of}
 use Rattle.session_work.specs.SoFar.{kept_past, refused_past}
 use Rattle.session_work.specs.declared.lanes.Lanes.{Lanes}
 use Rattle.session_seats.specs.Sights.{FitsStage, Rises, StaysThere}
@@ -215,7 +213,7 @@ steps_to_extend s lane a b (Some (Done o site)) event h =
 pub steps_extended : (p : Phase) (lane : ℕ) (old new : SessionValue) (event : Stepped) → StepsIn p lane old new event
     → Extended (passes by_step (Some lane)) old new
 steps_extended Open lane old new event h =
-    goes_on_extended _ _ old new h (steps_to_extend (setting_at old) lane (stage_of old.work) (stage_of new.work)
+    goes_on_extended _ _ old new h (steps_to_extend (setting_at old) lane (progress_of old.work) (progress_of new.work)
     (move_of (setting_at old) (past_of old.work) lane) event h.did.steps)
 steps_extended Failed lane old new event h = absurd h
 steps_extended Fresh lane old new event h = same_extended _ old new h.1
@@ -254,7 +252,7 @@ cancels_to_extend s lane a b event h =
 pub cancels_extended : (p : Phase) (lane : ℕ) (old new : SessionValue) (event : Bool) → CancelsIn p lane old new event
     → Extended (passes by_cancel (Some lane)) old new
 cancels_extended Open lane old new event h = goes_on_extended _ _ old new h
-    (cancels_to_extend (setting_at old) lane (stage_of old.work) (stage_of new.work) event h.did.cancels)
+    (cancels_to_extend (setting_at old) lane (progress_of old.work) (progress_of new.work) event h.did.cancels)
 cancels_extended Failed lane old new event h = absurd h
 cancels_extended Fresh lane old new event h = same_extended _ old new h.1
 cancels_extended opening lane old new event h = same_extended _ old new h.1
@@ -285,7 +283,7 @@ lets_idle lane old new there h = either_way there h (λ (x : LetsIdleGo lane old
 
 lets_go_in_extended : (p : Phase) (lane : ℕ) (old new : SessionValue) → LetsGoIn p lane old new → Extended (passes by_let_go (Some lane)) old new
 lets_go_in_extended Open lane old new h = goes_on_extended _ _ old new h
-    (lets_go_extend (setting_at old) lane (stage_of old.work) (stage_of new.work) h.did.lets_go)
+    (lets_go_extend (setting_at old) lane (progress_of old.work) (progress_of new.work) h.did.lets_go)
 lets_go_in_extended Failed lane old new h = absurd h
 lets_go_in_extended Fresh lane old new h = lets_idle lane old new _ h
 lets_go_in_extended opening lane old new h = lets_idle lane old new _ h
@@ -307,9 +305,9 @@ hands_extend s a b (Some bytes) lane h = subst (λ (y : RunProgress). Extends (p
 
 -- what is seen of a session
 seen_extended : (test : Entry → Bool) (old new : SessionValue) (now : Seen) → seen_of new ≡ now → now.given
-    ≡ given_of old → now.version ≡ old.version → Extends test (past_of old.work) now.stage.past → Extended test old new
+    ≡ given_of old → now.version ≡ old.version → Extends test (past_of old.work) now.progress.past → Extended test old new
 seen_extended test old new now is given version past = record {
-  past = subst (λ (s : Seen). Extends test (past_of old.work) s.stage.past) (sym is) past;
+  past = subst (λ (s : Seen). Extends test (past_of old.work) s.progress.past) (sym is) past;
   lanes = ap (λ (s : Seen). s.given.lanes) is ∙ ap (λ (g : Given). g.lanes) given;
   options = ap (λ (s : Seen). s.given.options) is ∙ ap (λ (g : Given). g.options) given;
   version = subst (StaysThere old.version) (sym (ap (λ (s : Seen). s.version) is ∙ version)) (stays_same old.version);
@@ -322,7 +320,7 @@ hands_extended Greeted lane old new bytes h = same_extended _ old new h.1
 hands_extended Asking lane old new bytes h = seen_extended _ old new _ h.1.queried refl refl (extends_one _ (entry.Event Send) (past_of old.work) refl)
 hands_extended Queried lane old new bytes h = same_extended _ old new h.1
 hands_extended Open lane old new bytes h = goes_on_extended _ _ old new h
-    (hands_extend (setting_at old) (stage_of old.work) (stage_of new.work) bytes lane h.did.hands)
+    (hands_extend (setting_at old) (progress_of old.work) (progress_of new.work) bytes lane h.did.hands)
 hands_extended Failed lane old new bytes h = absurd h
 
 -- ---- what is taken
@@ -353,7 +351,7 @@ takes_extended Queried body_reads lane old new h = record {
   version = subst (StaysThere old.version) (sym (ap (λ (s : SessionValue). s.version) h.rest)) (stays_same old.version);
 }
 takes_extended Open body_reads lane old new h = goes_on_extended _ _ old new h
-    (takes_extend (setting_at old) body_reads (stage_of old.work) (stage_of new.work) lane h.did.takes)
+    (takes_extend (setting_at old) body_reads (progress_of old.work) (progress_of new.work) lane h.did.takes)
 takes_extended Fresh body_reads lane old new h = absurd h
 takes_extended Asking body_reads lane old new h = absurd h
 takes_extended Failed body_reads lane old new h = absurd h

@@ -2,7 +2,6 @@
 use Rattle.std.proofs.Common.{
   ◌≡◌,
   ◌≢◌,
-  ◌⊎◌,
   ◌≤◌,
   ℕ,
   ◌+◌,
@@ -66,8 +65,10 @@ use Rattle.sftp_tasks.specs.LockedEvents.{
   Finishing,
   HandingOut,
   Hands,
+  IsFrame,
   Taking,
   TakingFrame,
+  UnlessFault,
   Writing,
   at_end,
   is_answered,
@@ -316,14 +317,14 @@ if_false (Err e) P is p = tt
 
 -- what a seat handed out it may tell as written
 pub handed_unwritten : (m n : Me Locked View) {Did : Locked → Locked → List Entry → Type 0} (h : Hold shown_of Did m n) (handed : Handed)
-    → HandingOut h.before h.after (Ok (Some handed)) → handed.frames ≤ (claim_of n).unwritten
+    → UnlessFault HandingOut h.before h.after (Ok (Some handed)) → handed.frames ≤ (claim_of n).unwritten
 handed_unwritten m n h handed r =
     let un : (claim_of n).unwritten ≡ (claim_of m).unwritten + h.after.counts.handed + h.now.counts.written -
     (h.now.counts.handed + h.after.counts.written) = ap (λ (x : Me Locked View). (claim_of x).unwritten) h.is in
     let all : h.now.counts.handed ≡ h.before.counts.handed = ap (λ (s : Sight). s.counts.handed) h.took.shows.told in
     let wrote : h.now.counts.written ≡ h.before.counts.written = ap (λ (s : Sight). s.counts.written) h.took.shows.told in
-    let more = r.1.0.counts in
-    let same = r.1.1 in
+    let more = r.0.1.0.counts in
+    let same = r.0.1.1 in
     omega arith
 
 abbrev got_or : List ℕ → Option (List ℕ) → List ℕ
@@ -331,10 +332,11 @@ got_or body None = body
 got_or body (Some b) = b
 
 -- a frame's body is the one that was taken
-pub taking_frame : (frame : Received) (body : List ℕ) (y z : Locked) (r : Result (Unit {0}) Error) → body_of frame ≡ Some body
+pub taking_frame : (frame : Received) (body : List ℕ) (y z : Locked) (r : Result (Unit {0}) Error) → body_of frame ≡ Some body → IsFrame frame body
     → OnOk r (TakesIn y.session.phase (reply_at body) y.session z.session)
     → IfErr r (λ e. TakeStops (reply_at body) e y.session z.session × (z.counts.taken ≡ y.counts.taken)) → TakingFrame frame y z r
-taking_frame frame body y z r is takes stops other same = subst (λ (b : List ℕ). Taking b y z r) (some_same (sym is ∙ same)) (by_result r takes stops)
+taking_frame frame body y z r is spelled takes stops other same =
+    subst (λ (b : List ℕ). IsFrame frame b × Taking b y z r) (some_same (sym is ∙ same)) (spelled, by_result r takes stops)
   where
     some_same : Some body ≡ Some other → body ≡ other
     some_same e = ap (got_or body) e

@@ -2,9 +2,16 @@ pub mod EntryLaws
 pub mod HoldLaws
 pub mod CallLaws
 pub mod RoundLaws
+pub mod LaneLaws
 pub mod CloseLaws
 pub mod SameLocked
 pub mod EndedLaws
 pub mod PollLaws
 pub mod WorkLaws
 pub mod Sends
+pub mod SentLists
+pub mod SentEvents
+pub mod SentRounds
+pub mod TakenRounds
+pub mod OpeningLaws
+pub mod SentWhole

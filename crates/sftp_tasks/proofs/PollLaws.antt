@@ -1,5 +1,5 @@
 -- A lane whose calls have ended, and a seat that leaves.
-use Rattle.std.proofs.Common.{◌≡◌, ◌≤◌, ℕ, ◌+◌, ◌-◌, List, length, Bool, true, true≢false, refl, sym, ap, ◌∙◌, subst, arith, Ok, Err, Some, None}
+use Rattle.std.proofs.Common.{◌≡◌, ◌≤◌, ℕ, ◌+◌, ◌-◌, List, length, Bool, true, true≢false, refl, sym, ap, ◌∙◌, subst, arith, Ok, Some, None}
 use Rattle.std.specs.Prelude.{Option, Result}
 use Rattle.plan_model.specs.declared.call.Lane.{Lane}
 use Rattle.session_model.specs.declared.entry.Entry.{Entry}
@@ -12,7 +12,6 @@ use Rattle.session_seats.specs.Holds.{Applied, Hold, claim_of, no_allowance, sig
 use Rattle.session_seats.proofs.RepeatLaws.{sees_lanes, sees_past}
 use Rattle.session_work.specs.Working.{past_of}
 use Rattle.sftp_lanes.specs.Seen.{SessionValue, setting_at}
-use Rattle.sftp_model.specs.declared.error.Error.{Error}
 use Rattle.sftp_tasks.specs.declared.locked.Locked.{Locked}
 use Rattle.sftp_tasks.specs.declared.polls.Polled.{Polled}
 use Rattle.sftp_tasks.specs.declared.polls.Polled.TheVariants as polled
@@ -38,19 +37,15 @@ ended_as (polled.Ended calls) is = refl
 ended_as polled.Moved is = absurd (true≢false (sym is))
 ended_as polled.Waits is = absurd (true≢false (sym is))
 
-abbrev calls_got : Result Polled Error → ℕ
-calls_got (Ok p) = calls_in p
-calls_got (Err e) = 0
-
 -- what the last poll found the seat has seen
 pub sees_ended : (lane : Option ℕ) (calls : ℕ) (m n : Token) → InOneHold (PollsSeat lane) (Ok (polled.Ended calls)) m n
     → SeesEnded lane calls (sight_by n)
-sees_ended None calls m n h = ap calls_got h.did.1.1
+sees_ended None calls m n h = ap calls_in h.did.0.1.1
 sees_ended (Some lane) calls m n h =
-    let same : h.after.session ≡ h.before.session = h.did.1.1 in
+    let same : h.after.session ≡ h.before.session = h.did.0.1.1 in
     let lanes : (sight_by n).lanes ≡ h.before.session.lanes = sees_lanes shown_of m n h ∙ ap (λ (s : SessionValue). s.lanes) same in
     let past = sees_past shown_of m n h ∙ ap (λ (s : SessionValue). past_of s.work) same in
-    subst (λ (x : List Lane × List Entry). AllEnded x.0 x.1 lane calls) (λ i. (sym lanes i, sym past i)) h.did.1.0
+    subst (λ (x : List Lane × List Entry). AllEnded x.0 x.1 lane calls) (λ i. (sym lanes i, sym past i)) h.did.0.1.0
 
 -- a hold that takes no user out leaves the seat's share
 pub share_kept : {Did : Locked → Locked → List Entry → Type 0} (m n : Token) (h : Hold shown_of Did m n) → h.after.users ≡ h.before.users

@@ -14,7 +14,7 @@ use Rattle.sftp_wire.specs.FrameReader.{Received}
 use Rattle.sftp_tasks.specs.declared.frames.Handed.{Handed}
 use Rattle.sftp_tasks.specs.declared.locked.Locked.{Locked}
 use Rattle.sftp_tasks.specs.Entries.{by_failing, by_flush, by_nothing, by_read}
-use Rattle.sftp_tasks.specs.LockedEvents.{HandingOut, Looking, TakingFrame, Writing, tells}
+use Rattle.sftp_tasks.specs.LockedEvents.{HandingOut, Looking, TakingFrame, UnlessFault, Writing, tells}
 use Rattle.sftp_tasks.specs.Rounds.{FlushesRound, ReadsRound, RefusesRound}
 use Rattle.sftp_tasks.specs.SessionEvents.{RefusesCall}
 use Rattle.sftp_tasks.specs.Shows.{shown_of}
@@ -71,35 +71,41 @@ kept_was_read lane a b g = grew_weaker (by_failing lane) (by_read lane) (failing
 
 module _ {X Y : Type 0} {test : Entry → Bool} {needs : Allowance} {old new : List Receipt} {copied : Result X Y} (m n : Token) where
   pub handed_none : {Service : Type 0} (before : LinkView Service) (did : Result (Option Handed) Error) → did ≡ Ok None
-      → Hold shown_of (Applied shown_of test needs (λ y z. HandingOut y z did) copied old new) m n → FlushesRound false m n before before
+      → Hold shown_of (Applied shown_of test needs (λ y z. UnlessFault HandingOut y z did) copied old new) m n → FlushesRound false m n before before
   handed_none before did is h =
-      let r = subst (λ (x : Result (Option Handed) Error). HandingOut h.before h.after x) is h.did.does in
-      (hold_map shown_of m n h r.0, refl)
+      let r = subst (λ (x : Result (Option Handed) Error). UnlessFault HandingOut h.before h.after x) is h.did.does in
+      (hold_map shown_of m n h (r.0.0, r.1), refl)
 
   pub hand_refused : {Service : Type 0} (before : LinkView Service) (did : Result (Option Handed) Error) (e : Error) → did ≡ Err e
-      → Hold shown_of (Applied shown_of test needs (λ y z. HandingOut y z did) copied old new) m n → RefusesRound e m n before before
+      → Hold shown_of (Applied shown_of test needs (λ y z. UnlessFault HandingOut y z did) copied old new) m n → RefusesRound e m n before before
   hand_refused before did e is h =
-      let r = subst (λ (x : Result (Option Handed) Error). HandingOut h.before h.after x) is h.did.does in
-      (hold_map shown_of m n h r.0, refl)
+      let r = subst (λ (x : Result (Option Handed) Error). UnlessFault HandingOut h.before h.after x) is h.did.does in
+      (hold_map shown_of m n h r.0.0, refl)
 
   pub look_false : {Service : Type 0} (before : LinkView Service) (did : Result Bool Error) → did ≡ Ok false
-      → Hold shown_of (Applied shown_of test needs (λ y z. Looking y z did) copied old new) m n → ReadsRound false m n before before
+      → Hold shown_of (Applied shown_of test needs (λ y z. UnlessFault Looking y z did) copied old new) m n → ReadsRound false m n before before
   look_false before did is h =
-      (hold_map shown_of m n h (subst (λ (x : Result Bool Error). Looking h.before h.after x) is h.did.does), refl)
+      (hold_map shown_of m n h (subst (λ (x : Result Bool Error). UnlessFault Looking h.before h.after x) is h.did.does), refl)
 
   pub look_refused : {Service : Type 0} (before : LinkView Service) (did : Result Bool Error) (e : Error) → did ≡ Err e
-      → Hold shown_of (Applied shown_of test needs (λ y z. Looking y z did) copied old new) m n → RefusesRound e m n before before
+      → Hold shown_of (Applied shown_of test needs (λ y z. UnlessFault Looking y z did) copied old new) m n → RefusesRound e m n before before
   look_refused before did e is h =
-      let r = subst (λ (x : Result Bool Error). Looking h.before h.after x) is h.did.does in
-      (hold_map shown_of m n h (subst (λ (z : Locked). RefusesCall e h.before.session z.session) (sym r.0) r.1), refl)
+      let r = subst (λ (x : Result Bool Error). UnlessFault Looking h.before h.after x) is h.did.does in
+      (hold_map shown_of m n h (subst (λ (z : Locked). RefusesCall e h.before.session z.session) (sym r.0.0) r.0.1), refl)
 
   pub look_true : (did : Result Bool Error) → did ≡ Ok true
-      → Hold shown_of (Applied shown_of test needs (λ y z. Looking y z did) copied old new) m n → HoldsOnce (λ y z more. Looking y z (Ok true)) m n
-  look_true did is h = hold_map shown_of m n h (subst (λ (x : Result Bool Error). Looking h.before h.after x) is h.did.does)
+      → Hold shown_of (Applied shown_of test needs (λ y z. UnlessFault Looking y z did) copied old new) m n → HoldsOnce (λ y z more. UnlessFault Looking y z (Ok true)) m n
+  look_true did is h = hold_map shown_of m n h (subst (λ (x : Result Bool Error). UnlessFault Looking h.before h.after x) is h.did.does)
 
   pub took : (frame : Received) (did r : Result (Unit {0}) Error) → did ≡ r
-      → Hold shown_of (Applied shown_of test needs (λ y z. TakingFrame frame y z did) copied old new) m n → HoldsOnce (λ y z more. TakingFrame frame y z r) m n
-  took frame did r is h = hold_map shown_of m n h (subst (λ (x : Result (Unit {0}) Error). TakingFrame frame h.before h.after x) is h.did.does)
+      → Hold shown_of (Applied shown_of test needs (λ y z. UnlessFault (TakingFrame frame) y z did) copied old new) m n → HoldsOnce (λ y z more. UnlessFault (TakingFrame frame) y z r) m n
+  took frame did r is h = hold_map shown_of m n h (subst (λ (x : Result (Unit {0}) Error). UnlessFault (TakingFrame frame) h.before h.after x) is h.did.does)
+
+  pub refuses_frame : (frame : Received) (did : Result (Unit {0}) Error) (e : Error) → did ≡ Err e
+      → Hold shown_of (Applied shown_of test needs (λ y z. UnlessFault (TakingFrame frame) y z did) copied old new) m n
+      → HoldsOnce (λ y z more. TakingFrame frame y z (Err e)) m n
+  refuses_frame frame did e is h =
+      hold_map shown_of m n h (subst (λ (x : Result (Unit {0}) Error). UnlessFault (TakingFrame frame) h.before h.after x) is h.did.does).0
 
 pub noted : {X Y : Type 0} {frames : ℕ} {old new : List Receipt} {copied : Result X Y} (lane : Option ℕ) (m n : Token)
     → Hold shown_of (Applied shown_of (passes by_nothing lane) (tells frames) (Writing frames) copied old new) m n

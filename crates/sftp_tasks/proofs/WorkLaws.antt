@@ -49,8 +49,8 @@ stage_two : (stage : ℕ) (m n : Token) → InOneHold TellsStage (Ok stage) m n 
 stage_two stage m n h least =
     let counts : (sight_by n).counts ≡ h.after.counts = sees_counts shown_of m n h in
     let seen : (sight_by n).counts.stage ≡ h.after.counts.stage = ap (λ (c : Counts). c.stage) counts in
-    let same : h.after.counts.stage ≡ h.before.counts.stage = ap (λ (x : Locked). x.counts.stage) h.did.0 in
-    let told : stage ≡ h.before.counts.stage = h.did.1 in
+    let same : h.after.counts.stage ≡ h.before.counts.stage = ap (λ (x : Locked). x.counts.stage) h.did.0.0 in
+    let told : stage ≡ h.before.counts.stage = h.did.0.1 in
     let was : h.now.counts.stage ≡ h.before.counts.stage = ap (λ (s : Sight). s.counts.stage) h.took.shows.told in
     let most : h.now.counts.stage ≤ 2 = h.took.ends.0 in
     let low : 2 ≤ stage = grind (arith, nat_tests) in
@@ -74,10 +74,10 @@ answered_all other stage unanswered is = absurd (true≢false (sym is))
 finished : (all : Bool) (m n : Token) → InOneHold Finishing (Ok all) m n → all ≡ true → SeesAnswered (sight_by n)
 finished all m n h done =
     let y = h.before in
-    let after : h.after ≡ record y { counts = at_end true y.counts } = h.did.1 ∙ ap (λ (b : Bool). record y { counts = at_end b y.counts }) done in
+    let after : h.after ≡ record y { counts = at_end true y.counts } = h.did.0.1 ∙ ap (λ (b : Bool). record y { counts = at_end b y.counts }) done in
     let past : entries (sight_by n).log ≡ past_of y.session.work = sees_past shown_of m n h ∙ ap (λ (x : Locked). past_of x.session.work) after in (
       ap (λ (c : Counts). c.stage) (sees_counts shown_of m n h) ∙ ap (λ (x : Locked). x.counts.stage) after,
-      ap unanswered past ∙ answered_all y.session.phase y.counts.stage (unanswered (past_of y.session.work)) (sym h.did.0 ∙ done),
+      ap unanswered past ∙ answered_all y.session.phase y.counts.stage (unanswered (past_of y.session.work)) (sym h.did.0.0 ∙ done),
     )
 
 pub read_sees : {Service : Type 0} (a b : Post Service) → ReadShift (Ok Over) a b → SeesAnswered (sight_by b.0)

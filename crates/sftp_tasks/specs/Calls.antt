@@ -33,7 +33,7 @@ use Rattle.sftp_tasks.specs.declared.polls.Polled.{Polled}
 use Rattle.sftp_tasks.specs.declared.polls.Polled.TheVariants as polled
 use Rattle.sftp_tasks.specs.LockedEvents.{OfLane, Polling, Releasing}
 use Rattle.sftp_tasks.specs.Rounds.{HoldsOnce, Token}
-use Rattle.sftp_tasks.specs.SessionEvents.{AllEnded}
+use Rattle.sftp_tasks.specs.SessionEvents.{AllEnded, HasNoFault}
 use Rattle.sftp_tasks.specs.Shows.{shown_of}
 
 -- what an event answered, where each receipt could be kept
@@ -42,19 +42,20 @@ settled (Err e) copied = Err e
 settled (Ok a) (Ok x) = Ok a
 settled (Ok a) (Err y) = Err error.OutOfMemory
 
--- One hold, in which this was done. With Ok the seat has a receipt of each entry that was added; an Err was answered by
--- the event itself, or a receipt is wanting.
+-- One hold, in which this was done. With Ok no fault was kept, and the seat has a receipt of each entry that was added;
+-- an Err was answered by the event itself, or a receipt is wanting.
 abbrev pub AnswersSeat : {A : Type 0} → (Locked → Locked → Result A Error → Type 0) → List Receipt → List Receipt
     → Result A Error → Token → Token → Type 0
 AnswersSeat Does old new (Ok a) m n =
-    HoldsOnce (λ y z more. Does y z (Ok a) × (new ≡ old ++ made_on (length (shown_of y).past) more)) m n
+    HoldsOnce
+    (λ y z more. Does y z (Ok a) × (new ≡ old ++ made_on (length (shown_of y).past) more) × HasNoFault y.session) m n
 AnswersSeat {A} Does old new (Err e) m n =
     HoldsOnce (λ y z more. Does y z (Err e) ⊎ ((e ≡ error.OutOfMemory) × ((a : A) × Does y z (Ok a)))) m n
 
 -- the same of a hold whose receipts are not told
 abbrev pub InOneHold : {A : Type 0} → (Locked → Locked → Result A Error → Type 0) → Result A Error → Token → Token
     → Type 0
-InOneHold Does (Ok a) m n = HoldsOnce (λ y z more. Does y z (Ok a)) m n
+InOneHold Does (Ok a) m n = HoldsOnce (λ y z more. Does y z (Ok a) × HasNoFault y.session) m n
 InOneHold {A} Does (Err e) m n =
     HoldsOnce (λ y z more. Does y z (Err e) ⊎ ((e ≡ error.OutOfMemory) × ((a : A) × Does y z (Ok a)))) m n
 
@@ -84,7 +85,7 @@ ReleasesSeat lane old new (Err e) m n =
 
 -- what a poll is for a seat, one that names no lane too
 abbrev pub PollsSeat : Option ℕ → Locked → Locked → Result Polled Error → Type 0
-PollsSeat lane y z r = (z ≡ record y { session = z.session }) × OfLane Polling (Ok (polled.Ended 0)) lane y z r
+PollsSeat lane y z r = (z ≡ record y { session = z.session }) × OfLane Polling (polled.Ended 0) lane y z r
 
 abbrev pub is_ended : Polled → Bool
 is_ended (polled.Ended calls) = true

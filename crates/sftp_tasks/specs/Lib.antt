@@ -6,3 +6,5 @@ pub mod Rounds
 pub mod Calls
 pub mod Workers
 pub mod Reported
+pub mod Sent
+pub mod Opening

@@ -2,6 +2,7 @@
 use Rattle.std.specs.Prelude.{
   ◌≡◌,
   ◌≢◌,
+  ◌≤◌,
   ℕ,
   ◌+◌,
   ◌^◌,
@@ -13,6 +14,7 @@ use Rattle.std.specs.Prelude.{
   true,
   false,
   List,
+  length,
   Option,
   Some,
   None,
@@ -20,6 +22,7 @@ use Rattle.std.specs.Prelude.{
   Ok,
   Err,
   MatchOption,
+  OnOk,
   nat_le,
   nat_lt,
 }
@@ -30,9 +33,12 @@ use Rattle.session_driver.specs.declared.session.Phase.TheVariants.{Failed, Open
 use Rattle.session_driver.specs.declared.session.Stepped.{Stepped}
 use Rattle.sftp_model.specs.declared.error.Error.{Error}
 use Rattle.sftp_model.specs.declared.error.Fault.{Fault}
+use Rattle.sftp_model.specs.Frames.{frame}
+use Rattle.sftp_model.specs.Numbers.{MAX_BODY_LEN}
 use Rattle.sftp_model.specs.Pieces.{joined}
 use Rattle.sftp_model.specs.ReplyReadings.{reply_at}
 use Rattle.sftp_lanes.specs.Counts.{unsent_in}
+use Rattle.sftp_lanes.specs.Seen.{SessionValue}
 use Rattle.sftp_lanes.specs.Events.{CancelsIn, HandsOutIn, StepsIn, TakesIn}
 use Rattle.session_model.specs.Readings.{unanswered}
 use Rattle.session_work.specs.Working.{past_of}
@@ -42,12 +48,32 @@ use Rattle.session_seats.specs.Holds.{Allowance}
 use Rattle.sftp_tasks.specs.declared.frames.Handed.{Handed}
 use Rattle.sftp_tasks.specs.declared.locked.Locked.{Locked}
 use Rattle.sftp_tasks.specs.declared.polls.Polled.{Polled}
-use Rattle.sftp_tasks.specs.SessionEvents.{GivesUp, IsKept, LetsLaneGoIn, PollsIn, RefusesCall, SubmitsCall, TakeStops}
+use Rattle.sftp_tasks.specs.SessionEvents.{
+  GivesUp,
+  HasNoFault,
+  IsKept,
+  LetsLaneGoIn,
+  PollsIn,
+  RefusesCall,
+  SubmitsCall,
+  TakeStops,
+}
+
+-- A kept fault comes before each answer but want of memory: with Ok there was none.
+abbrev pub UnlessFault : {A : Type 0} → (Locked → Locked → Result A Error → Type 0) → Locked → Locked → Result A Error
+    → Type 0
+UnlessFault Did y z r = Did y z r × OnOk r (HasNoFault y.session)
+
+-- this is answered where nothing is done
+abbrev pub Idles : {A : Type 0} → A → SessionValue → Result A Error → Type 0
+Idles nothing s (Ok a) = a ≡ nothing
+Idles nothing s (Err e) = RefusesCall e s s
 
 -- a seat that names no lane does nothing
-abbrev pub OfLane : {A : Type 0} → (ℕ → Locked → Locked → A → Type 0) → A → Option ℕ → Locked → Locked → A → Type 0
-OfLane Did nothing None y z a = (z ≡ y) × (a ≡ nothing)
-OfLane Did nothing (Some lane) y z a = Did lane y z a
+abbrev pub OfLane : {A : Type 0} → (ℕ → Locked → Locked → Result A Error → Type 0) → A → Option ℕ → Locked → Locked
+    → Result A Error → Type 0
+OfLane Did nothing None y z r = (z ≡ y) × Idles nothing y.session r
+OfLane Did nothing (Some lane) y z r = Did lane y z r
 
 abbrev pub Stepping : ℕ → Locked → Locked → Result Stepped Error → Type 0
 Stepping lane y z (Ok event) = StepsIn y.session.phase lane y.session z.session event
@@ -66,13 +92,8 @@ Polling lane y z (Ok p) = PollsIn lane y.session z.session p
 Polling lane y z (Err e) = RefusesCall e y.session z.session
 
 -- what a seat lets go of before it leaves the users: its lane, or nothing where it names none
-abbrev pub LetsSeatGo : Option ℕ → Locked → Locked → Result Bool Error → Type 0
-LetsSeatGo None y z (Ok did) = (did ≡ true) × (z ≡ y)
-LetsSeatGo None y z (Err e) = (z ≡ y) × RefusesCall e y.session y.session
-LetsSeatGo (Some lane) y z r = LettingGo lane y z r
-
 abbrev pub Releasing : Option ℕ → Locked → Locked → Result Bool Error → Type 0
-Releasing lane y z r = (z ≡ record y { session = z.session }) × LetsSeatGo lane y z r
+Releasing lane y z r = (z ≡ record y { session = z.session }) × OfLane LettingGo true lane y z r
 
 abbrev pub Submitting : Call → ℕ → Locked → Locked → Result Bool Error → Type 0
 Submitting call lane y z r = SubmitsCall lane call y.session z.session r
@@ -93,9 +114,13 @@ abbrev pub Taking : List ℕ → Locked → Locked → Result (Unit {0}) Error �
 Taking body y z (Ok u) = TakesIn y.session.phase (reply_at body) y.session z.session
 Taking body y z (Err e) = TakeStops (reply_at body) e y.session z.session
 
+-- what came is this body behind its length
+abbrev pub IsFrame : Received → List ℕ → Type 0
+IsFrame received body = (received.bytes ≡ frame body) × (length body ≤ MAX_BODY_LEN)
+
 -- the frame's body is taken, where it is whole
 abbrev pub TakingFrame : Received → Locked → Locked → Result (Unit {0}) Error → Type 0
-TakingFrame frame y z r = (body : List ℕ) → body_of frame ≡ Some body → Taking body y z r
+TakingFrame received y z r = (body : List ℕ) → body_of received ≡ Some body → IsFrame received body × Taking body y z r
 
 abbrev pub Writing : ℕ → Locked → Locked → Type 0
 Writing frames y z =

@@ -1,19 +1,42 @@
 -- What is reported of a shared session that was closed.
-use Rattle.std.specs.Prelude.{◌≡◌, ◌≢◌, ◌≤◌, ◌⊎◌, List, [], Option, Some, None, length, map, reverse, vec_capacity}
+use Rattle.std.specs.Prelude.{
+  ◌≡◌,
+  ◌≢◌,
+  ◌≤◌,
+  ◌⊎◌,
+  ℕ,
+  Bool,
+  true,
+  List,
+  [],
+  ◌∷◌,
+  Contains,
+  Option,
+  Some,
+  None,
+  IfSome,
+  length,
+  map,
+  reverse,
+  vec_capacity,
+}
 use Rattle.std.specs.declared.vec.Vec.{Vec}
 use Rattle.std.proofs.Common.{Global}
 use Rattle.session_driver.specs.declared.session.Phase.TheVariants.{Failed}
 use Rattle.session_driver.specs.Session.{IsFixed}
 use Rattle.session_model.specs.declared.entry.Entry.{Entry}
 use Rattle.session_model.specs.declared.event.Event.{Event}
+use Rattle.session_model.specs.Grants.{next_due}
 use Rattle.session_model.specs.Journals.{IsJournal}
 use Rattle.session_model.specs.Readings.{outcomes_below, trace_of}
 use Rattle.session_seats.specs.declared.rule.Held.{Ghosts}
 use Rattle.session_seats.specs.declared.seat.Seat.{Seat}
+use Rattle.session_seats.specs.declared.view.Receipt.{Receipt}
 use Rattle.session_seats.specs.declared.view.Sight.{Sight}
 use Rattle.session_seats.specs.Closes.{claims_of, items_of, part}
+use Rattle.session_seats.specs.Holds.{sight_by}
 use Rattle.session_seats.specs.Rules.{AllTold, Distinct}
-use Rattle.session_seats.specs.Sights.{Lawful, entries}
+use Rattle.session_seats.specs.Sights.{Lawful, entries, lane_of, receipt}
 use Rattle.session_work.specs.SoFar.{kept_in}
 use Rattle.session_work.specs.Working.{past_of}
 use Rattle.sftp_core.specs.declared.info.Info.{Info}
@@ -22,15 +45,16 @@ use Rattle.sftp_model.specs.declared.error.Error.TheVariants as error
 use Rattle.sftp_lanes.specs.Seen.{SessionValue, given, given_of, setting_at, setting_by}
 use Rattle.sftp_tasks.specs.declared.locked.Locked.{Locked}
 use Rattle.sftp_tasks.specs.declared.report.SharedReport.{SharedReport}
+use Rattle.sftp_tasks.specs.SessionEvents.{HasFault, HasNoFault}
 
 -- calls of its lanes can be made
 abbrev pub MayTakeCalls : SessionValue → Type 0
-MayTakeCalls s = (kept_in (past_of s.work) ≡ None) × (s.phase ≢ Failed)
+MayTakeCalls s = HasNoFault s × (s.phase ≢ Failed)
 
 -- why none can be made any more
 abbrev pub HasStopped : Error → SessionValue → Type 0
 HasStopped error.OutOfMemory s = s.phase ≡ Failed
-HasStopped (error.BackgroundTaskFailure fault) s = s.work.core.fault ≡ Some fault
+HasStopped (error.BackgroundTaskFailure fault) s = HasFault fault s
 HasStopped other s = ⊥
 
 -- the session's journal is listed, a run so far of a setting that is fixed
@@ -39,30 +63,59 @@ pub record ListsJournal (s : SessionValue) (listed : List Entry) : Type 0 where
   pub run : IsJournal (setting_at s) (past_of s.work)
   pub fixed : s.version ≢ None → IsFixed (given_of s) s.version (past_of s.work) (setting_at s)
 
--- its journal is listed, and the list for its events is empty and has room for them
-pub record IsPrepared (s : SessionValue) (journal : Vec Entry Global) (trace : Vec Event Global) : Type 0 where
+-- its journal is listed, the list for its events is empty and has room for them, and while it is open no grant is left
+-- that is to be closed
+pub record IsPrepared (s : SessionValue) (journal : Vec Entry Global) (trace : Vec Event Global) (is_open : Bool) : Type
+    0 where
   pub lists : ListsJournal s journal.items
   pub empty : trace.items ≡ []
   pub room : length (past_of s.work) ≤ vec_capacity trace
+  pub settled : is_open ≡ true → next_due (setting_at s) (past_of s.work) ≡ None
 
 -- calls of its lanes can be made, and this was made for its report
-abbrev pub EndsSo : SessionValue → Vec Entry Global → Vec Event Global → Type 0
-EndsSo s journal trace = MayTakeCalls s × IsPrepared s journal trace
+abbrev pub EndsSo : SessionValue → Vec Entry Global → Vec Event Global → Bool → Type 0
+EndsSo s journal trace is_open = MayTakeCalls s × IsPrepared s journal trace is_open
 
 -- why a session does not end: it has stopped, or memory is wanting
 abbrev pub IsRefusedFor : Error → SessionValue → Type 0
 IsRefusedFor e s = (e ≡ error.OutOfMemory) ⊎ HasStopped e s
+
+-- the error is that of the fault that the journal keeps, or memory was wanting
+abbrev pub TellsFault : Error → List Entry → Type 0
+TellsFault error.OutOfMemory past = Unit {0}
+TellsFault (error.BackgroundTaskFailure fault) past = kept_in past ≡ Some fault
+TellsFault other past = ⊥
 
 -- where nothing was told, memory was wanting
 abbrev pub reason_of : Option Error → Error
 reason_of None = error.OutOfMemory
 reason_of (Some e) = e
 
+-- ---- lanes
+
+-- each entry of the lane has its receipt in the list, at its place
+abbrev pub HasLane : List Entry → ℕ → List Receipt → Type 0
+HasLane [] lane list = Unit {0}
+HasLane (e ∷ past) lane list =
+    (lane_of e ≡ Some lane → Contains list (receipt (length past) e)) × HasLane past lane list
+
+-- the list of each seat that names a lane has the entries of that lane
+abbrev pub HaveLanes : List Entry → List (Option ℕ) → List (List Receipt) → Type 0
+HaveLanes past [] [] = Unit {0}
+HaveLanes past (lane ∷ lanes) (list ∷ lists) = IfSome lane (λ l. HasLane past l list) × HaveLanes past lanes lists
+HaveLanes past lanes lists = ⊥
+
+-- ---- the report
+
 module _ {G : Ghosts Locked} where
+  -- the lane that a seat names
+  abbrev pub lane_named : Seat Locked G → Option ℕ
+  lane_named s = s.lane
+
   -- There is one journal, of which each seat has seen a beginning: a run so far of the lanes and options that the
-  -- session was made of, and of VERSION, which fix its setting, with no kept fault. The report is what it tells. The
-  -- receipts of each seat are all entries that the seat made, in order and at their places, and no two seats have one
-  -- number.
+  -- session was made of, and of VERSION, which fix its setting, with no kept fault; while the session is open no grant
+  -- is left that is to be closed. The report is what it tells. The receipts of each seat are all entries that the seat
+  -- made, in order and at their places, those of a lane's seat all of the lane, and no two seats have one number.
   pub record Reported (seats : List (Seat Locked G)) (r : SharedReport) : Type 0 where
     pub now : Sight
     pub info : Option Info
@@ -71,11 +124,14 @@ module _ {G : Ghosts Locked} where
     pub fixed : now.version ≢ None → IsFixed (given now.lanes now.options) now.version (entries now.log)
         (setting_by now.lanes now.options now.version info)
     pub unkept : kept_in (entries now.log) ≡ None
+    pub settled : r.is_open ≡ true → next_due (setting_by now.lanes now.options now.version info) (entries now.log)
+        ≡ None
     pub hello : r.report.hello ≡ now.version
     pub trace : r.report.trace ≡ trace_of (entries now.log)
     pub outcomes : r.report.outcomes ≡ outcomes_below (entries now.log) (length now.lanes)
     pub lawful : Lawful now
     pub receipts : map items_of r.receipts.items ≡ map (part now) seats
+    pub lanes : HaveLanes (entries now.log) (map lane_named seats) (map items_of r.receipts.items)
     pub distinct : Distinct (claims_of seats)
     pub told : AllTold now (claims_of seats)
 
@@ -85,7 +141,8 @@ module _ {G : Ghosts Locked} where
     pub receipts : new.receipts ≡ seat.receipts
     pub lane : new.lane ≡ seat.lane
 
-  -- why a session was not closed: for want of memory, or the first seat has seen why it can't go on
+  -- why a session was not closed: for want of memory, or for the fault that is kept in the journal that the first seat
+  -- has seen
   abbrev pub Refused : Seat Locked G → List (Seat Locked G) → Error → Seat Locked G → List (Seat Locked G) → Type 0
   Refused seat others e new rest =
-      ComesBack seat new others rest × ((e ≡ error.OutOfMemory) ⊎ ((y : Locked) × HasStopped e y.session))
+      ComesBack seat new others rest × TellsFault e (entries (sight_by new.inner.me).log)

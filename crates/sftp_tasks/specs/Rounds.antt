@@ -15,8 +15,8 @@ use Rattle.sftp_lanes.specs.Events.{HandsOutIn}
 use Rattle.session_seats.specs.declared.view.View.{View}
 use Rattle.session_seats.specs.Holds.{Hold}
 use Rattle.sftp_tasks.specs.declared.locked.Locked.{Locked}
-use Rattle.sftp_tasks.specs.LockedEvents.{Failing, GivingUp, Hands, Looking, TakingFrame, Writing}
-use Rattle.sftp_tasks.specs.SessionEvents.{RefusesCall}
+use Rattle.sftp_tasks.specs.LockedEvents.{Failing, GivingUp, Hands, Looking, TakingFrame, UnlessFault, Writing}
+use Rattle.sftp_tasks.specs.SessionEvents.{HasNoFault, RefusesCall}
 use Rattle.sftp_tasks.specs.Shows.{shown_of}
 
 abbrev pub Token : Type 0
@@ -48,26 +48,30 @@ Stops e m n = HoldsOnce (λ y z more. Stopping (fault_for e) y z) m n
 
 -- ---- a round that sends
 
--- what was handed out in one hold was sent, and all its frames were noted as written in another, which added nothing
+-- what was handed out in one hold, in which no fault was kept, was sent, and all its frames were noted as written in
+-- another, which added nothing
 pub record Flushed {Service : Type 0} (m n : Token) (before now : LinkView Service) : Type 0 where
   pub mid : Token
   pub bytes : List ℕ
   pub frames : ℕ
-  pub hands : HoldsOnce (λ y z more. HandsOutIn y.session.phase y.session z.session (Some bytes) × Hands y z frames) m
-      mid
+  pub hands : HoldsOnce
+      (λ y z more. HandsOutIn y.session.phase y.session z.session (Some bytes) × Hands y z frames
+      × HasNoFault y.session) m mid
   pub sent : SentBy {T = Unit {0}} bytes before now (Ok tt)
   pub notes : HoldsOnce (λ y z more. (more ≡ []) × Writing frames y z) mid n
 
 abbrev pub FlushesRound : {Service : Type 0} → Bool → Token → Token → LinkView Service → LinkView Service → Type 0
 FlushesRound true m n before now = Flushed m n before now
 FlushesRound false m n before now =
-    HoldsOnce (λ y z more. HandsOutIn y.session.phase y.session z.session None) m n × (now ≡ before)
+    HoldsOnce (λ y z more. HandsOutIn y.session.phase y.session z.session None × HasNoFault y.session) m n
+    × (now ≡ before)
 
 -- what was handed out could not all be sent, and the session stops by it
 pub record Unsent {Service : Type 0} (e : Error) (m n : Token) (before now : LinkView Service) : Type 0 where
   pub mid : Token
   pub bytes : List ℕ
-  pub hands : HoldsOnce (λ y z more. HandsOutIn y.session.phase y.session z.session (Some bytes)) m mid
+  pub hands : HoldsOnce
+      (λ y z more. HandsOutIn y.session.phase y.session z.session (Some bytes) × HasNoFault y.session) m mid
   pub sent : SentBy {T = Unit {0}} bytes before now (Err e)
   pub stops : Stops e mid n
 
@@ -83,24 +87,24 @@ FlushStops e m n before now =
 
 -- ---- a round that reads
 
--- it was seen that a frame may be read, one was got, and its body was taken
+-- it was seen that a frame may be read and no fault is kept, one was got, and its body was taken
 pub record ReadsOnce {Service : Type 0} (m n : Token) (before now : LinkView Service) : Type 0 where
   pub mid : Token
   pub frame : Received
-  pub looks : HoldsOnce (λ y z more. Looking y z (Ok true)) m mid
+  pub looks : HoldsOnce (λ y z more. UnlessFault Looking y z (Ok true)) m mid
   pub whole : IsWhole frame
   pub got : Told (GotAll frame.bytes) before.log now.log
   pub caused : Caused {T = Received} before now (Ok frame)
-  pub takes : HoldsOnce (λ y z more. TakingFrame frame y z (Ok tt)) mid n
+  pub takes : HoldsOnce (λ y z more. UnlessFault (TakingFrame frame) y z (Ok tt)) mid n
 
 abbrev pub ReadsRound : {Service : Type 0} → Bool → Token → Token → LinkView Service → LinkView Service → Type 0
 ReadsRound true m n before now = ReadsOnce m n before now
-ReadsRound false m n before now = HoldsOnce (λ y z more. Looking y z (Ok false)) m n × (now ≡ before)
+ReadsRound false m n before now = HoldsOnce (λ y z more. UnlessFault Looking y z (Ok false)) m n × (now ≡ before)
 
 -- no whole frame was got, and the session stops by it
 pub record Unread {Service : Type 0} (e : Error) (m n : Token) (before now : LinkView Service) : Type 0 where
   pub mid : Token
-  pub looks : HoldsOnce (λ y z more. Looking y z (Ok true)) m mid
+  pub looks : HoldsOnce (λ y z more. UnlessFault Looking y z (Ok true)) m mid
   pub fails : Told (ReadFails e) before.log now.log
   pub caused : Caused {T = Received} before now (Err e)
   pub stops : Stops e mid n
@@ -109,7 +113,7 @@ pub record Unread {Service : Type 0} (e : Error) (m n : Token) (before now : Lin
 pub record Untaken {Service : Type 0} (e : Error) (m n : Token) (before now : LinkView Service) : Type 0 where
   pub mid : Token
   pub frame : Received
-  pub looks : HoldsOnce (λ y z more. Looking y z (Ok true)) m mid
+  pub looks : HoldsOnce (λ y z more. UnlessFault Looking y z (Ok true)) m mid
   pub whole : IsWhole frame
   pub got : Told (GotAll frame.bytes) before.log now.log
   pub refuses : HoldsOnce (λ y z more. TakingFrame frame y z (Err e)) mid n

@@ -38,12 +38,20 @@ use Rattle.sftp_model.specs.declared.reply.Reply.{Reply}
 use Rattle.sftp_lanes.specs.Adding.{AddsCall, CannotAdd, IsSame}
 use Rattle.sftp_lanes.specs.Events.{HasFailed, IsRefused, LetsGoIn, StepsIn, first_wrong, takes_frames}
 use Rattle.sftp_lanes.specs.Seen.{SessionValue, setting_at}
-use Rattle.session_work.specs.SoFar.{kept_past}
+use Rattle.session_work.specs.SoFar.{kept_in, kept_past}
 use Rattle.session_work.specs.Working.{past_of}
 use Rattle.sftp_tasks.specs.declared.polls.Polled.{Polled}
 use Rattle.sftp_tasks.specs.declared.polls.Polled.TheVariants as polled
 
 -- ---- refusals
+
+-- no fault is kept
+abbrev pub HasNoFault : SessionValue → Type 0
+HasNoFault s = kept_in (past_of s.work) ≡ None
+
+-- this fault is kept
+abbrev pub HasFault : Fault → SessionValue → Type 0
+HasFault fault s = kept_in (past_of s.work) ≡ Some fault
 
 -- nothing has changed, or there was no memory and the session has failed
 abbrev pub IsUnmoved : SessionValue → SessionValue → Type 0
@@ -52,7 +60,7 @@ IsUnmoved old new = (new ≡ old) ⊎ HasFailed old new
 -- why a call is refused, and what stands then
 abbrev pub RefusesCall : Error → SessionValue → SessionValue → Type 0
 RefusesCall error.OutOfMemory old new = IsUnmoved old new
-RefusesCall (error.BackgroundTaskFailure fault) old new = (old.work.core.fault ≡ Some fault) × (new ≡ old)
+RefusesCall (error.BackgroundTaskFailure fault) old new = HasFault fault old × (new ≡ old)
 RefusesCall other old new = ⊥
 
 -- a fault is kept, unless one was before
@@ -101,7 +109,7 @@ AddsIn lane call old new false = CannotAdd lane call old × (new ≡ old)
 -- why a call is not added: nothing has changed
 abbrev pub RefusesToAdd : Error → SessionValue → SessionValue → Type 0
 RefusesToAdd error.OutOfMemory old new = (new ≡ old) ⊎ IsSame old new
-RefusesToAdd (error.BackgroundTaskFailure fault) old new = (old.work.core.fault ≡ Some fault) × (new ≡ old)
+RefusesToAdd (error.BackgroundTaskFailure fault) old new = HasFault fault old × (new ≡ old)
 RefusesToAdd other old new = ⊥
 
 -- a call is added, and its lane stepped once
@@ -130,5 +138,5 @@ pub record IsUnawaited (e : Error) (old new : SessionValue) : Type 0 where
 
 -- why a frame is not taken, and what stands then
 abbrev pub TakeStops : Result (Option ℕ × Reply) FrameError → Error → SessionValue → SessionValue → Type 0
-TakeStops body_reads (error.BackgroundTaskFailure f) old new = (old.work.core.fault ≡ Some f) × (new ≡ old)
+TakeStops body_reads (error.BackgroundTaskFailure f) old new = HasFault f old × (new ≡ old)
 TakeStops body_reads e old new = IsRefusedBy body_reads e old new ⊎ IsUnawaited e old new

@@ -1,7 +1,7 @@
 //! Calls that are added to the lanes of the shared session.
-ghost use Rattle.std.specs.Prelude.{◌≡◌, MatchBool, IfOk, IfErr};
+ghost use Rattle.std.specs.Prelude.{◌≡◌, MatchBool, IfOk, IfErr, OnOk};
 ghost use Rattle.sftp_lanes.specs.Adding.{CanAdd, CannotAdd};
-ghost use Rattle.sftp_tasks.specs.SessionEvents.{AddsIn, RefusesToAdd, SubmitsCall};
+ghost use Rattle.sftp_tasks.specs.SessionEvents.{AddsIn, HasNoFault, RefusesToAdd, SubmitsCall};
 
 use crate::locked::Locked;
 use session_driver::Phase;
@@ -13,6 +13,7 @@ impl Locked {
     /// Whether a call may be put behind those of a lane. Refused where a fault is kept, and once the session has failed.
     fn may_add(&self, lane: u32, call: &Call) -> Result<bool, Error>
         ensures may { IfOk result (λ may. MatchBool may (CanAdd lane call.now self.now.session) (CannotAdd lane call.now self.now.session)) }
+        ensures no_fault { OnOk result (HasNoFault self.now.session) }
         ensures refused { IfErr result (λ e. RefusesToAdd e self.now.session self.now.session) }
     {
         if let Some(fault) = self.session.fault() {
@@ -30,6 +31,7 @@ impl Locked {
     pub fn push_call(&mut self, lane: u32, call: Call) -> Result<bool, Error>
         ensures rest { self.new ≡ record self.old { session = self.new.session } }
         ensures adds { IfOk result (λ event. AddsIn lane call self.old.session self.new.session event) }
+        ensures no_fault { OnOk result (HasNoFault self.old.session) }
         ensures refused { IfErr result (λ e. RefusesToAdd e self.old.session self.new.session) }
     {
         match self.may_add(lane, &call) {
@@ -47,6 +49,7 @@ impl Locked {
     pub fn submit(&mut self, lane: u32, call: Call) -> Result<bool, Error>
         ensures rest { self.new ≡ record self.old { session = self.new.session } }
         ensures submits { SubmitsCall lane call self.old.session self.new.session result }
+        ensures no_fault { OnOk result (HasNoFault self.old.session) }
     {
         match self.push_call(lane, call) {
             Ok(true) => {}

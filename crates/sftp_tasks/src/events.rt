@@ -13,21 +13,20 @@ use sftp_wire::FrameReader;
 pub struct Step;
 
 impl Event<Locked, Result<Stepped, Error>> for Step {
-    ghost use Rattle.std.specs.Prelude.{Ok};
     ghost use Rattle.session_driver.specs.declared.session.Stepped.TheVariants as stepped;
     ghost use Rattle.session_seats.specs.Holds.{no_allowance};
     ghost use Rattle.sftp_tasks.specs.Entries.{by_step};
-    ghost use Rattle.sftp_tasks.specs.LockedEvents.{OfLane, Stepping};
+    ghost use Rattle.sftp_tasks.specs.LockedEvents.{OfLane, Stepping, UnlessFault};
 
     ghost only = { λ _. by_step };
 
     ghost needs = { λ _. no_allowance };
 
-    ghost does = { λ _. OfLane Stepping (Ok stepped.Nothing) };
+    ghost does = { λ _ lane. UnlessFault (OfLane Stepping stepped.Nothing lane) };
 
     fn act(self, value: &mut Locked, lane: Option<u32>) -> Result<Stepped, Error> {
         let Some(lane) = lane else {
-            return Ok(Stepped::Nothing);
+            return value.idle(Stepped::Nothing);
         };
         value.step(lane)
     }
@@ -38,20 +37,20 @@ impl Event<Locked, Result<Stepped, Error>> for Step {
 pub struct CancelCall;
 
 impl Event<Locked, Result<bool, Error>> for CancelCall {
-    ghost use Rattle.std.specs.Prelude.{Ok, false};
+    ghost use Rattle.std.specs.Prelude.{false};
     ghost use Rattle.session_seats.specs.Holds.{no_allowance};
     ghost use Rattle.sftp_tasks.specs.Entries.{by_cancel};
-    ghost use Rattle.sftp_tasks.specs.LockedEvents.{OfLane, Cancelling};
+    ghost use Rattle.sftp_tasks.specs.LockedEvents.{OfLane, Cancelling, UnlessFault};
 
     ghost only = { λ _. by_cancel };
 
     ghost needs = { λ _. no_allowance };
 
-    ghost does = { λ _. OfLane Cancelling (Ok false) };
+    ghost does = { λ _ lane. UnlessFault (OfLane Cancelling false lane) };
 
     fn act(self, value: &mut Locked, lane: Option<u32>) -> Result<bool, Error> {
         let Some(lane) = lane else {
-            return Ok(false);
+            return value.idle(false);
         };
         value.cancel(lane)
     }
@@ -62,20 +61,20 @@ impl Event<Locked, Result<bool, Error>> for CancelCall {
 pub struct LetGo;
 
 impl Event<Locked, Result<bool, Error>> for LetGo {
-    ghost use Rattle.std.specs.Prelude.{Ok, false};
+    ghost use Rattle.std.specs.Prelude.{false};
     ghost use Rattle.session_seats.specs.Holds.{no_allowance};
     ghost use Rattle.sftp_tasks.specs.Entries.{by_let_go};
-    ghost use Rattle.sftp_tasks.specs.LockedEvents.{OfLane, LettingGo};
+    ghost use Rattle.sftp_tasks.specs.LockedEvents.{OfLane, LettingGo, UnlessFault};
 
     ghost only = { λ _. by_let_go };
 
     ghost needs = { λ _. no_allowance };
 
-    ghost does = { λ _. OfLane LettingGo (Ok false) };
+    ghost does = { λ _ lane. UnlessFault (OfLane LettingGo false lane) };
 
     fn act(self, value: &mut Locked, lane: Option<u32>) -> Result<bool, Error> {
         let Some(lane) = lane else {
-            return Ok(false);
+            return value.idle(false);
         };
         value.let_go(lane)
     }
@@ -88,13 +87,13 @@ pub struct HandOut;
 impl Event<Locked, Result<Option<Handed>, Error>> for HandOut {
     ghost use Rattle.session_seats.specs.Holds.{no_allowance};
     ghost use Rattle.sftp_tasks.specs.Entries.{by_flush};
-    ghost use Rattle.sftp_tasks.specs.LockedEvents.{HandingOut};
+    ghost use Rattle.sftp_tasks.specs.LockedEvents.{HandingOut, UnlessFault};
 
     ghost only = { λ _. by_flush };
 
     ghost needs = { λ _. no_allowance };
 
-    ghost does = { λ _ lane. HandingOut };
+    ghost does = { λ _ lane. UnlessFault HandingOut };
 
     fn act(self, value: &mut Locked, lane: Option<u32>) -> Result<Option<Handed>, Error> {
         let _ = lane;
@@ -156,13 +155,13 @@ pub struct TakeFrame {
 impl Event<Locked, Result<(), Error>> for TakeFrame {
     ghost use Rattle.session_seats.specs.Holds.{no_allowance};
     ghost use Rattle.sftp_tasks.specs.Entries.{by_read};
-    ghost use Rattle.sftp_tasks.specs.LockedEvents.{TakingFrame};
+    ghost use Rattle.sftp_tasks.specs.LockedEvents.{TakingFrame, UnlessFault};
 
     ghost only = { λ _. by_read };
 
     ghost needs = { λ _. no_allowance };
 
-    ghost does = { λ e lane. TakingFrame e.frame };
+    ghost does = { λ e lane. UnlessFault (TakingFrame e.frame) };
 
     fn act(self, value: &mut Locked, lane: Option<u32>) -> Result<(), Error> {
         let _ = lane;
@@ -180,21 +179,21 @@ pub struct Submit {
 }
 
 impl Event<Locked, Result<bool, Error>> for Submit {
-    ghost use Rattle.std.specs.Prelude.{Ok, false};
+    ghost use Rattle.std.specs.Prelude.{false};
     ghost use Rattle.session_seats.specs.Holds.{no_allowance};
     ghost use Rattle.sftp_tasks.specs.Entries.{by_submit};
-    ghost use Rattle.sftp_tasks.specs.LockedEvents.{OfLane, Submitting};
+    ghost use Rattle.sftp_tasks.specs.LockedEvents.{OfLane, Submitting, UnlessFault};
 
     ghost only = { λ _. by_submit };
 
     ghost needs = { λ _. no_allowance };
 
-    ghost does = { λ e. OfLane (Submitting e.call) (Ok false) };
+    ghost does = { λ e lane. UnlessFault (OfLane (Submitting e.call) false lane) };
 
     fn act(self, value: &mut Locked, lane: Option<u32>) -> Result<bool, Error> {
         let Submit { call } = self;
         let Some(lane) = lane else {
-            return Ok(false);
+            return value.idle(false);
         };
         value.submit(lane, call)
     }
@@ -228,13 +227,13 @@ pub struct MayRead;
 impl Event<Locked, Result<bool, Error>> for MayRead {
     ghost use Rattle.session_seats.specs.Holds.{no_allowance};
     ghost use Rattle.sftp_tasks.specs.Entries.{by_nothing};
-    ghost use Rattle.sftp_tasks.specs.LockedEvents.{Looking};
+    ghost use Rattle.sftp_tasks.specs.LockedEvents.{Looking, UnlessFault};
 
     ghost only = { λ _. by_nothing };
 
     ghost needs = { λ _. no_allowance };
 
-    ghost does = { λ _ lane. Looking };
+    ghost does = { λ _ lane. UnlessFault Looking };
 
     fn act(self, value: &mut Locked, lane: Option<u32>) -> Result<bool, Error> {
         let _ = lane;
@@ -250,16 +249,17 @@ impl Event<Locked, Result<Polled, Error>> for Poll {
     ghost use Rattle.session_seats.specs.Holds.{no_allowance};
     ghost use Rattle.sftp_tasks.specs.Calls.{PollsSeat};
     ghost use Rattle.sftp_tasks.specs.Entries.{by_step};
+    ghost use Rattle.sftp_tasks.specs.LockedEvents.{UnlessFault};
 
     ghost only = { λ _. by_step };
 
     ghost needs = { λ _. no_allowance };
 
-    ghost does = { λ _. PollsSeat };
+    ghost does = { λ _ lane. UnlessFault (PollsSeat lane) };
 
     fn act(self, value: &mut Locked, lane: Option<u32>) -> Result<Polled, Error> {
         let Some(lane) = lane else {
-            return Ok(Polled::Ended(0));
+            return value.idle(Polled::Ended(0));
         };
         value.poll(lane)
     }
@@ -272,20 +272,17 @@ pub struct Release;
 impl Event<Locked, Result<bool, Error>> for Release {
     ghost use Rattle.session_seats.specs.Holds.{no_allowance};
     ghost use Rattle.sftp_tasks.specs.Entries.{by_let_go};
-    ghost use Rattle.sftp_tasks.specs.LockedEvents.{Releasing};
+    ghost use Rattle.sftp_tasks.specs.LockedEvents.{Releasing, UnlessFault};
 
     ghost only = { λ _. by_let_go };
 
     ghost needs = { λ _. no_allowance };
 
-    ghost does = { λ _. Releasing };
+    ghost does = { λ _ lane. UnlessFault (Releasing lane) };
 
     fn act(self, value: &mut Locked, lane: Option<u32>) -> Result<bool, Error> {
         let Some(lane) = lane else {
-            return match value.check() {
-                Ok(()) => Ok(true),
-                Err(e) => Err(e),
-            };
+            return value.idle(true);
         };
         value.let_go(lane)
     }
@@ -298,13 +295,13 @@ pub struct LookStage;
 impl Event<Locked, Result<u64, Error>> for LookStage {
     ghost use Rattle.session_seats.specs.Holds.{no_allowance};
     ghost use Rattle.sftp_tasks.specs.Entries.{by_nothing};
-    ghost use Rattle.sftp_tasks.specs.LockedEvents.{TellsStage};
+    ghost use Rattle.sftp_tasks.specs.LockedEvents.{TellsStage, UnlessFault};
 
     ghost only = { λ _. by_nothing };
 
     ghost needs = { λ _. no_allowance };
 
-    ghost does = { λ _ lane. TellsStage };
+    ghost does = { λ _ lane. UnlessFault TellsStage };
 
     fn act(self, value: &mut Locked, lane: Option<u32>) -> Result<u64, Error> {
         let _ = lane;
@@ -319,13 +316,13 @@ pub struct Finish;
 impl Event<Locked, Result<bool, Error>> for Finish {
     ghost use Rattle.session_seats.specs.Holds.{no_allowance};
     ghost use Rattle.sftp_tasks.specs.Entries.{by_nothing};
-    ghost use Rattle.sftp_tasks.specs.LockedEvents.{Finishing};
+    ghost use Rattle.sftp_tasks.specs.LockedEvents.{Finishing, UnlessFault};
 
     ghost only = { λ _. by_nothing };
 
     ghost needs = { λ _. no_allowance };
 
-    ghost does = { λ _ lane. Finishing };
+    ghost does = { λ _ lane. UnlessFault Finishing };
 
     fn act(self, value: &mut Locked, lane: Option<u32>) -> Result<bool, Error> {
         let _ = lane;

@@ -7,7 +7,7 @@ ghost use Rattle.session_driver.specs.declared.session.Phase.TheVariants as phas
 ghost use Rattle.session_work.specs.Working.{past_of};
 ghost use Rattle.sftp_lanes.specs.Counts.{unsent_in};
 ghost use Rattle.sftp_lanes.specs.Events.{HandsOutIn, TakesIn};
-ghost use Rattle.sftp_tasks.specs.SessionEvents.{RefusesCall, TakeStops};
+ghost use Rattle.sftp_tasks.specs.SessionEvents.{HasNoFault, RefusesCall, TakeStops};
 
 use crate::locked::Locked;
 use session_driver::Phase;
@@ -33,6 +33,7 @@ impl Locked {
             (λ h. self.new.counts.handed ≡ self.old.counts.handed + h.frames)) }
         ensures frames { IfOk result (λ handed. MatchOption handed (Unit {0})
             (λ h. self.old.session.phase ≢ phases.Failed → h.frames ≡ unsent_in self.old.session.phase (past_of self.old.session.work))) }
+        ensures no_fault { OnOk result (HasNoFault self.old.session) }
         ensures refused { IfErr result (λ e. RefusesCall e self.old.session self.new.session × (self.new.counts.handed ≡ self.old.counts.handed)) }
     {
         if let Some(fault) = self.session.fault() {
@@ -66,6 +67,7 @@ impl Locked {
         ensures rest { self.new ≡ record self.old { session = self.new.session; counts = record self.old.counts { taken = self.new.counts.taken } } }
         ensures takes { OnOk result (TakesIn self.old.session.phase (reply_at body.now) self.old.session self.new.session) }
         ensures counts { OnOk result ((self.new.counts.taken ≡ min (self.old.counts.taken + 1) (2 ^ 64 - 1)) × (self.old.counts.taken ≤ self.new.counts.taken)) }
+        ensures no_fault { OnOk result (HasNoFault self.old.session) }
         ensures stops { IfErr result (λ e. TakeStops (reply_at body.now) e self.old.session self.new.session × (self.new.counts.taken ≡ self.old.counts.taken)) }
     {
         if let Some(fault) = self.session.fault() {
@@ -87,6 +89,7 @@ impl Locked {
     /// Whether fewer frames were taken than were written whole, so that one is awaited. Errors as of `step`.
     pub fn may_read(&self) -> Result<bool, Error>
         ensures may { IfOk result (λ may. may ≡ nat_lt self.now.counts.taken self.now.counts.written) }
+        ensures no_fault { OnOk result (HasNoFault self.now.session) }
         ensures refused { IfErr result (λ e. RefusesCall e self.now.session self.now.session) }
     {
         if let Some(fault) = self.session.fault() {

@@ -8,7 +8,9 @@ mod copies;
 mod endings;
 mod events;
 mod frames;
+mod laws;
 mod locked;
+mod opening;
 mod polls;
 mod report;
 mod rounds;
@@ -20,7 +22,9 @@ pub use events::{
     Submit, TakeFrame, Written,
 };
 pub use frames::Handed;
+pub use laws::workers_show_their_seats;
 pub use locked::Locked;
+pub use opening::{HandHello, TakeVersion};
 pub use polls::Polled;
 pub use report::{NotClosed, SharedReport};
 pub use rounds::{flush_round, read_round};

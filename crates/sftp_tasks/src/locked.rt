@@ -1,7 +1,7 @@
 //! What lies behind the lock, and what each call of its session is.
-ghost use Rattle.std.specs.Prelude.{◌≡◌, ◌≤◌, ◌+◌, IfOk, IfErr};
+ghost use Rattle.std.specs.Prelude.{◌≡◌, ◌≤◌, ◌+◌, IfOk, IfErr, OnOk};
 ghost use Rattle.sftp_lanes.specs.Events.{CancelsIn, StepsIn};
-ghost use Rattle.sftp_tasks.specs.SessionEvents.{GivesUp, IsKept, LetsLaneGoIn, RefusesCall};
+ghost use Rattle.sftp_tasks.specs.SessionEvents.{GivesUp, HasNoFault, IsKept, LetsLaneGoIn, RefusesCall};
 
 use session_driver::{Phase, RunsLanes, Stepped};
 use session_model::Entry;
@@ -73,6 +73,7 @@ impl Locked {
     pub fn step(&mut self, lane: u32) -> Result<Stepped, Error>
         ensures rest { self.new ≡ record self.old { session = self.new.session } }
         ensures steps { IfOk result (λ event. StepsIn self.old.session.phase lane self.old.session self.new.session event) }
+        ensures no_fault { OnOk result (HasNoFault self.old.session) }
         ensures refused { IfErr result (λ e. RefusesCall e self.old.session self.new.session) }
     {
         if let Some(fault) = self.session.fault() {
@@ -88,6 +89,7 @@ impl Locked {
     pub fn cancel(&mut self, lane: u32) -> Result<bool, Error>
         ensures rest { self.new ≡ record self.old { session = self.new.session } }
         ensures cancels { IfOk result (λ event. CancelsIn self.old.session.phase lane self.old.session self.new.session event) }
+        ensures no_fault { OnOk result (HasNoFault self.old.session) }
         ensures refused { IfErr result (λ e. RefusesCall e self.old.session self.new.session) }
     {
         if let Some(fault) = self.session.fault() {
@@ -104,6 +106,7 @@ impl Locked {
     pub fn let_go(&mut self, lane: u32) -> Result<bool, Error>
         ensures rest { self.new ≡ record self.old { session = self.new.session } }
         ensures lets_go { IfOk result (λ event. LetsLaneGoIn lane self.old.session self.new.session event) }
+        ensures no_fault { OnOk result (HasNoFault self.old.session) }
         ensures refused { IfErr result (λ e. RefusesCall e self.old.session self.new.session) }
     {
         if let Some(fault) = self.session.fault() {

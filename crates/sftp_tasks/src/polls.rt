@@ -1,9 +1,9 @@
 //! A lane that is polled until its calls have ended.
-ghost use Rattle.std.specs.Prelude.{◌≡◌, Ok, IfErr, IfOk, IfSome};
+ghost use Rattle.std.specs.Prelude.{◌≡◌, Ok, IfErr, IfOk, IfSome, OnOk};
 ghost use Rattle.session_seats.specs.Holds.{Grew, claim_of, sight_by};
 ghost use Rattle.sftp_tasks.specs.Calls.{AnswersSeat, InOneHold, PollsSeat, PollsUntil, SeesEnded, calls_in, is_ended};
 ghost use Rattle.sftp_tasks.specs.Entries.{by_step};
-ghost use Rattle.sftp_tasks.specs.SessionEvents.{AllEnded, PollsIn, RefusesCall, polled_of};
+ghost use Rattle.sftp_tasks.specs.SessionEvents.{AllEnded, HasNoFault, PollsIn, RefusesCall, polled_of};
 ghost use Rattle.session_work.specs.Working.{past_of};
 
 use crate::events::Poll;
@@ -58,6 +58,7 @@ impl Locked {
     /// How many calls a lane has, where all have ended. Errors as of `step`.
     fn ended_calls(&self, lane: u32) -> Result<Option<u64>, Error>
         ensures ended { IfOk result (λ calls. IfSome calls (AllEnded self.now.session.lanes (past_of self.now.session.work) lane)) }
+        ensures no_fault { OnOk result (HasNoFault self.now.session) }
         ensures refused { IfErr result (λ e. RefusesCall e self.now.session self.now.session) }
     {
         match self.check() {
@@ -76,6 +77,7 @@ impl Locked {
     pub fn poll(&mut self, lane: u32) -> Result<Polled, Error>
         ensures rest { self.new ≡ record self.old { session = self.new.session } }
         ensures polls { IfOk result (λ p. PollsIn lane self.old.session self.new.session p) }
+        ensures no_fault { OnOk result (HasNoFault self.old.session) }
         ensures refused { IfErr result (λ e. RefusesCall e self.old.session self.new.session) }
     {
         match self.ended_calls(lane) {

@@ -24,25 +24,28 @@ pub struct SharedReport {
     pub report: Report,
     /// The journal, the first entry first.
     pub journal: Vec<Entry>,
-    /// The receipts of each seat, in the order of the seats that were handed in.
+    /// The receipts of each seat, in the order of the seats that were handed in. Those of a lane's seat are of all entries of the lane.
     pub receipts: Vec<Vec<Receipt>>,
+    /// Whether the session was open: then no grant is left that is to be closed.
+    pub is_open: bool,
 }
 
 /// A shared session could not be closed. Its seats come back, each with its receipts.
 #[derive(Drop)]
 pub struct NotClosed {
-    /// `BackgroundTaskFailure` with the fault that the session keeps, or `OutOfMemory`.
+    /// `BackgroundTaskFailure` with the fault that is kept in the journal that the first seat has seen, or `OutOfMemory`.
     pub error: Error,
     pub seat: Seat,
     pub others: Vec<Seat>,
 }
 
-/// What is made before the session ends, so that its report takes no memory: a copy of its journal, and an empty list that has room for
-/// its events.
+/// What is made before the session ends, so that its report takes no memory: a copy of its journal, an empty list that has room for
+/// its events, and whether the session is open.
 #[derive(Drop)]
 struct Prepared {
     journal: Vec<Entry>,
     trace: Vec<Event>,
+    is_open: bool,
 }
 
 /// The session ends while calls of its lanes can be made.
@@ -54,7 +57,7 @@ struct Unfailed {
 impl Ending<Locked, Prepared, Error> for Unfailed {
     ghost use Rattle.sftp_tasks.specs.Reported.{EndsSo, IsRefusedFor};
 
-    ghost allows = { λ _ y p. EndsSo y.session p.journal p.trace };
+    ghost allows = { λ _ y p. EndsSo y.session p.journal p.trace p.is_open };
 
     ghost refuses = { λ _ y e. IsRefusedFor e y.session };
 
@@ -73,14 +76,18 @@ impl Ending<Locked, Prepared, Error> for Unfailed {
 }
 
 impl Locked {
-    /// A copy of the journal, and room for its events. Refused for want of memory.
+    /// A copy of the journal, room for its events, and whether the session is open. Refused for want of memory.
     fn prepared(&self, alloc: Global) -> Result<Prepared, OutOfMemory>
-        ensures { IfOk result (λ p. IsPrepared self.now.session p.journal p.trace) }
+        ensures { IfOk result (λ p. IsPrepared self.now.session p.journal p.trace p.is_open) }
     {
         let listed = self.session.journal();
         let journal = copies_of(alloc, listed)?;
         let trace = Vec::with_capacity(alloc, listed.len())?;
-        Ok(Prepared { journal, trace })
+        Ok(Prepared {
+            journal,
+            trace,
+            is_open: self.is_open(),
+        })
     }
 
     /// The report of the session, its events in an empty list that has room for the journal.
@@ -139,11 +146,16 @@ impl SharedSftp {
         match shared.close(rt, alloc, seat, others, empty, &Unfailed { alloc }) {
             Ok((ended, prepared)) => {
                 let Ended { value, receipts } = ended;
-                let Prepared { journal, trace } = prepared;
+                let Prepared {
+                    journal,
+                    trace,
+                    is_open,
+                } = prepared;
                 Ok(SharedReport {
                     report: value.report_into(trace),
                     journal,
                     receipts,
+                    is_open,
                 })
             }
             Err(

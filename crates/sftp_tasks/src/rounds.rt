@@ -31,7 +31,7 @@ fn fault_for(e: &Error) -> Option<Fault>
 }
 
 /// Stops the session by what ended a round: its fault is kept, or for want of memory the session is given up.
-fn stop<R: Wait>(rt: &R, shared: &SharedSftp, seat: &mut Seat, e: &Error)
+pub(crate) fn stop<R: Wait>(rt: &R, shared: &SharedSftp, seat: &mut Seat, e: &Error)
     requires own { seat.old.inner.table_id ≡ shared.now.shared.table.shared.table_id }
     ensures own { (seat.new.inner.table_id ≡ seat.old.inner.table_id) × (seat.new.lane ≡ seat.old.lane) }
     ensures only { Grew (by_failing seat.old.lane) (claim_of seat.old.inner.me) (claim_of seat.new.inner.me) }

@@ -1,5 +1,5 @@
 //! The shared session, and the calls of a lane's seat.
-ghost use Rattle.std.specs.Prelude.{◌≡◌, ◌<◌, ◌≤◌, [], None, Ok, false, true, IfNone, IfOk, IfSome};
+ghost use Rattle.std.specs.Prelude.{◌≡◌, ◌<◌, ◌≤◌, [], None, false, true, IfNone, IfOk, IfSome};
 ghost use Rattle.plan_model.specs.Lanes.{are_ok};
 ghost use Rattle.session_seats.specs.Holds.{Grew, IsFresh, at_first, claim_of};
 ghost use Rattle.session_seats.specs.NewSeats.{Gives, GivesLane, HasNone};
@@ -114,7 +114,7 @@ impl SharedSftp {
         ensures own { (seat.new.inner.table_id ≡ seat.old.inner.table_id) × (seat.new.lane ≡ seat.old.lane)
             × ((claim_of seat.old.inner.me).share ≤ (claim_of seat.new.inner.me).share) }
         ensures only { Grew (by_submit seat.old.lane) (claim_of seat.old.inner.me) (claim_of seat.new.inner.me) }
-        ensures answers { AnswersSeat (OfLane (Submitting call) (Ok false) seat.old.lane) seat.old.receipts.items seat.new.receipts.items
+        ensures answers { AnswersSeat (OfLane (Submitting call) false seat.old.lane) seat.old.receipts.items seat.new.receipts.items
             result seat.old.inner.me seat.new.inner.me }
         ensures first { IfOk result (λ did. did ≡ true → IfSome seat.old.lane (λ lane. BeginsWith lane call seat.old.receipts.items seat.new.receipts.items)) }
     {
@@ -128,7 +128,7 @@ impl SharedSftp {
         ensures own { (seat.new.inner.table_id ≡ seat.old.inner.table_id) × (seat.new.lane ≡ seat.old.lane)
             × ((claim_of seat.old.inner.me).share ≤ (claim_of seat.new.inner.me).share) }
         ensures only { Grew (by_cancel seat.old.lane) (claim_of seat.old.inner.me) (claim_of seat.new.inner.me) }
-        ensures answers { AnswersSeat (OfLane Cancelling (Ok false) seat.old.lane) seat.old.receipts.items seat.new.receipts.items
+        ensures answers { AnswersSeat (OfLane Cancelling false seat.old.lane) seat.old.receipts.items seat.new.receipts.items
             result seat.old.inner.me seat.new.inner.me }
     {
         let (did, copied) = seat.apply(rt, self.alloc, &self.shared, CancelCall);

@@ -1,3 +1,6 @@
+pub mod MoveLaws
 pub mod RunLaws
+pub mod HalfLaws
+pub mod OpenedLaws
 pub mod Sends
 pub mod EndLaws

@@ -1,4 +1,5 @@
 pub mod Running
 pub mod Crews
+pub mod Halves
 pub mod Reports
 pub mod RunEnds

@@ -1,12 +1,14 @@
 -- What a whole run of lanes reports, and why it ends.
-use Rattle.std.specs.Prelude.{◌≡◌, ◌≢◌, ◌⊎◌, List, length, map, reverse, Option, None, Result, Ok, Err}
+use Rattle.std.specs.Prelude.{◌≡◌, ◌≢◌, ◌⊎◌, List, length, map, reverse, Option, Some, None, Result, Ok, Err}
 use Rattle.plan_model.specs.declared.call.Lane.{Lane}
 use Rattle.session_driver.specs.Session.{IsFixed}
+use Rattle.session_model.specs.Grants.{next_due}
 use Rattle.session_model.specs.Journals.{IsJournal}
 use Rattle.session_model.specs.Readings.{outcomes_below, trace_of}
 use Rattle.session_seats.specs.declared.view.Sight.{Sight}
 use Rattle.session_seats.specs.Closes.{items_of}
 use Rattle.session_seats.specs.Covers.{Once}
+use Rattle.session_seats.specs.Holds.{sight_by}
 use Rattle.session_seats.specs.Sights.{Lawful, entries}
 use Rattle.session_work.specs.SoFar.{kept_in}
 use Rattle.sftp_core.specs.declared.info.Info.{Info}
@@ -15,13 +17,20 @@ use Rattle.sftp_link.specs.Views.{LinkView}
 use Rattle.sftp_model.specs.declared.error.Error.{Error}
 use Rattle.sftp_model.specs.declared.error.Error.TheVariants as error
 use Rattle.sftp_model.specs.declared.options.SftpOptions.{SftpOptions}
+use Rattle.sftp_model.specs.declared.reply.Reply.{Reply}
 use Rattle.sftp_tasks.specs.declared.report.SharedReport.{SharedReport}
+use Rattle.sftp_tasks.specs.Reported.{HaveLanes}
+use Rattle.sftp_tasks.specs.Opening.{GreetStops, HasGreeted}
 use Rattle.sftp_tasks.specs.Rounds.{Token}
-use Rattle.sftp_tasks.specs.Workers.{FlushWorks, ReadWorks}
-use Rattle.tasks_run.specs.Running.{IsOf, Worked}
+use Rattle.sftp_tasks.specs.Sent.{SeesVersion}
+use Rattle.sftp_tasks.specs.Workers.{FlushWorks, Post, ReadWorks}
+use Rattle.tasks_run.specs.Crews.{named_in_order}
+use Rattle.tasks_run.specs.Halves.{HalvesShow, WorkersShow}
+use Rattle.tasks_run.specs.Running.{IsOf}
 
--- The journal is a run so far of these lanes and of VERSION, with no kept fault; the report is what it tells, and each
--- place of it stands in one list of receipts, once.
+-- The journal is a run so far of these lanes and of VERSION, which was taken, with no kept fault, and no grant is left
+-- that is to be closed. The report is what it tells. Each place of it stands in one list of receipts, once: those of
+-- the lanes come first, in their order, each with all entries of its lane.
 pub record RunsShared (lanes : List Lane) (options : SftpOptions) (r : SharedReport) : Type 0 where
   pub now : Sight
   pub made : IsOf lanes options now
@@ -31,10 +40,13 @@ pub record RunsShared (lanes : List Lane) (options : SftpOptions) (r : SharedRep
   pub fixed : now.version ≢ None → IsFixed (given now.lanes now.options) now.version (entries now.log)
       (setting_by now.lanes now.options now.version info)
   pub unkept : kept_in (entries now.log) ≡ None
+  pub settled : next_due (setting_by now.lanes now.options now.version info) (entries now.log) ≡ None
   pub hello : r.report.hello ≡ now.version
+  pub taken : r.report.hello ≢ None
   pub trace : r.report.trace ≡ trace_of (entries now.log)
   pub outcomes : r.report.outcomes ≡ outcomes_below (entries now.log) (length now.lanes)
   pub lawful : Lawful now
+  pub by_lane : HaveLanes (entries now.log) (named_in_order (length lanes)) (map items_of r.receipts.items)
   pub covers : Once (length r.journal.items) (map items_of r.receipts.items)
 
 abbrev pub RunsOf : Sight → SharedReport → Type 0
@@ -44,13 +56,47 @@ RunsOf s r = RunsShared s.lanes s.options r
 abbrev pub IsCause : Result (Unit {0}) Error → Result (Unit {0}) Error → Error → Type 0
 IsCause sent got e = (e ≡ error.OutOfMemory) ⊎ ((sent ≡ Err e) ⊎ (got ≡ Err e))
 
+-- what a worker did over its half
+abbrev pub Works : {Service : Type 0} → (Result (Unit {0}) Error → Post Service → Post Service → Type 0)
+    → Result (Unit {0}) Error → LinkView Service → LinkView Service → Type 0
+Works Did r before now = (m : Token) × ((n : Token) × Did r (m, before) (n, now))
+
+-- the home seat sent the hello over the one half of the link, and took VERSION from the other
+abbrev pub Opens : {A B : Type 0} → Token → LinkView A → LinkView A → LinkView B → LinkView B → Type 0
+Opens n out out' input input' = (m : Token) × HasGreeted m n out out' input input'
+
 module _ {A B : Type 0} (out out' : LinkView A) (input input' : LinkView B) where
-  -- both workers came to the end, each over its half of the link
-  abbrev pub Ended : Type 0
-  Ended = ((m : Token) × Worked FlushWorks m out out' (Ok tt)) × ((m : Token) × Worked ReadWorks m input input' (Ok tt))
+  -- memory was wanting, or the opening was stopped by this
+  abbrev pub OpeningStops : Error → Type 0
+  OpeningStops e =
+      (e ≡ error.OutOfMemory) ⊎ ((m : Token) × ((n : Token) × GreetStops e m n out out' input input'))
 
   -- memory was wanting, or one of the workers stopped by this, over its half of the link
-  abbrev pub StopsBy : Error → Type 0
-  StopsBy e =
-      (e ≡ error.OutOfMemory)
-      ⊎ (((m : Token) × Worked FlushWorks m out out' (Err e)) ⊎ ((m : Token) × Worked ReadWorks m input input' (Err e)))
+  abbrev pub WorkersStop : Error → Type 0
+  WorkersStop e = (e ≡ error.OutOfMemory) ⊎ (Works FlushWorks (Err e) out out' ⊎ Works ReadWorks (Err e) input input')
+
+  -- Both workers came to the end, each over its half of the link, which shows the journal's Sends or Takes. The report
+  -- has the VERSION that the worker that sends had seen.
+  pub record WorkersEnd (m : Token) (r : SharedReport) : Type 0 where
+    pub sent : Works FlushWorks (Ok tt) out out'
+    pub got : Works ReadWorks (Ok tt) input input'
+    pub shown : WorkersShow r out out' input input'
+    pub hello : (hello : Reply) → SeesVersion hello (sight_by m) → r.report.hello ≡ Some hello
+
+  -- The home seat opened the session, and then both workers came to the end, each over its half of the link. The halves
+  -- show the report's journal.
+  pub record Ended (r : SharedReport) : Type 0 where
+    pub home : Token
+    pub out_then : LinkView A
+    pub input_then : LinkView B
+    pub opens : Opens home out out_then input input_then
+    pub sent : Works FlushWorks (Ok tt) out_then out'
+    pub got : Works ReadWorks (Ok tt) input_then input'
+    pub shown : HalvesShow r out out' input input'
+
+-- memory was wanting; or the session was not opened, for this; or it was, and one of the workers stopped by this
+abbrev pub StopsBy : {A B : Type 0} → LinkView A → LinkView A → LinkView B → LinkView B → Error → Type 0
+StopsBy {A} {B} out out' input input' e =
+    OpeningStops out out' input input' e
+    ⊎ ((home : Token) × ((out_then : LinkView A) × ((input_then : LinkView B)
+    × (Opens home out out_then input input_then × WorkersStop out_then out' input_then input' e))))

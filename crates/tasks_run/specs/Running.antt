@@ -1,30 +1,43 @@
 -- A whole run of lanes in threads.
-use Rattle.std.specs.Prelude.{◌≡◌, ◌<◌, List, [], ◌∷◌, Result}
+use Rattle.std.specs.Prelude.{◌≡◌, ◌<◌, Bool, true, false, List, [], ◌∷◌, Result, Ok, Err}
 use Rattle.atomic_table.specs.Seated.{TableId}
 use Rattle.plan_model.specs.declared.call.Lane.{Lane}
+use Rattle.session_model.specs.declared.entry.Entry.{Entry}
+use Rattle.session_model.specs.declared.entry.Entry.TheVariants as entry
+use Rattle.session_model.specs.declared.event.Event.TheVariants.{Send, Take}
 use Rattle.session_seats.specs.declared.rule.Held.{Ghosts}
 use Rattle.session_seats.specs.declared.seat.Seat.{Seat}
-use Rattle.session_seats.specs.declared.view.Claim.{Claim}
 use Rattle.session_seats.specs.Closes.{claim_by}
-use Rattle.session_seats.specs.Holds.{claim_of}
+use Rattle.session_seats.specs.Holds.{AllFrom, Grew, claim_of}
 use Rattle.session_seats.specs.declared.view.Sight.{Sight}
-use Rattle.session_seats.specs.Sights.{gave}
-use Rattle.sftp_link.specs.Views.{LinkView}
+use Rattle.session_seats.specs.Sights.{StaysThere, own}
+use Rattle.sftp_model.specs.declared.reply.Reply.{Reply}
 use Rattle.sftp_model.specs.declared.error.Error.{Error}
 use Rattle.sftp_model.specs.declared.options.SftpOptions.{SftpOptions}
 use Rattle.sftp_tasks.specs.declared.locked.Locked.{Locked}
 use Rattle.sftp_tasks.specs.Rounds.{Token}
+use Rattle.sftp_tasks.specs.Sent.{SeesVersion}
 use Rattle.sftp_tasks.specs.Workers.{Post}
 
--- a seat that went on, and gave no other
-abbrev pub GivesNone : Claim → Claim → Type 0
-GivesNone old new =
-    (new.number ≡ old.number) × (gave new.number new.sight.seats ≡ gave old.number old.sight.seats)
+-- which entries are no Send, no Take, and neither
+abbrev pub sends_none : Entry → Bool
+sends_none (entry.Event Send) = false
+sends_none other = true
 
--- what a worker did until it ended, whatever its seat saw then
-abbrev pub Worked : {Service : Type 0} → (Result (Unit {0}) Error → Post Service → Post Service → Type 0) → Token
-    → LinkView Service → LinkView Service → Result (Unit {0}) Error → Type 0
-Worked Works m before now did = (last : Token) × Works did (m, before) (last, now)
+abbrev pub takes_none : Entry → Bool
+takes_none (entry.Event (Take id r)) = false
+takes_none other = true
+
+abbrev pub moves_none : Entry → Bool
+moves_none (entry.Event Send) = false
+moves_none (entry.Event (Take id r)) = false
+moves_none other = true
+
+-- What a worker did until it ended. After an error its seat gave the session up besides.
+abbrev pub Worked : {Service : Type 0} → (Result (Unit {0}) Error → Post Service → Post Service → Type 0)
+    → Result (Unit {0}) Error → Post Service → Post Service → Type 0
+Worked Works (Ok u) a b = Works (Ok u) a b
+Worked Works (Err e) a b = (last : Token) × Works (Err e) a (last, b.1)
 
 -- the lanes and options that two sights are of
 abbrev pub SameMade : Sight → Sight → Type 0
@@ -40,21 +53,43 @@ module _ {G : Ghosts Locked} where
   AllReady z [] = Unit {0}
   AllReady z (s ∷ ss) = IsReady z s × AllReady z ss
 
-  -- the seat is of the table, went on, and gave no other
-  pub record HasRun (z : TableId) (old new : Seat Locked G) : Type 0 where
+  -- the seat is of the table, went on, added only such entries, and gave no other
+  pub record HasRun (test : Entry → Bool) (z : TableId) (old new : Seat Locked G) : Type 0 where
     pub own : new.inner.table_id ≡ z
-    pub gives : GivesNone (claim_by old) (claim_by new)
-    pub made : SameMade (claim_by old).sight (claim_by new).sight
+    pub grew : Grew test (claim_by old) (claim_by new)
+    pub lane : new.lane ≡ old.lane
 
-  -- the home seat is ready as before, whatever seats it gave
+  -- the home seat is ready as before, and added nothing, whatever seats it gave
   pub record HasGiven (z : TableId) (old new : Seat Locked G) : Type 0 where
     pub ready : IsReady z new
     pub made : SameMade (claim_by old).sight (claim_by new).sight
+    pub version : StaysThere (claim_by old).sight.version (claim_by new).sight.version
+    pub added : own (claim_by new).number (claim_by new).sight.log ≡ own (claim_by old).number (claim_by old).sight.log
+    pub lane : new.lane ≡ old.lane
 
-  abbrev pub AllRan : TableId → List (Seat Locked G) → List (Seat Locked G) → Type 0
-  AllRan z [] [] = Unit {0}
-  AllRan z (s ∷ ss) (t ∷ ts) = HasRun z s t × AllRan z ss ts
-  AllRan z ss ts = ⊥
+  abbrev pub AllRan : (Entry → Bool) → TableId → List (Seat Locked G) → List (Seat Locked G) → Type 0
+  AllRan test z [] [] = Unit {0}
+  AllRan test z (s ∷ ss) (t ∷ ts) = HasRun test z s t × AllRan test z ss ts
+  AllRan test z ss ts = ⊥
+
+-- a seat made nothing yet; each of them
+module _ {G : Ghosts Locked} where
+  abbrev pub MadeNothing : Seat Locked G → Type 0
+  MadeNothing s = own (claim_by s).number (claim_by s).sight.log ≡ []
+
+  abbrev pub AllMadeNothing : List (Seat Locked G) → Type 0
+  AllMadeNothing [] = Unit {0}
+  AllMadeNothing (s ∷ ss) = MadeNothing s × AllMadeNothing ss
+
+  -- a seat made no Send and no Take
+  abbrev pub MovedNothing : Seat Locked G → Type 0
+  MovedNothing s = AllFrom 0 moves_none (own (claim_by s).number (claim_by s).sight.log)
+
+  -- a worker's seat that has seen VERSION, and made nothing yet
+  pub record IsWorker (hello : Reply) (z : TableId) (s : Seat Locked G) : Type 0 where
+    pub own : s.inner.table_id ≡ z
+    pub sees : SeesVersion hello (claim_by s).sight
+    pub new : MadeNothing s
 
 -- the lanes and options that were seen
 abbrev pub IsOf : List Lane → SftpOptions → Sight → Type 0

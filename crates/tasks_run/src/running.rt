@@ -1,19 +1,21 @@
 // The threads of a run, and its report.
-ghost use Rattle.std.specs.Prelude.{◌≡◌, ◌⊎◌, ◌<◌, ◌-◌, ◌^◌, ◌∷◌, ◌++◌, [], true, length, reverse, Err, Ok, IfErr, IfOk, MatchOption, OnOk};
+ghost use Rattle.std.specs.Prelude.{◌≡◌, ◌⊎◌, ◌<◌, ◌-◌, ◌^◌, ◌&&◌, ◌∷◌, ◌++◌, [], true, is_some, length, map, reverse, Err, Ok, IfErr, IfOk, MatchOption};
 ghost use Rattle.std.specs.Thread.{IsSync};
 ghost use Rattle.plan_model.specs.Lanes.{are_ok};
 ghost use Rattle.session_seats.specs.Closes.{AllOf, claims_of};
 ghost use Rattle.session_seats.specs.Covers.{Complete};
 ghost use Rattle.session_seats.specs.Holds.{sight_by};
 ghost use Rattle.sftp_model.specs.declared.error.Error.TheVariants as error;
+ghost use Rattle.sftp_model.specs.declared.reply.Reply.{Reply};
+ghost use Rattle.sftp_tasks.specs.Reported.{Reported, lane_named};
 ghost use Rattle.sftp_tasks.specs.Workers.{FlushWorks, ReadWorks};
-ghost use Rattle.tasks_run.specs.Crews.{IsCrew};
+ghost use Rattle.tasks_run.specs.Crews.{IsCrew, named_in_order};
 ghost use Rattle.tasks_run.specs.RunEnds.{IsEnded};
-ghost use Rattle.tasks_run.specs.Reports.{Ended, IsCause, RunsOf, RunsShared, StopsBy};
-ghost use Rattle.tasks_run.specs.Running.{AllReady, AllRan, HasRun, IsReady, Worked};
+ghost use Rattle.tasks_run.specs.Reports.{Ended, IsCause, RunsOf, RunsShared, StopsBy, WorkersEnd, WorkersStop};
+ghost use Rattle.tasks_run.specs.Running.{AllReady, AllRan, HasRun, IsReady, Worked, moves_none, sends_none, takes_none};
 
 use crate::ends::is_ended;
-use crate::seats::{Crew, Told, run_lane, run_reader, run_sender, start, stop};
+use crate::seats::{Crew, Told, open_session, run_lane, run_reader, run_sender, start, stop};
 use sftp_link::{LinkIn, LinkOut};
 use sftp_tasks::{Error, Lane, OutOfMemory, Seat, SftpOptions, SharedReport, SharedSftp};
 use std::alloc::{AllocError, Global};
@@ -31,8 +33,8 @@ fn run_lanes<R: Threads + Wait + Sync>(
 ) -> (Seat, Result<Vec<Seat>, AllocError>)
     requires home { IsReady shared.now.shared.table.shared.table_id home }
     requires seats { AllReady shared.now.shared.table.shared.table_id seats.items }
-    ensures home { HasRun shared.now.shared.table.shared.table_id home result.0 }
-    ensures lanes { IfOk result.1 (λ lanes. AllRan shared.now.shared.table.shared.table_id seats.items lanes.items) }
+    ensures home { HasRun moves_none shared.now.shared.table.shared.table_id home result.0 }
+    ensures lanes { IfOk result.1 (λ lanes. AllRan moves_none shared.now.shared.table.shared.table_id seats.items lanes.items) }
 {
     let mut home = run_lane(rt, shared, home);
     let ran = thread::map_vec(
@@ -40,7 +42,7 @@ fn run_lanes<R: Threads + Wait + Sync>(
         seats,
         &|seat: Seat| -> Seat
             requires { IsReady shared.now.shared.table.shared.table_id seat }
-            ensures { HasRun shared.entry.now.shared.table.shared.table_id seat result }
+            ensures { HasRun moves_none shared.entry.now.shared.table.shared.table_id seat result }
         { run_lane(rt, shared, seat) },
     );
     match ran {
@@ -63,22 +65,22 @@ fn run_others<I: LinkIn + Send + Drop, R: Threads + Wait + Clock + Sync>(
 ) -> ((Told, I), (Seat, Result<Vec<Seat>, AllocError>))
     requires reader { (reader.inner.table_id ≡ shared.now.shared.table.shared.table_id) × ((I.LinkState.state input).faults < 2 ^ 64 - 1) }
     requires lanes { IsReady shared.now.shared.table.shared.table_id home × AllReady shared.now.shared.table.shared.table_id lanes.items }
-    ensures reader { HasRun shared.now.shared.table.shared.table_id reader result.0.0.seat
-        × Worked ReadWorks reader.inner.me (I.LinkState.state input) (I.LinkState.state result.0.1) result.0.0.did }
-    ensures lanes { HasRun shared.now.shared.table.shared.table_id home result.1.0
-        × IfOk result.1.1 (λ ran. AllRan shared.now.shared.table.shared.table_id lanes.items ran.items) }
+    ensures reader { HasRun sends_none shared.now.shared.table.shared.table_id reader result.0.0.seat
+        × Worked ReadWorks result.0.0.did (reader.inner.me, I.LinkState.state input) (result.0.0.seat.inner.me, I.LinkState.state result.0.1) }
+    ensures lanes { HasRun moves_none shared.now.shared.table.shared.table_id home result.1.0
+        × IfOk result.1.1 (λ ran. AllRan moves_none shared.now.shared.table.shared.table_id lanes.items ran.items) }
 {
     thread::join(
         rt,
         move || -> (Told, I)
             requires { (reader.inner.table_id ≡ shared.now.shared.table.shared.table_id) × ((I.LinkState.state input).faults < 2 ^ 64 - 1) }
-            ensures { HasRun shared.entry.now.shared.table.shared.table_id reader result.0.seat
-                × Worked ReadWorks reader.inner.me (I.LinkState.state input) (I.LinkState.state result.1) result.0.did }
+            ensures { HasRun sends_none shared.entry.now.shared.table.shared.table_id reader result.0.seat
+                × Worked ReadWorks result.0.did (reader.inner.me, I.LinkState.state input) (result.0.seat.inner.me, I.LinkState.state result.1) }
         { run_reader(rt, shared, reader, input) },
         move || -> (Seat, Result<Vec<Seat>, AllocError>)
             requires { IsSync R.row × IsReady shared.now.shared.table.shared.table_id home × AllReady shared.now.shared.table.shared.table_id lanes.items }
-            ensures { HasRun shared.entry.now.shared.table.shared.table_id home result.0
-                × IfOk result.1 (λ ran. AllRan shared.entry.now.shared.table.shared.table_id lanes.items ran.items) }
+            ensures { HasRun moves_none shared.entry.now.shared.table.shared.table_id home result.0
+                × IfOk result.1 (λ ran. AllRan moves_none shared.entry.now.shared.table.shared.table_id lanes.items ran.items) }
         { run_lanes(rt, shared, home, lanes) },
     )
 }
@@ -94,14 +96,14 @@ fn run_threads<O: LinkOut + Send + Drop, I: LinkIn + Send + Drop, R: Threads + W
     (Told, O),
     ((Told, I), (Seat, Result<Vec<Seat>, AllocError>)),
 )
-    requires crew { IsCrew shared.now.shared.table.shared.table_id crew }
+    requires crew { (hello : Reply) × IsCrew hello shared.now.shared.table.shared.table_id crew }
     requires counts { ((O.LinkState.state out).faults < 2 ^ 64 - 1) × ((I.LinkState.state input).faults < 2 ^ 64 - 1) }
-    ensures sender { HasRun shared.now.shared.table.shared.table_id crew.sender result.0.0.seat
-        × Worked FlushWorks crew.sender.inner.me (O.LinkState.state out) (O.LinkState.state result.0.1) result.0.0.did }
-    ensures reader { HasRun shared.now.shared.table.shared.table_id crew.reader result.1.0.0.seat
-        × Worked ReadWorks crew.reader.inner.me (I.LinkState.state input) (I.LinkState.state result.1.0.1) result.1.0.0.did }
-    ensures lanes { HasRun shared.now.shared.table.shared.table_id crew.home result.1.1.0
-        × IfOk result.1.1.1 (λ ran. AllRan shared.now.shared.table.shared.table_id crew.lanes.items ran.items) }
+    ensures sender { HasRun takes_none shared.now.shared.table.shared.table_id crew.sender result.0.0.seat
+        × Worked FlushWorks result.0.0.did (crew.sender.inner.me, O.LinkState.state out) (result.0.0.seat.inner.me, O.LinkState.state result.0.1) }
+    ensures reader { HasRun sends_none shared.now.shared.table.shared.table_id crew.reader result.1.0.0.seat
+        × Worked ReadWorks result.1.0.0.did (crew.reader.inner.me, I.LinkState.state input) (result.1.0.0.seat.inner.me, I.LinkState.state result.1.0.1) }
+    ensures lanes { HasRun moves_none shared.now.shared.table.shared.table_id crew.home result.1.1.0
+        × IfOk result.1.1.1 (λ ran. AllRan moves_none shared.now.shared.table.shared.table_id crew.lanes.items ran.items) }
 {
     let Crew {
         home,
@@ -113,17 +115,17 @@ fn run_threads<O: LinkOut + Send + Drop, I: LinkIn + Send + Drop, R: Threads + W
         rt,
         move || -> (Told, O)
             requires { (sender.inner.table_id ≡ shared.now.shared.table.shared.table_id) × ((O.LinkState.state out).faults < 2 ^ 64 - 1) }
-            ensures { HasRun shared.entry.now.shared.table.shared.table_id sender result.0.seat
-                × Worked FlushWorks sender.inner.me (O.LinkState.state out) (O.LinkState.state result.1) result.0.did }
+            ensures { HasRun takes_none shared.entry.now.shared.table.shared.table_id sender result.0.seat
+                × Worked FlushWorks result.0.did (sender.inner.me, O.LinkState.state out) (result.0.seat.inner.me, O.LinkState.state result.1) }
         { run_sender(rt, shared, sender, out) },
         move || -> ((Told, I), (Seat, Result<Vec<Seat>, AllocError>))
             requires { IsSync R.row × (reader.inner.table_id ≡ shared.now.shared.table.shared.table_id)
                 × ((I.LinkState.state input).faults < 2 ^ 64 - 1)
                 × IsReady shared.now.shared.table.shared.table_id home × AllReady shared.now.shared.table.shared.table_id lanes.items }
-            ensures { HasRun shared.entry.now.shared.table.shared.table_id reader result.0.0.seat
-                × Worked ReadWorks reader.inner.me (I.LinkState.state input) (I.LinkState.state result.0.1) result.0.0.did
-                × HasRun shared.entry.now.shared.table.shared.table_id home result.1.0
-                × IfOk result.1.1 (λ ran. AllRan shared.entry.now.shared.table.shared.table_id lanes.items ran.items) }
+            ensures { HasRun sends_none shared.entry.now.shared.table.shared.table_id reader result.0.0.seat
+                × Worked ReadWorks result.0.0.did (reader.inner.me, I.LinkState.state input) (result.0.0.seat.inner.me, I.LinkState.state result.0.1)
+                × HasRun moves_none shared.entry.now.shared.table.shared.table_id home result.1.0
+                × IfOk result.1.1 (λ ran. AllRan moves_none shared.entry.now.shared.table.shared.table_id lanes.items ran.items) }
         { run_others(rt, shared, reader, input, home, lanes) },
     )
 }
@@ -153,7 +155,44 @@ fn own_error(did: Result<(), Error>) -> Error
     }
 }
 
-/// Ends the session, and reports what it did. Refused for want of memory, and where the session has stopped.
+/// The first of the seats, and the others.
+fn first_of(seats: Vec<Seat>) -> (Seat, Vec<Seat>)
+    requires { 0 < length seats.items }
+    ensures { seats.items ≡ result.0 ∷ result.1.items }
+{
+    let mut others = seats;
+    let first = others.remove(0);
+    (first, others)
+}
+
+/// The seats of a run in the order of its receipts, the first one apart from the others. Refused for want of memory.
+fn in_order(
+    lanes: Vec<Seat>,
+    home: Seat,
+    sender: Seat,
+    reader: Seat,
+) -> Result<(Seat, Vec<Seat>), OutOfMemory>
+    ensures { IfOk result (λ r. r.0 ∷ r.1.items ≡ lanes.items ++ home ∷ sender ∷ reader ∷ []) }
+{
+    let mut seats = lanes;
+    if seats.reserve(3).is_err() {
+        return Err(OutOfMemory);
+    }
+    seats.push_reserved(home);
+    seats.push_reserved(sender);
+    seats.push_reserved(reader);
+    Ok(first_of(seats))
+}
+
+/// Whether the session took VERSION and was open.
+fn was_open(report: &SharedReport) -> bool
+    ensures { result ≡ (report.now.is_open && is_some report.now.report.hello) }
+{
+    report.is_open && report.report.hello.is_some()
+}
+
+/// Ends the session, and reports what it did, the receipts of the lanes first. Refused for want of memory, where the session has
+/// stopped, and where it isn't open.
 fn close_run<R: Wait>(
     rt: &R,
     shared: SharedSftp,
@@ -162,51 +201,42 @@ fn close_run<R: Wait>(
     sender: Seat,
     reader: Seat,
 ) -> Result<SharedReport, OutOfMemory>
-    requires own { AllOf shared.shared.table.shared.table_id (home ∷ ((lanes.items ++ sender ∷ []) ++ reader ∷ [])) }
-    requires all { Complete (claims_of (home ∷ ((lanes.items ++ sender ∷ []) ++ reader ∷ []))) }
-    ensures { IfOk result (λ report. RunsOf (sight_by home.inner.me) report) }
+    requires own { AllOf shared.shared.table.shared.table_id (lanes.items ++ home ∷ sender ∷ reader ∷ []) }
+    requires all { Complete (claims_of (lanes.items ++ home ∷ sender ∷ reader ∷ [])) }
+    requires named { map lane_named (lanes.items ++ home ∷ sender ∷ reader ∷ []) ≡ named_in_order (length (sight_by home.inner.me).lanes) }
+    ensures runs { IfOk result (λ report. RunsOf (sight_by home.inner.me) report) }
+    ensures reported { IfOk result (Reported (lanes.items ++ home ∷ sender ∷ reader ∷ [])) }
 {
-    let mut others = lanes;
-    if others.reserve(2).is_err() {
+    let Ok((first, others)) = in_order(lanes, home, sender, reader) else {
         return Err(OutOfMemory);
-    }
-    others.push_reserved(sender);
-    others.push_reserved(reader);
-    match shared.close(rt, home, others) {
-        Ok(report) => Ok(report),
+    };
+    match shared.close(rt, first, others) {
+        Ok(report) => {
+            if !was_open(&report) {
+                return Err(OutOfMemory);
+            }
+            Ok(report)
+        }
         Err(_) => Err(OutOfMemory),
     }
 }
 
-/// Runs lanes over the two halves of a link: a thread for each lane, one that sends, and one that reads. The halves come back.
-///
-/// With Ok the journal is a run so far of the lanes, with no kept fault, and each place of it stands in one list of receipts, once: those
-/// of the home seat, which has none, of the lanes in lane order, of the worker that sends and of the one that reads. Both workers came to
-/// the end: each lane was let go, each request has its reply, and no call was added or cancelled. With an Err one of the workers
-/// stopped by it, or memory was wanting; it is so too of a run whose journal isn't that of such an end. Where no thread can be made,
-/// the run may wait for good.
-pub fn run_shared<
-    O: LinkOut + Send + Drop,
-    I: LinkIn + Send + Drop,
-    R: Threads + Wait + Clock + Sync,
->(
+/// Runs the threads of an opened session, and ends it. The halves come back. Errors as of `run_shared`.
+fn run_crew<O: LinkOut + Send + Drop, I: LinkIn + Send + Drop, R: Threads + Wait + Clock + Sync>(
     rt: &R,
-    alloc: Global,
+    shared: SharedSftp,
+    crew: Crew,
     out: O,
     input: I,
-    lanes: &[Lane],
-    options: &SftpOptions,
+    lanes: usize,
 ) -> (Result<SharedReport, Error>, O, I)
-    requires lanes { are_ok lanes.now ≡ true }
+    requires crew { ((hello : Reply) × IsCrew hello shared.shared.table.shared.table_id crew) × (lanes ≡ length (sight_by crew.home.inner.me).lanes) }
     requires counts { ((O.LinkState.state out).faults < 2 ^ 64 - 1) × ((I.LinkState.state input).faults < 2 ^ 64 - 1) }
-    ensures runs { IfOk result.0 (λ report. RunsShared lanes.now options.now report) }
-    ensures over { IfOk result.0 (λ report. IsEnded (length lanes.now) (reverse report.journal.items)) }
-    ensures ends { OnOk result.0 (Ended (O.LinkState.state out) (O.LinkState.state result.1) (I.LinkState.state input) (I.LinkState.state result.2)) }
-    ensures stops { IfErr result.0 (StopsBy (O.LinkState.state out) (O.LinkState.state result.1) (I.LinkState.state input) (I.LinkState.state result.2)) }
+    ensures runs { IfOk result.0 (λ report. RunsOf (sight_by crew.home.inner.me) report) }
+    ensures over { IfOk result.0 (λ report. IsEnded lanes (reverse report.journal.items)) }
+    ensures ends { IfOk result.0 (WorkersEnd (O.LinkState.state out) (O.LinkState.state result.1) (I.LinkState.state input) (I.LinkState.state result.2) crew.sender.inner.me) }
+    ensures stops { IfErr result.0 (WorkersStop (O.LinkState.state out) (O.LinkState.state result.1) (I.LinkState.state input) (I.LinkState.state result.2)) }
 {
-    let Ok((shared, crew)) = start(rt, alloc, lanes, options) else {
-        return (Err(Error::OutOfMemory), out, input);
-    };
     let ((sender, out), ((reader, input), (home, ran))) = run_threads(
         rt, &shared, crew, out, input,
     );
@@ -227,11 +257,52 @@ pub fn run_shared<
     };
     match close_run(rt, shared, home, seats, sender, reader) {
         Ok(report) => {
-            if !is_ended(report.journal.as_slice(), lanes.len()) {
+            if !is_ended(report.journal.as_slice(), lanes) {
                 return (Err(Error::OutOfMemory), out, input);
             }
             (Ok(report), out, input)
         }
         Err(OutOfMemory) => (Err(Error::OutOfMemory), out, input),
     }
+}
+
+/// Runs lanes over the two halves of a link: the home seat sends the hello and takes VERSION, and then there is a thread for each lane, one
+/// that sends, and one that reads. The halves come back.
+///
+/// With Ok the journal is a run so far of the lanes and of VERSION, which was taken, with no kept fault and no grant that is to be closed.
+/// Each place of it stands in one list of receipts, once: those of the lanes come first, in lane order, each with all entries of its lane;
+/// then come those of the home seat, which sends and takes none, of the worker that sends and of the one that reads. Both workers came to
+/// the end: each lane was let go, each request has its reply, and no call was added or cancelled. Where the halves tell it, the one was
+/// sent the hello's frame and then the frames of all Sends of the journal, in order, and from the other came a frame that reads as VERSION
+/// and then one for each Take, in order. With an Err the opening or one of the workers stopped by it, or memory was wanting; it is
+/// `OutOfMemory` too for a run whose journal isn't that of such an end. Where no thread can be made, the run may wait for good.
+pub fn run_shared<
+    O: LinkOut + Send + Drop,
+    I: LinkIn + Send + Drop,
+    R: Threads + Wait + Clock + Sync,
+>(
+    rt: &R,
+    alloc: Global,
+    out: O,
+    input: I,
+    lanes: &[Lane],
+    options: &SftpOptions,
+) -> (Result<SharedReport, Error>, O, I)
+    requires lanes { are_ok lanes.now ≡ true }
+    requires counts { ((O.LinkState.state out).faults < 2 ^ 64 - 1) × ((I.LinkState.state input).faults < 2 ^ 64 - 1) }
+    ensures runs { IfOk result.0 (λ report. RunsShared lanes.now options.now report) }
+    ensures over { IfOk result.0 (λ report. IsEnded (length lanes.now) (reverse report.journal.items)) }
+    ensures ends { IfOk result.0 (Ended (O.LinkState.state out) (O.LinkState.state result.1) (I.LinkState.state input) (I.LinkState.state result.2)) }
+    ensures stops { IfErr result.0 (StopsBy (O.LinkState.state out) (O.LinkState.state result.1) (I.LinkState.state input) (I.LinkState.state result.2)) }
+{
+    let mut out = out;
+    let mut input = input;
+    let (shared, home) = match open_session(rt, alloc, &mut out, &mut input, lanes, options) {
+        Ok(opened) => opened,
+        Err(e) => return (Err(e), out, input),
+    };
+    let Ok(crew) = start(rt, alloc, &shared, home, lanes.len()) else {
+        return (Err(Error::OutOfMemory), out, input);
+    };
+    run_crew(rt, shared, crew, out, input, lanes.len())
 }

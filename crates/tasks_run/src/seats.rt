@@ -1,12 +1,16 @@
 // The seats of a run, and what the thread of each does.
-ghost use Rattle.std.specs.Prelude.{◌≡◌, ◌<◌, ◌-◌, ◌^◌, [], true, IfOk};
+ghost use Rattle.std.specs.Prelude.{◌≡◌, ◌<◌, ◌-◌, ◌^◌, [], Some, true, IfErr, IfOk, length, map};
 ghost use Rattle.plan_model.specs.Lanes.{are_ok};
 ghost use Rattle.session_seats.specs.Closes.{claim_by, claims_of};
 ghost use Rattle.session_seats.specs.Covers.{HomeGave};
-ghost use Rattle.session_seats.specs.Holds.{sight_by};
+ghost use Rattle.session_seats.specs.Holds.{fits_lane, sight_by};
+ghost use Rattle.sftp_tasks.specs.Reported.{lane_named};
 ghost use Rattle.sftp_tasks.specs.Workers.{FlushWorks, ReadWorks};
-ghost use Rattle.tasks_run.specs.Running.{AllReady, HasGiven, HasRun, IsReady, Worked};
-ghost use Rattle.tasks_run.specs.Crews.{IsCrew};
+ghost use Rattle.sftp_model.specs.declared.reply.Reply.{Reply};
+ghost use Rattle.sftp_tasks.specs.Sent.{SeesVersion};
+ghost use Rattle.tasks_run.specs.Reports.{OpeningStops, Opens};
+ghost use Rattle.tasks_run.specs.Running.{AllMadeNothing, AllReady, HasGiven, HasRun, IsReady, SameMade, Worked, moves_none, sends_none, takes_none};
+ghost use Rattle.tasks_run.specs.Crews.{IsCrew, IsHome, lanes_below};
 ghost use Rattle.tasks_run.specs.Running.{IsOf};
 
 use sftp_link::{LinkIn, LinkOut};
@@ -36,32 +40,69 @@ pub struct Told {
     pub(crate) did: Result<(), Error>,
 }
 
-/// A session of these lanes, and the seats of its run. Refused for want of memory.
+/// A session of these lanes, which its home seat opens: it sends the hello over the one half, and takes VERSION from the other. Refused
+/// for want of memory, or by what stopped the opening.
+pub(crate) fn open_session<O: LinkOut, I: LinkIn, R: Wait>(
+    rt: &R,
+    alloc: Global,
+    out: &mut O,
+    input: &mut I,
+    lanes: &[Lane],
+    options: &SftpOptions,
+) -> Result<(SharedSftp, Seat), Error>
+    requires lanes { are_ok lanes.now ≡ true }
+    requires counts { ((O.LinkState.state out.old).faults < 2 ^ 64 - 1) × ((I.LinkState.state input.old).faults < 2 ^ 64 - 1) }
+    ensures home { IfOk result (λ r. IsHome r.0.shared.table.shared.table_id r.1 × IsOf lanes.now options.now (sight_by r.1.inner.me)) }
+    ensures opens { IfOk result (λ r. Opens r.1.inner.me (O.LinkState.state out.old) (O.LinkState.state out.new) (I.LinkState.state input.old) (I.LinkState.state input.new)) }
+    ensures stops { IfErr result (OpeningStops (O.LinkState.state out.old) (O.LinkState.state out.new) (I.LinkState.state input.old) (I.LinkState.state input.new)) }
+{
+    let Ok((shared, home)) = SharedSftp::new(alloc, lanes, options) else {
+        return Err(Error::OutOfMemory);
+    };
+    let mut home = home;
+    match shared.greet(rt, &mut home, out, input) {
+        Ok(true) => Ok((shared, home)),
+        Ok(false) => Err(Error::OutOfMemory), // nobody else has a seat yet
+        Err(e) => Err(e),
+    }
+}
+
+/// The seats of a run of so many lanes, which the home seat of an opened session gives. Refused for want of memory.
 pub(crate) fn start<R: Wait>(
     rt: &R,
     alloc: Global,
-    lanes: &[Lane],
-    options: &SftpOptions,
-) -> Result<(SharedSftp, Crew), OutOfMemory>
-    requires { are_ok lanes.now ≡ true }
-    ensures { IfOk result (λ r. IsCrew r.0.shared.table.shared.table_id r.1 × IsOf lanes.now options.now (sight_by r.1.home.inner.me)) }
+    shared: &SharedSftp,
+    home: Seat,
+    count: usize,
+) -> Result<Crew, OutOfMemory>
+    requires home { IsHome shared.now.shared.table.shared.table_id home }
+    requires count { count ≡ length (sight_by home.inner.me).lanes }
+    ensures crew { IfOk result (λ crew. (hello : Reply) → SeesVersion hello (sight_by home.inner.me) → IsCrew hello shared.now.shared.table.shared.table_id crew) }
+    ensures made { IfOk result (λ crew. SameMade (sight_by home.inner.me) (sight_by crew.home.inner.me)) }
 {
-    let (shared, mut home) = SharedSftp::new(alloc, lanes, options)?;
-    let seats = lane_seats(rt, alloc, &shared, &mut home, lanes.len())?;
+    let mut home = home;
+    let seats = lane_seats(rt, alloc, shared, &mut home, count)?;
     let sender = shared.worker_seat(rt, &mut home);
     let reader = shared.worker_seat(rt, &mut home);
-    Ok((
-        shared,
-        Crew {
-            home,
-            lanes: seats,
-            sender,
-            reader,
-        },
-    ))
+    Ok(Crew {
+        home,
+        lanes: seats,
+        sender,
+        reader,
+    })
 }
 
-/// The seats of so many lanes, in lane order; fewer where there are fewer lanes. Refused for want of memory.
+/// Whether the seat names the lane.
+fn names(seat: &Seat, lane: usize) -> bool
+    ensures { result ≡ fits_lane (Some lane) seat.now.lane }
+{
+    match seat.lane() {
+        Some(named) => lane == named as usize,
+        None => false,
+    }
+}
+
+/// The seats of so many lanes, in lane order. Refused for want of memory, and where there are fewer lanes.
 fn lane_seats<R: Wait>(
     rt: &R,
     alloc: Global,
@@ -73,17 +114,21 @@ fn lane_seats<R: Wait>(
     requires first { HomeGave (claim_by home.old) [] }
     ensures home { HasGiven shared.now.shared.table.shared.table_id home.old home.new }
     ensures seats { IfOk result (λ seats. AllReady shared.now.shared.table.shared.table_id seats.items
-        × HomeGave (claim_by home.new) (claims_of seats.items)) }
+        × HomeGave (claim_by home.new) (claims_of seats.items) × AllMadeNothing seats.items) }
+    ensures named { IfOk result (λ seats. map lane_named seats.items ≡ lanes_below count) }
 {
     let mut seats = Vec::new(alloc);
     for _ in 0..count {
         if seats.reserve(1).is_err() {
             return Err(OutOfMemory);
         }
-        match shared.seat(rt, home) {
-            Some(seat) => seats.push_reserved(seat),
-            None => return Ok(seats),
+        let Some(seat) = shared.seat(rt, home) else {
+            return Err(OutOfMemory);
+        };
+        if !names(&seat, seats.len()) {
+            return Err(OutOfMemory);
         }
+        seats.push_reserved(seat);
     }
     Ok(seats)
 }
@@ -91,7 +136,7 @@ fn lane_seats<R: Wait>(
 /// Gives the session up, so that no other thread waits for this one.
 pub(crate) fn stop<R: Wait>(rt: &R, shared: &SharedSftp, seat: &mut Seat)
     requires { seat.old.inner.table_id ≡ shared.now.shared.table.shared.table_id }
-    ensures { HasRun shared.now.shared.table.shared.table_id seat.old seat.new }
+    ensures { HasRun moves_none shared.now.shared.table.shared.table_id seat.old seat.new }
 {
     shared.give_up(rt, seat);
 }
@@ -99,7 +144,7 @@ pub(crate) fn stop<R: Wait>(rt: &R, shared: &SharedSftp, seat: &mut Seat)
 /// Polls a lane to its end, and releases its seat.
 fn finish_lane<R: Wait>(rt: &R, shared: &SharedSftp, seat: &mut Seat) -> Result<(), Error>
     requires { IsReady shared.now.shared.table.shared.table_id seat.old }
-    ensures { HasRun shared.now.shared.table.shared.table_id seat.old seat.new }
+    ensures { HasRun moves_none shared.now.shared.table.shared.table_id seat.old seat.new }
 {
     match shared.poll_wait(rt, seat) {
         Ok(_calls) => {}
@@ -115,7 +160,7 @@ fn finish_lane<R: Wait>(rt: &R, shared: &SharedSftp, seat: &mut Seat) -> Result<
 /// The thread of a lane, or of the home seat. Where it can't be finished the session is given up.
 pub(crate) fn run_lane<R: Wait>(rt: &R, shared: &SharedSftp, seat: Seat) -> Seat
     requires { IsReady shared.now.shared.table.shared.table_id seat }
-    ensures { HasRun shared.now.shared.table.shared.table_id seat result }
+    ensures { HasRun moves_none shared.now.shared.table.shared.table_id seat result }
 {
     let mut seat = seat;
     match finish_lane(rt, shared, &mut seat) {
@@ -135,8 +180,8 @@ pub(crate) fn run_sender<O: LinkOut, R: Wait + Clock>(
 ) -> (Told, O)
     requires own { seat.inner.table_id ≡ shared.now.shared.table.shared.table_id }
     requires count { (O.LinkState.state out).faults < 2 ^ 64 - 1 }
-    ensures ran { HasRun shared.now.shared.table.shared.table_id seat result.0.seat }
-    ensures works { Worked FlushWorks seat.inner.me (O.LinkState.state out) (O.LinkState.state result.1) result.0.did }
+    ensures ran { HasRun takes_none shared.now.shared.table.shared.table_id seat result.0.seat }
+    ensures works { Worked FlushWorks result.0.did (seat.inner.me, O.LinkState.state out) (result.0.seat.inner.me, O.LinkState.state result.1) }
 {
     let mut seat = seat;
     let mut out = out;
@@ -158,8 +203,8 @@ pub(crate) fn run_reader<I: LinkIn, R: Wait>(
 ) -> (Told, I)
     requires own { seat.inner.table_id ≡ shared.now.shared.table.shared.table_id }
     requires count { (I.LinkState.state input).faults < 2 ^ 64 - 1 }
-    ensures ran { HasRun shared.now.shared.table.shared.table_id seat result.0.seat }
-    ensures works { Worked ReadWorks seat.inner.me (I.LinkState.state input) (I.LinkState.state result.1) result.0.did }
+    ensures ran { HasRun sends_none shared.now.shared.table.shared.table_id seat result.0.seat }
+    ensures works { Worked ReadWorks result.0.did (seat.inner.me, I.LinkState.state input) (result.0.seat.inner.me, I.LinkState.state result.1) }
 {
     let mut seat = seat;
     let mut input = input;

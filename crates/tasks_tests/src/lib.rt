@@ -2,6 +2,10 @@
 #![tactic(auto)]
 
 #[cfg(test)]
+mod held_back;
+#[cfg(test)]
+mod kept_fault;
+#[cfg(test)]
 mod one_thread;
 #[cfg(test)]
 mod threads;

@@ -30,7 +30,7 @@ fn greeting(alloc: Global) -> Result<ScriptedLink, AllocError>
 }
 
 /// Two lanes without calls.
-fn two_lanes(alloc: Global) -> Result<Vec<Lane>, AllocError> {
+pub(crate) fn two_lanes(alloc: Global) -> Result<Vec<Lane>, AllocError> {
     let mut lanes = Vec::new(alloc);
     lanes.push(Lane {
         calls: Items::new(Vec::new(alloc)),
@@ -41,7 +41,7 @@ fn two_lanes(alloc: Global) -> Result<Vec<Lane>, AllocError> {
     Ok(lanes)
 }
 
-fn stat(alloc: Global, name: &[u8]) -> Result<Call, AllocError> {
+pub(crate) fn stat(alloc: Global, name: &[u8]) -> Result<Call, AllocError> {
     Ok(Call::Stat {
         path: ByteText::new(Vec::from_slice(alloc, name)?),
     })
@@ -69,7 +69,7 @@ fn a_call_before_version_has_one_receipt(rt: HostRuntime) -> Result<(), Fail> {
 }
 
 /// Sends what is unsent, and takes what comes: whether both were done.
-fn exchange<R: Wait>(
+pub(crate) fn exchange<R: Wait>(
     rt: &R,
     shared: &SharedSftp,
     seat: &mut Seat,

@@ -8,7 +8,7 @@ use Rattle.sftp_model.specs.declared.error.Error.{Error}
 use Rattle.sftp_model.specs.Pieces.{joined}
 use Rattle.sftp_tasks.specs.declared.frames.Handed.{Handed}
 use Rattle.sftp_tasks.specs.Entries.{by_failing, by_flush, by_nothing}
-use Rattle.sftp_tasks.specs.LockedEvents.{HandingOut, tells}
+use Rattle.sftp_tasks.specs.LockedEvents.{HandingOut, UnlessFault, tells}
 use Rattle.sftp_tasks.specs.Rounds.{FlushStops, Flushed, FlushesRound}
 use Rattle.sftp_tasks.specs.Shows.{shown_of}
 use Rattle.sftp_tasks.proofs.CallLaws.{settled_err, settled_ok}
@@ -61,12 +61,12 @@ returns-in-Err-send_pieces-clause-stops g c =
     let n = c.apply-did.new.self.inner.me in
     let h = c.apply-did.ensures.held in
     let is = c.in-Ok-Some.is ∙ ap (λ o. Ok o) c.in-Ok-Some.field-0-is in
-    let r = subst (λ (x : Result (Option Handed) Error). HandingOut h.before h.after x) is h.did.does in
+    let r = subst (λ (x : Result (Option Handed) Error). UnlessFault HandingOut h.before h.after x) is h.did.does in
     let pieces : c.pieces.result.now ≡ c.in-Ok-Some.handed.chunk = search rules in
     inr (inl record {
       mid = n;
       bytes = joined c.in-Ok-Some.handed.chunk;
-      hands = hold_map shown_of m n h r.0;
+      hands = hold_map shown_of m n h (r.0.0, r.1);
       sent = subst (λ (l : List (List ℕ)). SentBy {T = Unit {0}} (joined l) (g.O.LinkState.state c.args.out.now)
           (g.O.LinkState.state c.send_pieces.new.link) (Err c.in-Err-send_pieces.e)) pieces
           c.in-Err-send_pieces.ensures;
@@ -100,13 +100,13 @@ returns-in-Ok-copied-clause-flushes g c =
     let after = g.O.LinkState.state c.send_pieces.new.link in
     let h = c.apply-did.ensures.held in
     let is = c.in-Ok-Some.is ∙ ap (λ o. Ok o) c.in-Ok-Some.field-0-is in
-    let r = subst (λ (x : Result (Option Handed) Error). HandingOut h.before h.after x) is h.did.does in
+    let r = subst (λ (x : Result (Option Handed) Error). UnlessFault HandingOut h.before h.after x) is h.did.does in
     let pieces : c.pieces.result.now ≡ c.in-Ok-Some.handed.chunk = search rules in
     let flushed : Flushed m end before after = record {
       mid = n;
       bytes = joined c.in-Ok-Some.handed.chunk;
       frames = c.in-Ok-Some.handed.frames;
-      hands = hold_map shown_of m n h (r.0, r.1.0);
+      hands = hold_map shown_of m n h (r.0.0, r.0.1.0, r.1);
       sent = subst (λ (l : List (List ℕ)). SentBy {T = Unit {0}} (joined l) before after (Ok tt)) pieces c.in-Ok.ensures;
       notes = noted c.apply-did.new.self.lane n end c.apply-told.ensures.held;
     } in
@@ -122,13 +122,13 @@ returns-in-Ok-copied-clause-stops g c =
     let after = g.O.LinkState.state c.send_pieces.new.link in
     let h = c.apply-did.ensures.held in
     let is = c.in-Ok-Some.is ∙ ap (λ o. Ok o) c.in-Ok-Some.field-0-is in
-    let r = subst (λ (x : Result (Option Handed) Error). HandingOut h.before h.after x) is h.did.does in
+    let r = subst (λ (x : Result (Option Handed) Error). UnlessFault HandingOut h.before h.after x) is h.did.does in
     let pieces : c.pieces.result.now ≡ c.in-Ok-Some.handed.chunk = search rules in
     let flushed : Flushed m end before after = record {
       mid = n;
       bytes = joined c.in-Ok-Some.handed.chunk;
       frames = c.in-Ok-Some.handed.frames;
-      hands = hold_map shown_of m n h (r.0, r.1.0);
+      hands = hold_map shown_of m n h (r.0.0, r.0.1.0, r.1);
       sent = subst (λ (l : List (List ℕ)). SentBy {T = Unit {0}} (joined l) before after (Ok tt)) pieces c.in-Ok.ensures;
       notes = noted c.apply-did.new.self.lane n end c.apply-told.ensures.held;
     } in
@@ -144,13 +144,13 @@ returns-clause-stops g c =
     let after = g.O.LinkState.state c.send_pieces.new.link in
     let h = c.apply-did.ensures.held in
     let is = c.in-Ok-Some.is ∙ ap (λ o. Ok o) c.in-Ok-Some.field-0-is in
-    let r = subst (λ (x : Result (Option Handed) Error). HandingOut h.before h.after x) is h.did.does in
+    let r = subst (λ (x : Result (Option Handed) Error). UnlessFault HandingOut h.before h.after x) is h.did.does in
     let pieces : c.pieces.result.now ≡ c.in-Ok-Some.handed.chunk = search rules in
     let flushed : Flushed m end before after = record {
       mid = n;
       bytes = joined c.in-Ok-Some.handed.chunk;
       frames = c.in-Ok-Some.handed.frames;
-      hands = hold_map shown_of m n h (r.0, r.1.0);
+      hands = hold_map shown_of m n h (r.0.0, r.0.1.0, r.1);
       sent = subst (λ (l : List (List ℕ)). SentBy {T = Unit {0}} (joined l) before after (Ok tt)) pieces c.in-Ok.ensures;
       notes = noted c.apply-did.new.self.lane n end c.apply-told.ensures.held;
     } in

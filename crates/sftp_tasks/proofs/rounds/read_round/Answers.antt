@@ -1,4 +1,4 @@
-use Rattle.std.proofs.Common.{◌∙◌, ap, subst, sym, refl, inl, inr, Ok, Err, true, false, IfOk, IfErr, ℕ, Option, Bool}
+use Rattle.std.proofs.Common.{◌∙◌, ap, subst, sym, refl, inl, inr, Ok, true, false, IfOk, IfErr, ℕ, Option, Bool}
 use Rattle.std.specs.Prelude.{Result}
 use Rattle.session_seats.specs.Holds.{Grew, claim_of, no_allowance}
 use Rattle.session_seats.proofs.GrowLaws.{grew_applied}
@@ -7,7 +7,7 @@ use Rattle.sftp_tasks.specs.Entries.{by_failing, by_nothing, by_read}
 use Rattle.sftp_tasks.specs.Rounds.{ReadStops, ReadsRound, ReadsOnce}
 use Rattle.sftp_tasks.specs.Shows.{shown_of}
 use Rattle.sftp_tasks.proofs.CallLaws.{settled_err, settled_ok}
-use Rattle.sftp_tasks.proofs.RoundLaws.{look_false, look_refused, look_true, nothing_then_failing, nothing_then_read, took}
+use Rattle.sftp_tasks.proofs.RoundLaws.{look_false, look_refused, look_true, nothing_then_failing, nothing_then_read, refuses_frame, took}
 use Rattle.sftp_tasks.proofs.rounds.read_round.Goals as goal
 
 pub returns-in-Ok-false-clause-reads : goal.returns-in-Ok-false-clause-reads
@@ -83,7 +83,7 @@ returns-in-Err-did-clause-stops g c =
       looks = looks;
       whole = c.in-Ok.ensures.whole;
       got = c.in-Ok.ensures.log;
-      refuses = took n c.apply-did.new.self.inner.me c.in-Ok.frame c.apply-did.result.0 (Err c.in-Err-did.e) c.in-Err-did.is c.apply-did.ensures.held;
+      refuses = refuses_frame n c.apply-did.new.self.inner.me c.in-Ok.frame c.apply-did.result.0 c.in-Err-did.e c.in-Err-did.is c.apply-did.ensures.held;
     }))
 
 pub returns-in-Ok-looked-clause-only : goal.returns-in-Ok-looked-clause-only

@@ -1,11 +1,16 @@
 use Rattle.std.proofs.Common.{◌≡◌, ◌∙◌, length, refl, rules, sym}
+use Rattle.session_driver.specs.declared.session.Phase.TheVariants.{Fresh}
 use Rattle.session_work.specs.declared.lanes.Lanes.{Lanes}
 use Rattle.session_work.proofs.ReportLaws.{leaves_intact}
 use Rattle.sftp_lanes.proofs.Going.{fails_by, left_fails}
+use Rattle.sftp_lanes.proofs.Opening.{in_phase}
 use Rattle.sftp_lanes.proofs.session.Session.hand_hello.Goals as goal
 
 pub returns-in-Ok-clause-hands : goal.returns-in-Ok-clause-hands
-returns-in-Ok-clause-hands c = rw (← c.self.view_is) (record { rest = refl; greeted = refl; calls = refl })
+returns-in-Ok-clause-hands c =
+    let f = in_phase c.self.inside.lanes c.self.inside.options c.self.inside.version c.self.inside.info
+    c.self.inside.work c.self.inside.phase Fresh c.self.invariant (rw (← c.self.view_is) at c.requires.fresh) in
+    rw (← c.self.view_is) (record { rest = refl; untold = f.0.1; greeted = refl; calls = refl })
 
 pub invariant_of-self-in-Err : goal.invariant_of-self-in-Err
 invariant_of-self-in-Err c =

@@ -19,7 +19,7 @@ use Rattle.session_driver.specs.Session.{IsFixed, IsLater}
 use Rattle.session_driver.proofs.Journals.{later_self}
 use Rattle.session_work.specs.declared.lanes.Lanes.{Lanes}
 use Rattle.session_work.specs.Reports.{lane_report}
-use Rattle.session_work.specs.Working.{past_of, stage_of, work_of}
+use Rattle.session_work.specs.Working.{past_of, progress_of, work_of}
 use Rattle.session_work.proofs.ReportLaws.{leaves_intact}
 use Rattle.sftp_lanes.specs.Seen.{AreIdleRuns, given, setting_by, without_lanes}
 use Rattle.sftp_lanes.proofs.FixedLaws.{same_calls}
@@ -57,7 +57,7 @@ returns-in-Ok-clause-hands c =
         setting = s;
         phase = Queried;
         version = c.self.inside.version;
-        stage = record { past = past i; begun = (stage_of c.self.inside.work).begun };
+        progress = record { past = past i; begun = (progress_of c.self.inside.work).begun };
         work = work_of (record c.self.inside.work { core = c.hand_out.new.self; journal = c.push.new.self });
       };
       later = subst (λ (p : List Entry). IsLater s old p) (sym past) (inr (unmoved.run.0, later_self s old));

@@ -23,7 +23,7 @@ use Rattle.session_work.proofs.FaultLaws.{refused_so_far}
 use Rattle.session_work.specs.declared.lanes.Lanes.{Lanes}
 use Rattle.session_work.specs.Reports.{lane_report, reports_of}
 use Rattle.session_work.specs.SoFar.{HasRoom}
-use Rattle.session_work.specs.Working.{past_of, stage_of}
+use Rattle.session_work.specs.Working.{past_of, progress_of}
 use Rattle.session_work.proofs.Entries.{pushed}
 use Rattle.session_work.proofs.ReportLaws.{leaves_intact}
 use Rattle.sftp_lanes.specs.Seen.{AreIdleRuns, HasCalls, IsInPhase, IsIdleRun, setting_by, without_lanes}
@@ -166,7 +166,7 @@ returns-then-offers_limits-clause-takes c =
       told = ap Some same;
       asked = sym limits ∙ ap (λ (r : Reply). offers_limits (offered (Some r))) same;
       begins = (refl, (0, (free_id old f.0.2, past)));
-      begun = ap (λ (w : Lanes). (stage_of w).begun) c.take_frame.ensures.rest;
+      begun = ap (λ (w : Lanes). (progress_of w).begun) c.take_frame.ensures.rest;
       later = subst (λ (p : List Entry). IsLater s old p) (sym past) (inr (unmoved.run.0, later_self s old));
       fixed = asked_fixed c.self.inside.lanes c.self.inside.options v.extensions (Some c.in-Ok-Version.reply)
           c.self.inside.info (reverse c.push.new.self.items) (ap Some same) f.1.0
@@ -200,8 +200,8 @@ returns-else-offers_limits-clause-takes c =
       told = ap Some same;
       asked = sym none ∙ ap (λ (r : Reply). offers_limits (offered (Some r))) same;
       begins = (refl, past);
-      begun = ap (λ (w : Lanes). (stage_of w).begun) t.ensures.rest
-          ∙ ap (λ (w : Lanes). (stage_of w).begun) c.take_frame.ensures.rest;
+      begun = ap (λ (w : Lanes). (progress_of w).begun) t.ensures.rest
+          ∙ ap (λ (w : Lanes). (progress_of w).begun) c.take_frame.ensures.rest;
       later = subst (λ (p : List Entry). IsLater s old p) (sym past) (later_self s old);
       fixed = is_fixed c.self.inside.lanes c.self.inside.options v.extensions None (Some c.in-Ok-Version.reply)
           t.result (past_of t.new.work) (ap Some same) known (no_limits _ _ unoffered);

@@ -21,7 +21,7 @@ use Rattle.sftp_lanes.specs.Events.{told_limits}
 use Rattle.sftp_lanes.specs.Seen.{HasCalls, IsInPhase, IsIdleRun, setting_by}
 use Rattle.session_work.specs.declared.lanes.Lanes.{Lanes}
 use Rattle.session_work.specs.Reports.{lane_report, reports_of}
-use Rattle.session_work.specs.Working.{past_of, stage_of}
+use Rattle.session_work.specs.Working.{past_of, progress_of}
 use Rattle.session_work.proofs.FaultLaws.{refused_so_far}
 use Rattle.session_work.proofs.ReportLaws.{leaves_intact}
 use Rattle.sftp_lanes.proofs.FixedLaws.{same_calls}
@@ -150,7 +150,7 @@ returns-in-Ok-Limits-clause-takes c =
           ),
         );
         is_open = refl;
-        begun = ap (λ (w : Lanes). (stage_of w).begun) c.tell-self-inside.ensures.rest ∙ ap (λ (w : Lanes). (stage_of w).begun) c.take_frame.ensures.rest;
+        begun = ap (λ (w : Lanes). (progress_of w).begun) c.tell-self-inside.ensures.rest ∙ ap (λ (w : Lanes). (progress_of w).begun) c.take_frame.ensures.rest;
         later = later_all s (reverse c.push.new.self.items) unmoved.run;
         fixed = is_fixed c.self.inside.lanes c.self.inside.options q.0 (limits_in t.reply) c.self.inside.version
             c.tell-self-inside.result (reverse c.push.new.self.items) q.1.0 known

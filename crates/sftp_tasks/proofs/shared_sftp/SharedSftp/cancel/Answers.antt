@@ -1,4 +1,4 @@
-use Rattle.std.proofs.Common.{sym, subst, Ok, false, Bool}
+use Rattle.std.proofs.Common.{sym, subst, false, Bool}
 use Rattle.std.specs.Prelude.{Result}
 use Rattle.session_seats.proofs.GrowLaws.{grew_applied}
 use Rattle.session_seats.specs.Holds.{no_allowance}
@@ -19,7 +19,7 @@ returns g c =
     let old = c.args.seat.now.receipts.items in
     let new = c.apply-did.new.self.receipts.items in
     let h = c.apply-did.ensures.held in
-    let Does = OfLane Cancelling (Ok false) lane in record {
+    let Does = OfLane Cancelling false lane in record {
       own = (c.apply-did.ensures.own, c.apply-did.ensures.lane, share_stays m n h);
       only = grew_applied shown_of by_cancel lane no_allowance m n h;
       answers = subst (λ (r : Result Bool Error). AnswersSeat Does old new r m n) (sym c.settle.ensures)

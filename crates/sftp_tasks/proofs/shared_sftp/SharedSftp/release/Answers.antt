@@ -16,7 +16,7 @@ pub leave-requires-clause-share : goal.leave-requires-clause-share
 leave-requires-clause-share g c =
     let m = c.args.seat.now.inner.me in
     let h = c.apply-did.ensures.held in
-    let kept = share_kept m c.apply-did.new.self.inner.me h (ap (λ (x : Locked). x.users) h.did.does.0) in
+    let kept = share_kept m c.apply-did.new.self.inner.me h (ap (λ (x : Locked). x.users) h.did.does.0.0) in
     let some = c.requires.share in
     omega (arith, kept, some)
 
@@ -35,7 +35,7 @@ returns-in-Ok-false-clause-releases g c =
     let is = sym c.settle.ensures ∙ c.in-Ok-false.is ∙ ap (λ o. Ok o) c.in-Ok-false.field-0-test in (
       subst (λ (r : Result Bool Error). AnswersSeat Does old new r m n) is
           (answers_of Does c.apply-did.result.0 c.apply-did.result.1 old new m n h),
-      share_kept m n h (ap (λ (x : Locked). x.users) h.did.does.0),
+      share_kept m n h (ap (λ (x : Locked). x.users) h.did.does.0.0),
     )
 
 pub returns-in-Err-clause-only : goal.returns-in-Err-clause-only
@@ -53,7 +53,7 @@ returns-in-Err-clause-releases g c =
     let is = sym c.settle.ensures ∙ c.in-Err.is in (
       subst (λ (r : Result Bool Error). AnswersSeat Does old new r m n) is
           (answers_of Does c.apply-did.result.0 c.apply-did.result.1 old new m n h),
-      share_kept m n h (ap (λ (x : Locked). x.users) h.did.does.0),
+      share_kept m n h (ap (λ (x : Locked). x.users) h.did.does.0.0),
     )
 
 pub returns-clause-only : goal.returns-clause-only
@@ -82,5 +82,5 @@ returns-clause-releases g c =
         last = c.leave.result;
         leaves = c.leave.ensures.left;
       },
-      c.leave.ensures.left.share ∙ share_kept m mid h (ap (λ (x : Locked). x.users) h.did.does.0),
+      c.leave.ensures.left.share ∙ share_kept m mid h (ap (λ (x : Locked). x.users) h.did.does.0.0),
     )

@@ -1,4 +1,4 @@
-use Rattle.std.proofs.Common.{sym, subst, Ok, false, Bool}
+use Rattle.std.proofs.Common.{sym, subst, false, Bool}
 use Rattle.std.specs.Prelude.{Result}
 use Rattle.session_seats.proofs.GrowLaws.{grew_applied}
 use Rattle.session_seats.specs.Holds.{no_allowance}
@@ -19,7 +19,7 @@ returns g c =
     let old = c.args.seat.now.receipts.items in
     let new = c.apply-did.new.self.receipts.items in
     let h = c.apply-did.ensures.held in
-    let Does = OfLane (Submitting c.args.call) (Ok false) lane in
+    let Does = OfLane (Submitting c.args.call) false lane in
     let answers : AnswersSeat Does old new c.settle.result m n = subst
     (λ (r : Result Bool Error). AnswersSeat Does old new r m n) (sym c.settle.ensures)
     (answers_of Does c.apply-did.result.0 c.apply-did.result.1 old new m n h) in

@@ -1,0 +1,197 @@
+//! How a seat opens the session over both halves of the link, before other seats are given: it sends the hello, and takes VERSION.
+ghost use Rattle.std.specs.Prelude.{◌≡◌, ◌<◌, ◌≤◌, ◌-◌, ◌^◌, IfErr, IfOk, OnOk};
+ghost use Rattle.session_seats.specs.Holds.{Grew, claim_of};
+ghost use Rattle.sftp_tasks.specs.Opening.{GetsSomeVersion, Greets, GreetStops, HandingHello, HelloStops, SendsHelloOrNot, TakingVersion, VersionStops, by_opening};
+ghost use Rattle.sftp_tasks.specs.SessionEvents.{HasNoFault};
+
+use crate::events::Written;
+use crate::frames::Handed;
+use crate::locked::Locked;
+use crate::rounds::stop;
+use crate::shared_sftp::{Seat, SharedSftp, settle};
+use session_driver::Phase;
+use session_exchange::{read_frame, send_pieces};
+use session_seats::Event;
+use sftp_link::{LinkIn, LinkOut};
+use sftp_model::{Error, Fault};
+use sftp_wire::FrameReader;
+use std::sync::Wait;
+
+impl Locked {
+    /// The hello, where it was not handed out yet; None where it was, and nothing has changed then. It is counted as handed out. Errors
+    /// as of `step`.
+    pub fn hand_hello(&mut self) -> Result<Option<Handed>, Error>
+        ensures rest { self.new ≡ record self.old { session = self.new.session; counts = record self.old.counts { handed = self.new.counts.handed } } }
+        ensures hands { HandingHello self.old self.new result }
+        ensures no_fault { OnOk result (HasNoFault self.old.session) }
+    {
+        match self.session.phase() {
+            Phase::Fresh => self.hand_out(),
+            _ => match self.check() {
+                Ok(()) => Ok(None),
+                Err(e) => Err(e),
+            },
+        }
+    }
+
+    /// Takes the body of VERSION, and counts it. A frame that comes where no VERSION is awaited is `InvalidResponse`, and the session keeps
+    /// that; else it is refused as by `take`.
+    pub fn take_version(&mut self, body: &[u8]) -> Result<(), Error>
+        ensures rest { self.new ≡ record self.old { session = self.new.session; counts = record self.old.counts { taken = self.new.counts.taken } } }
+        ensures takes { TakingVersion body.now self.old self.new result }
+        ensures no_fault { OnOk result (HasNoFault self.old.session) }
+        ensures rises { self.old.counts.taken ≤ self.new.counts.taken }
+    {
+        match self.check() {
+            Ok(()) => {}
+            Err(e) => return Err(e),
+        }
+        match self.session.phase() {
+            Phase::Greeted => self.take(body),
+            _ => {
+                self.fail(Fault::Response { id: None });
+                Err(Error::InvalidResponse { id: None })
+            }
+        }
+    }
+}
+
+/// Hands the hello out, where it was not handed out yet.
+#[derive(Drop)]
+pub struct HandHello;
+
+impl Event<Locked, Result<Option<Handed>, Error>> for HandHello {
+    ghost use Rattle.session_seats.specs.Holds.{no_allowance};
+    ghost use Rattle.sftp_tasks.specs.Entries.{by_nothing};
+    ghost use Rattle.sftp_tasks.specs.LockedEvents.{UnlessFault};
+    ghost use Rattle.sftp_tasks.specs.Opening.{HandingHello};
+
+    ghost only = { λ _. by_nothing };
+
+    ghost needs = { λ _. no_allowance };
+
+    ghost does = { λ _ lane. UnlessFault HandingHello };
+
+    fn act(self, value: &mut Locked, lane: Option<u32>) -> Result<Option<Handed>, Error> {
+        let _ = lane;
+        value.hand_hello()
+    }
+}
+
+/// Takes a frame that was read whole, where VERSION is awaited.
+#[derive(Drop)]
+pub struct TakeVersion {
+    pub frame: FrameReader,
+}
+
+impl Event<Locked, Result<(), Error>> for TakeVersion {
+    ghost use Rattle.session_seats.specs.Holds.{no_allowance};
+    ghost use Rattle.sftp_tasks.specs.LockedEvents.{UnlessFault};
+    ghost use Rattle.sftp_tasks.specs.Opening.{TakingVersionFrame, by_opening};
+
+    ghost only = { λ _. by_opening };
+
+    ghost needs = { λ _. no_allowance };
+
+    ghost does = { λ e lane. UnlessFault (TakingVersionFrame e.frame) };
+
+    fn act(self, value: &mut Locked, lane: Option<u32>) -> Result<(), Error> {
+        let _ = lane;
+        match self.frame.frame() {
+            Some(body) => value.take_version(body),
+            None => Err(Error::OutOfMemory),
+        }
+    }
+}
+
+/// Sends the hello, where it was not handed out yet. False where it was, and nothing is sent then. Errors as of `flush_round`.
+fn send_hello<O: LinkOut, R: Wait>(
+    rt: &R,
+    shared: &SharedSftp,
+    seat: &mut Seat,
+    out: &mut O,
+) -> Result<bool, Error>
+    requires own { seat.old.inner.table_id ≡ shared.now.shared.table.shared.table_id }
+    requires count { (O.LinkState.state out.old).faults < 2 ^ 64 - 1 }
+    ensures own { (seat.new.inner.table_id ≡ seat.old.inner.table_id) × (seat.new.lane ≡ seat.old.lane)
+        × OnOk result ((claim_of seat.old.inner.me).share ≤ (claim_of seat.new.inner.me).share) }
+    ensures only { Grew (by_opening seat.old.lane) (claim_of seat.old.inner.me) (claim_of seat.new.inner.me) }
+    ensures sends { IfOk result (λ did. SendsHelloOrNot did seat.old.inner.me seat.new.inner.me (O.LinkState.state out.old) (O.LinkState.state out.new)) }
+    ensures stops { IfErr result (λ e. HelloStops e seat.old.inner.me seat.new.inner.me (O.LinkState.state out.old) (O.LinkState.state out.new)) }
+{
+    // The hello is no entry of the journal, so no receipt is wanting.
+    let (did, _) = seat.apply(rt, shared.alloc, &shared.shared, HandHello);
+    let Handed { chunk, frames } = match did {
+        Ok(Some(handed)) => handed,
+        Ok(None) => return Ok(false),
+        Err(e) => return Err(e),
+    };
+    match send_pieces(out, chunk.pieces()) {
+        Ok(()) => {}
+        Err(e) => {
+            stop(rt, shared, seat, &e);
+            return Err(e);
+        }
+    }
+    let _ = seat.apply(rt, shared.alloc, &shared.shared, Written { frames });
+    Ok(true)
+}
+
+/// Reads one frame outside of the lock, and takes it under it as VERSION. Errors as of `read_round`.
+fn take_version<I: LinkIn, R: Wait>(
+    rt: &R,
+    shared: &SharedSftp,
+    seat: &mut Seat,
+    input: &mut I,
+) -> Result<(), Error>
+    requires own { seat.old.inner.table_id ≡ shared.now.shared.table.shared.table_id }
+    requires count { (I.LinkState.state input.old).faults < 2 ^ 64 - 1 }
+    ensures own { (seat.new.inner.table_id ≡ seat.old.inner.table_id) × (seat.new.lane ≡ seat.old.lane)
+        × OnOk result ((claim_of seat.old.inner.me).share ≤ (claim_of seat.new.inner.me).share) }
+    ensures only { Grew (by_opening seat.old.lane) (claim_of seat.old.inner.me) (claim_of seat.new.inner.me) }
+    ensures gets { OnOk result (GetsSomeVersion seat.old.inner.me seat.new.inner.me (I.LinkState.state input.old) (I.LinkState.state input.new)) }
+    ensures stops { IfErr result (λ e. VersionStops e seat.old.inner.me seat.new.inner.me (I.LinkState.state input.old) (I.LinkState.state input.new)) }
+{
+    let frame = match read_frame(shared.alloc, input) {
+        Ok(frame) => frame,
+        Err(e) => {
+            stop(rt, shared, seat, &e);
+            return Err(e);
+        }
+    };
+    let (did, copied) = seat.apply(rt, shared.alloc, &shared.shared, TakeVersion { frame });
+    settle(did, copied)
+}
+
+impl SharedSftp {
+    /// Sends the hello over the one half of the link, and takes VERSION from the other, where nobody has handed the hello out; true exactly
+    /// where this call did both. False where it was handed out before, and nothing is sent or read then. With an error the session keeps
+    /// its fault, or is given up for want of memory, as after a round.
+    pub fn greet<O: LinkOut, I: LinkIn, R: Wait>(
+        &self,
+        rt: &R,
+        seat: &mut Seat,
+        out: &mut O,
+        input: &mut I,
+    ) -> Result<bool, Error>
+        requires own { seat.old.inner.table_id ≡ self.now.shared.table.shared.table_id }
+        requires counts { ((O.LinkState.state out.old).faults < 2 ^ 64 - 1) × ((I.LinkState.state input.old).faults < 2 ^ 64 - 1) }
+        ensures own { (seat.new.inner.table_id ≡ seat.old.inner.table_id) × (seat.new.lane ≡ seat.old.lane)
+            × OnOk result ((claim_of seat.old.inner.me).share ≤ (claim_of seat.new.inner.me).share) }
+        ensures only { Grew (by_opening seat.old.lane) (claim_of seat.old.inner.me) (claim_of seat.new.inner.me) }
+        ensures greets { IfOk result (λ did. Greets did seat.old.inner.me seat.new.inner.me
+            (O.LinkState.state out.old) (O.LinkState.state out.new) (I.LinkState.state input.old) (I.LinkState.state input.new)) }
+        ensures stops { IfErr result (λ e. GreetStops e seat.old.inner.me seat.new.inner.me
+            (O.LinkState.state out.old) (O.LinkState.state out.new) (I.LinkState.state input.old) (I.LinkState.state input.new)) }
+    {
+        match send_hello(rt, self, seat, out) {
+            Ok(true) => {}
+            Ok(false) => return Ok(false),
+            Err(e) => return Err(e),
+        }
+        match take_version(rt, self, seat, input) {
+            Ok(()) => Ok(true),
+            Err(e) => Err(e),
+        }
+    }
+}
