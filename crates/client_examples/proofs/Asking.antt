@@ -1,5 +1,5 @@
--- What calls that were asked for await, and what the answer to one leaves to the other.
-use Rattle.std.proofs.Common.{◌≡◌, ◌≢◌, ◌∙◌, List, ℕ, [], IsTrue, ap, refl, subst, sym, inl, inr}
+-- What calls that were asked for await, and what polls, rounds and cancels leave to the others.
+use Rattle.std.proofs.Common.{◌≡◌, ◌≢◌, ◌∙◌, List, ℕ, [], ◌∷◌, ◌++◌, IsTrue, true, ap, refl, subst, sym, inl, inr}
 use Rattle.std.specs.Prelude.{Option, None, Result, Ok}
 use Rattle.sftp_model.specs.declared.answers.Expected.{Expected}
 use Rattle.sftp_model.specs.declared.answers.Expected.TheVariants as expected
@@ -10,32 +10,32 @@ use Rattle.sftp_model.specs.declared.slot.Move.TheVariants.{Done}
 use Rattle.sftp_model.specs.declared.slot.Site.{Site}
 use Rattle.plan_model.specs.PathPlans.{stat_next}
 use Rattle.sftp_core.specs.Core.{Core, at, is_ticket}
-use Rattle.sftp_core.specs.declared.place.Place.{Place}
-use Rattle.sftp_link.specs.Views.{LinkView}
+use Rattle.sftp_core.specs.declared.id_record.IdRecord.{IdRecord}
+use Rattle.call_state.specs.declared.poll.Poll.TheVariants as poll
 use Rattle.call_state.specs.declared.stage.Stage.{Stage}
-use Rattle.call_state.specs.declared.stage.Stage.TheVariants.{Asked}
+use Rattle.call_state.specs.declared.stage.Stage.TheVariants.{Ended, Ready, Unsent, Asked, Came}
 use Rattle.call_state.specs.Asked.{HoldsTicket}
-use Rattle.call_state.specs.Calls.{CallValue, IsHeldAt, IsUnderWay, Started, is_ended}
+use Rattle.call_state.specs.Calls.{CallValue, CancelsAwaited, IsHeld, IsHeldAt, IsUnderWay, KeepsOtherTickets, Started, Stepped, is_ended}
 use Rattle.call_state.specs.Keeping.{KeepsHeld}
 use Rattle.sftp_file.specs.declared.telling.Telling.{Telling}
 use Rattle.sftp_file.specs.Files.{facts_of}
 use Rattle.sftp_file.specs.Tells.{telling}
 use Rattle.sftp_fs.specs.PathStarts.{StartsFrom}
 use Rattle.sftp_client.specs.Sessions.{SftpValue, with_core}
-use Rattle.sftp_client.specs.Waits.{HasFinished}
-use Rattle.client_examples.specs.Sizes.{AreAwaited, IsAsked, IsAwaiting}
+use Rattle.client_examples.specs.Sizes.{AreApart, AreAwaited, IsAsked, IsAwaiting}
 
 -- a call under way that awaits a ticket
-awaiting_by : (core : Core) (call : CallValue Telling) (ticket : ℕ) → IsUnderWay telling core call → call.stage ≡ Asked ticket
+awaiting_by : (core : Core) (call : CallValue Telling) (ticket : ℕ) → IsHeld telling core call → call.stage ≡ Asked ticket
     → IsAwaiting core call ticket
 awaiting_by core call ticket h is =
-    record { awaits = is; holds = subst (λ (s : Stage). IsHeldAt telling core call.runner s) is h.held }
+    record { awaits = is; holds = subst (λ (s : Stage). IsHeldAt telling core call.runner s) is h }
 
-pub under_way_of : (core : Core) (call : CallValue Telling) (ticket : ℕ) → IsAwaiting core call ticket → IsUnderWay telling core call
-under_way_of core call ticket h =
+pub under_way_of : (core : Core) (call : CallValue Telling) (later : List (CallValue Telling)) → AreAwaited core (call ∷ later)
+    → IsUnderWay telling core call
+under_way_of core call later h =
     record {
-      over = ap is_ended h.awaits;
-      held = subst (λ (s : Stage). IsHeldAt telling core call.runner s) (sym h.awaits) h.holds;
+      over = ap is_ended h.1.0.awaits;
+      held = subst (λ (s : Stage). IsHeldAt telling core call.runner s) (sym h.1.0.awaits) h.1.0.holds;
     }
 
 -- a lane in which nothing is open, and no reply that came
@@ -53,41 +53,114 @@ asked_by path old new call starts left = from (starts.starts nowhere (λ place. 
     from (inl asks) = record {
       starts = starts;
       ticket = asks.ticket;
-      awaiting = awaiting_by new.core call asks.ticket starts.under_way asks.awaits;
+      awaiting = awaiting_by new.core call asks.ticket starts.under_way.held asks.awaits;
       free = asks.submitted.free;
       left = left;
     }
     from (inr ready) = absurd (subst (λ (s : Stage). IsHeldAt telling new.core call.runner s) ready.1 starts.under_way.held)
 
+-- ---- the others
+
+pub awaited_kept : (old new : Core) (calls : List (CallValue Telling)) → KeepsHeld old new → AreAwaited old calls → AreAwaited new calls
+awaited_kept old new [] k h = tt
+awaited_kept old new (call ∷ later) k h = (
+  h.0,
+  (
+    record { awaits = h.1.0.awaits; holds = k.holds h.0 expected.Attrs h.1.0.holds },
+    (h.1.1.0, awaited_kept old new later k h.1.1.1),
+  ),
+)
+
 -- what is held is not free
 held_apart : (core : Core) (one two : ℕ) (kind : Expected) → HoldsTicket core one kind → at core two ≡ None → one ≢ two
 held_apart core one two kind h none same =
     let gone : at core one ≡ None = ap (λ (q : ℕ). at core q) same ∙ none in
-    let counted = subst (λ (p : Option Place). IsTrue (is_ticket p)) gone h.counted in cc
-
--- two that were asked for await tickets of their own
-pub both_awaited : {L : Type 0} (a b : List ℕ) (old one two : SftpValue L) (first second : CallValue Telling) → IsAsked a old one first
-    → IsAsked b one two second → KeepsHeld one.core two.core → AreAwaited two.core first second
-both_awaited a b old one two first second f s k =
-    record {
-      one = f.ticket;
-      two = s.ticket;
-      apart = held_apart one.core f.ticket s.ticket expected.Attrs f.awaiting.holds s.free;
-      of_first = record { awaits = f.awaiting.awaits; holds = k.holds f.ticket expected.Attrs f.awaiting.holds };
-      of_second = s.awaiting;
-    }
+    let counted = subst (λ (p : Option IdRecord). IsTrue (is_ticket p)) gone h.counted in cc
 
 number : Stage → ℕ
 number (Asked n) = n
 number other = 0
 
--- the answer to one leaves the other
-pub other_awaits : {L S : Type 0} (state : L → LinkView S) (old mid : SftpValue L) (first second : CallValue Telling)
-    (result : Result FileAttrs Error) → (both : AreAwaited old.core first second) → HasFinished telling state old mid first result
-    → IsAwaiting mid.core second both.two
+same_ticket : (stage : Stage) (one two : ℕ) → stage ≡ Asked one → stage ≡ Asked two → one ≡ two
 unfolding number
-other_awaits state old mid first second result both h =
+same_ticket stage one two first second = ap number (sym first ∙ second)
+
+apart_more : (core : Core) (call last : CallValue Telling) (one two : ℕ) (later : List (CallValue Telling)) → IsAwaiting core call one
+    → last.stage ≡ Asked two → at core two ≡ None → AreApart call.stage later → AreApart call.stage (later ++ last ∷ [])
+apart_more core call last one two [] here awaits free h = (
+  λ ticket is other. held_apart core one two expected.Attrs here.holds free
+      (same_ticket call.stage one ticket here.awaits is ∙ same_ticket last.stage ticket two other awaits),
+  tt,
+)
+apart_more core call last one two (next ∷ later) here awaits free h = (h.0, apart_more core call last one two later here awaits free h.1)
+
+-- a call that is asked for stands last
+pub awaited_more : {L : Type 0} (path : List ℕ) (old new : SftpValue L) (calls : List (CallValue Telling)) (last : CallValue Telling)
+    → AreAwaited old.core calls → KeepsHeld old.core new.core → IsAsked path old new last → AreAwaited new.core (calls ++ last ∷ [])
+awaited_more path old new [] last h k asked = (asked.ticket, (asked.awaiting, (tt, tt)))
+awaited_more path old new (call ∷ later) last h k asked = (
+  h.0,
+  (
+    record { awaits = h.1.0.awaits; holds = k.holds h.0 expected.Attrs h.1.0.holds },
+    (
+      apart_more old.core call last h.0 asked.ticket later h.1.0 asked.awaiting.awaits asked.free h.1.1.0,
+      awaited_more path old new later last h.1.1.1 k asked,
+    ),
+  ),
+)
+
+-- what another call's poll leaves
+others_stay : (old new : Core) (before after : Stage) (calls : List (CallValue Telling)) → KeepsOtherTickets old new before after
+    → AreApart before calls → AreAwaited old calls → AreApart after calls × AreAwaited new calls
+others_stay old new before after [] keeps apart h = (tt, tt)
+others_stay old new before after (call ∷ later) keeps apart h =
+    let both = keeps h.0 expected.Attrs (λ is. apart.0 h.0 is h.1.0.awaits) h.1.0.holds in
+    let rest = others_stay old new before after later keeps apart.1 h.1.1.1 in (
+      (
+        λ ticket is other. both.1 (is ∙ ap Asked (same_ticket call.stage ticket h.0 other h.1.0.awaits)),
+        rest.0,
+      ),
+      (h.0, (record { awaits = h.1.0.awaits; holds = both.0 }, (h.1.1.0, rest.1))),
+    )
+
+-- the oldest call has no answer yet
+pub awaited_still : (old new : Core) (call after : CallValue Telling) (later : List (CallValue Telling))
+    → AreAwaited old (call ∷ later) → Stepped telling old new call after poll.Pending → AreAwaited new (after ∷ later)
+awaited_still old new call after later h polls =
+    let rest = others_stay old new call.stage after.stage later polls.others h.1.1.0 h.1.1.1 in
+    (polls.awaits.0, (awaiting_by new after polls.awaits.0 polls.held polls.awaits.1.0, rest))
+
+apart_kept : (old new : Core) (stage : Stage) (calls : List (CallValue Telling)) → CancelsAwaited old new stage → AreApart stage calls
+    → AreAwaited old calls → AreAwaited new calls
+apart_kept old new stage [] cancels apart h = tt
+apart_kept old new stage (call ∷ later) cancels apart h = (
+  h.0,
+  (
     record {
-      awaits = both.of_second.awaits;
-      holds = h.others both.two expected.Attrs (λ same. both.apart (ap number (sym both.of_first.awaits ∙ same))) both.of_second.holds;
-    }
+      awaits = h.1.0.awaits;
+      holds = cancels.others h.0 expected.Attrs (λ is. apart.0 h.0 is h.1.0.awaits) h.1.0.holds;
+    },
+    (h.1.1.0, apart_kept old new stage later cancels apart.1 h.1.1.1),
+  ),
+)
+
+-- the oldest call was answered, and then it was given up
+pub awaited_after : (old mid new : Core) (call ended : CallValue Telling) (later : List (CallValue Telling)) (result : Result FileAttrs Error)
+    → AreAwaited old (call ∷ later) → Stepped telling old mid call ended (poll.Ready result) → CancelsAwaited mid new ended.stage
+    → AreAwaited new later
+awaited_after old mid new call ended later result h polls cancels =
+    let rest = others_stay old mid call.stage ended.stage later polls.others h.1.1.0 h.1.1.1 in
+    apart_kept mid new ended.stage later cancels rest.0 rest.1
+
+-- the oldest call is given up
+pub awaited_less : (old new : Core) (call : CallValue Telling) (later : List (CallValue Telling)) → AreAwaited old (call ∷ later)
+    → CancelsAwaited old new call.stage → AreAwaited new later
+awaited_less old new call later h cancels = apart_kept old new call.stage later cancels h.1.1.0 h.1.1.1
+
+-- a call that has answered leaves nothing to be given up
+pub nothing_left : (old new : Core) (stage : Stage) → is_ended stage ≡ true → CancelsAwaited old new stage → new ≡ old
+nothing_left old new Ended over cancels = cancels.core
+nothing_left old new Ready over cancels = absurd cc
+nothing_left old new (Unsent asking) over cancels = absurd cc
+nothing_left old new (Asked ticket) over cancels = absurd cc
+nothing_left old new (Came told) over cancels = absurd cc

@@ -1,12 +1,13 @@
 -- Worked states of the examples, and beside each what nearly is one.
-use Rattle.std.specs.Prelude.{◌≡◌, ◌∷◌, ◌++◌, ℕ, List, [], codes, flat_map, Some, refl}
+use Rattle.std.specs.Prelude.{◌≡◌, ◌∷◌, ℕ, List, [], codes, flat_map, Some, refl}
 use Rattle.sftp_model.specs.declared.reply.NameEntry.{NameEntry}
 use Rattle.sftp_model.specs.Frames.{no_attributes}
 use Rattle.sftp_link.specs.Views.{LinkView}
 use Rattle.sftp_file.specs.Files.{FileValue}
 use Rattle.sftp_client.specs.Sessions.{SftpValue}
 use Rattle.client_examples.specs.Files.{AreReads, IsRead}
-use Rattle.client_examples.specs.Tasks.{line_of}
+use Rattle.client_examples.specs.Tasks.{line_below, line_of}
+use Rattle.client_examples.specs.Trees.{dirs_in}
 
 abbrev entry : List ℕ → NameEntry
 entry name = record { filename = name; longname = []; attrs = no_attributes }
@@ -43,3 +44,36 @@ two_reads_row state old mid new before file after first second = (
     ),
   ),
 )
+
+-- ---- trees
+
+abbrev with_mode : List ℕ → ℕ → NameEntry
+with_mode name mode =
+    record { filename = name; longname = []; attrs = record no_attributes { permissions = Some mode } }
+
+-- a directory is listed next, by its path; a link, a file and what isn't told to be a directory are not
+pub dir_row : dirs_in (codes "a") (with_mode (codes "b") 0o040755) ≡ codes "a/b" ∷ []
+dir_row = refl
+
+pub link_row : dirs_in (codes "a") (with_mode (codes "b") 0o120777) ≡ []
+link_row = refl
+
+pub untold_row : dirs_in (codes "a") (entry (codes "b")) ≡ []
+untold_row = refl
+
+-- nor is the directory itself, or the one above
+pub self_row : dirs_in (codes "a") (with_mode (codes ".") 0o040755) ≡ []
+self_row = refl
+
+pub above_row : dirs_in (codes "a") (with_mode (codes "..") 0o040755) ≡ []
+above_row = refl
+
+-- one that is named almost so is
+pub dots_row : dirs_in (codes "a/") (with_mode (codes "...") 0o040755) ≡ codes "a/..." ∷ []
+dots_row = refl
+
+pub path_row : line_below (codes "a") (entry (codes "b")) ≡ codes "a/b\n"
+path_row = refl
+
+pub no_path_row : line_below (codes "a") (entry (codes "..")) ≡ []
+no_path_row = refl

@@ -1,5 +1,6 @@
 pub mod Files
 pub mod Directories
+pub mod Trees
 pub mod Tasks
 pub mod Sizes
 pub mod ExampleRows

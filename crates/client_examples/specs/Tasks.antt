@@ -1,12 +1,14 @@
 -- What an example does over a session, by its word.
-use Rattle.std.specs.Prelude.{◌≡◌, ℕ, List, [], ◌∷◌, ◌++◌, flat_map}
+use Rattle.std.specs.Prelude.{◌≡◌, ℕ, List, [], ◌∷◌, ◌++◌, flat_map, if◌then◌else◌}
 use Rattle.sftp_model.specs.declared.reply.NameEntry.{NameEntry}
 use Rattle.sftp_link.specs.Views.{LinkView}
 use Rattle.sftp_client.specs.Sessions.{SftpValue}
 use Rattle.client_examples.specs.declared.tasks.Task.{Task}
 use Rattle.client_examples.specs.declared.tasks.Task.TheVariants.{Put, Get, ListDir}
 use Rattle.client_examples.specs.Directories.{IsListOf}
+use Rattle.client_examples.specs.declared.trees.Listing.{Listing}
 use Rattle.client_examples.specs.Files.{IsGot, IsPut}
+use Rattle.client_examples.specs.Trees.{below, is_self}
 
 -- the name of an entry, and a line feed
 abbrev pub line_of : NameEntry → List ℕ
@@ -19,3 +21,11 @@ IsDone Put path content state old new printed = IsPut path content state old new
 IsDone Get path content state old new printed = IsGot path state old new printed
 IsDone ListDir path content state old new printed = (entries : List NameEntry) × (IsListOf path state old new entries
     × (printed ≡ flat_map line_of entries))
+
+-- the line of the path of an entry of a directory, unless it is the directory itself, or the one above
+abbrev pub line_below : List ℕ → NameEntry → List ℕ
+line_below path entry = if is_self entry then [] else below path entry ++ 10 ∷ []
+
+-- the lines of a directory that was listed
+abbrev pub lines_in : Listing → List ℕ
+lines_in listing = flat_map (line_below listing.path) listing.entries.items

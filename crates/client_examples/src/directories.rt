@@ -11,7 +11,8 @@ use std::alloc::Global;
 /// The entries of a directory, in the server's order. After an error the directory is closed, and what came is gone.
 pub fn list<L: Link>(alloc: Global, sftp: &mut Sftp<L>, path: &[u8]) -> Result<Vec<DirEntry>, Error>
     requires { IsUsable L.LinkState.state sftp.old }
-    ensures { IfOk result (λ entries. IsListOf path.now L.LinkState.state sftp.old sftp.new entries.items) }
+    ensures listed { IfOk result (λ entries. IsListOf path.now L.LinkState.state sftp.old sftp.new entries.items) }
+    ensures usable { OnOk result (IsUsable L.LinkState.state sftp.new) }
 {
     let mut listing = open(alloc, sftp, path)?.read_dir(alloc);
     match entries_of(alloc, sftp, &mut listing) {
@@ -75,6 +76,7 @@ fn close<L: Link>(sftp: &mut Sftp<L>, listing: ReadDir) -> Result<(), Error>
     requires usable { IsUsable L.LinkState.state sftp.old }
     requires listing { IsListing sftp.old.core listing }
     ensures closed { OnOk result (IsListingClosed listing L.LinkState.state sftp.old sftp.new) }
+    ensures usable { OnOk result (IsUsable L.LinkState.state sftp.new) }
 {
     let call = listing.start_close(sftp.core());
     sftp.finish(call)

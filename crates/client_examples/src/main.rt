@@ -1,5 +1,5 @@
-//! Programs over `sftp_client`, each proved: a file that is written or read whole, and a directory that is listed, one
-//! call after another.
+//! Programs over `sftp_client`, each proved: files that are written and read whole and directories that are listed, one
+//! call after another, and sizes of files, of which many are asked for at once.
 #![tactic(auto)]
 
 ghost use Rattle.std.specs.Prelude.{IfOk};
@@ -10,15 +10,17 @@ mod directories;
 mod files;
 mod sizes;
 mod tasks;
+mod trees;
 
 pub use directories::list;
 pub use files::{get, put};
-use sftp_client::{Sftp, SftpOptions};
+use sftp_client::{RemotePath, Sftp, SftpOptions};
 use sftp_link::{Dial, ReadSource, UnixDial, UnixLink, WriteSink, read_up_to, write_all};
 pub use sizes::sizes;
 use std::env;
 use std::process::ExitCode;
-pub use tasks::{Task, do_task};
+pub use tasks::{Task, do_task, tree_text};
+pub use trees::{Listing, MAX_DIRS, TreeError, tree};
 
 /// Why an example wasn't done by its session.
 const REFUSED: &str = "the server refused, or the session failed";
@@ -31,11 +33,14 @@ const USAGE: &str = "client_examples put|get|list SOCKET PATH\n\
     put: writes standard input to a file of the server that listens at SOCKET\n\
     get: prints a file\n\
     list: prints the names of a directory, a line each\n\
-    client_examples sizes SOCKET PATH PATH\n\
-    sizes: prints the sizes of two files, which are asked for at once\n";
+    client_examples tree SOCKET PATH\n\
+    tree: prints the paths of all that is below a directory, a line each\n\
+    client_examples sizes SOCKET PATH..\n\
+    sizes: prints the sizes of files, of which many are asked for at once\n";
 
 /// `client_examples put SOCKET PATH` writes standard input to a file, `get SOCKET PATH` prints one, `list SOCKET PATH`
-/// prints the names of a directory, and `sizes SOCKET PATH PATH` the sizes of two files.
+/// prints the names of a directory, `tree SOCKET PATH` the paths of all that is below it, and `sizes SOCKET PATH..` the
+/// sizes of files.
 fn main(rt: HostRuntime) -> ExitCode {
     match run(&rt) {
         Ok(()) => ExitCode::from(0),
@@ -59,22 +64,22 @@ fn run(rt: &HostRuntime) -> Result<(), &'static str> {
             .print(USAGE)
             .map_err(|_| "standard output can't be written");
     }
-    if let [word, socket, a, b] = words.as_slice() {
-        return match word.as_str() {
-            "sizes" => print_sizes(rt, socket, a.as_bytes(), b.as_bytes()),
-            _ => Err("only sizes takes two paths"),
-        };
+    let [word, socket, paths @ ..] = words.as_slice() else {
+        return Err("put, get, list, tree or sizes, the path of a socket, and a path are needed");
+    };
+    if word.as_str() == "sizes" {
+        return print_sizes(rt, socket, paths);
     }
-    let [word, socket, path] = words.as_slice() else {
-        return Err("put, get or list, the path of a socket, and a path are needed");
+    let [path] = paths else {
+        return Err("only sizes takes another number of paths than one");
     };
-    let task = match word.as_str() {
-        "put" => Task::Put,
-        "get" => Task::Get,
-        "list" => Task::ListDir,
-        _ => return Err("the first word is put, get or list"),
-    };
-    over(rt, socket, task, path.as_bytes())
+    match word.as_str() {
+        "put" => over(rt, socket, Task::Put, path.as_bytes()),
+        "get" => over(rt, socket, Task::Get, path.as_bytes()),
+        "list" => over(rt, socket, Task::ListDir, path.as_bytes()),
+        "tree" => print_tree(rt, socket, path.as_bytes()),
+        _ => Err("the first word is put, get, list, tree or sizes"),
+    }
 }
 
 /// Does it over the server that listens at a socket.
@@ -87,25 +92,24 @@ fn over(rt: &HostRuntime, socket: &str, task: Task, path: &[u8]) -> Result<(), &
     } else {
         Vec::new(alloc)
     };
-    let link = UnixDial::new(rt)
-        .dial(socket)
-        .map_err(|_| "nothing answers at the socket")?;
-    let mut sftp = Sftp::new(alloc, link, &SftpOptions::new()).map_err(
-        |_| "the session didn't open",
-    )?;
-    let printed = do_task(alloc, &mut sftp, task, path, &content).map_err(
-        |_| "the server refused, or the session failed",
-    )?;
+    let mut sftp = session(rt, socket)?;
+    let printed = do_task(alloc, &mut sftp, task, path, &content).map_err(|_| REFUSED)?;
     write_all(&mut WriteSink::new(rt.stdout()), &printed).map_err(
         |_| "standard output can't be written",
     )
 }
 
-/// Prints the sizes of two files of the server that listens at a socket.
-fn print_sizes(rt: &HostRuntime, socket: &str, a: &[u8], b: &[u8]) -> Result<(), &'static str> {
+/// Prints the sizes of files of the server that listens at a socket, a line each.
+fn print_sizes(rt: &HostRuntime, socket: &str, words: &[String]) -> Result<(), &'static str> {
+    let mut paths = Vec::new(rt.alloc());
+    for word in words {
+        paths
+            .push(remote(rt, word.as_bytes())?)
+            .map_err(|_| "no memory")?;
+    }
     let mut sftp = session(rt, socket)?;
-    let (x, y) = sizes(rt.alloc(), &mut sftp, a, b).map_err(|_| REFUSED)?;
-    for size in [x, y] {
+    let told = sizes(rt.alloc(), &mut sftp, &paths).map_err(|_| REFUSED)?;
+    for size in told {
         match size {
             Some(n) => println!(rt; "{n}"),
             None => println!(rt; "unknown"),
@@ -113,6 +117,29 @@ fn print_sizes(rt: &HostRuntime, socket: &str, a: &[u8], b: &[u8]) -> Result<(),
         .map_err(|_| "standard output can't be written")?;
     }
     Ok(())
+}
+
+/// Prints the paths of all that is below a directory of the server that listens at a socket, a line each.
+fn print_tree(rt: &HostRuntime, socket: &str, path: &[u8]) -> Result<(), &'static str> {
+    let alloc = rt.alloc();
+    let path = remote(rt, path)?;
+    let mut sftp = session(rt, socket)?;
+    let listed = tree(alloc, &mut sftp, path).map_err(|e| match e {
+        TreeError::TooManyDirs => "it has 65536 directories or more",
+        TreeError::Failed(_) => REFUSED,
+    })?;
+    let text = tree_text(alloc, &listed).map_err(|_| "no memory")?;
+    write_all(&mut WriteSink::new(rt.stdout()), &text).map_err(
+        |_| "standard output can't be written",
+    )
+}
+
+/// The path of these bytes.
+fn remote(rt: &HostRuntime, path: &[u8]) -> Result<RemotePath, &'static str> {
+    match Vec::from_slice(rt.alloc(), path) {
+        Ok(bytes) => Ok(RemotePath::new(bytes)),
+        Err(_) => Err("no memory"),
+    }
 }
 
 /// A session with the server that listens at a socket.

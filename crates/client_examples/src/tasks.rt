@@ -1,11 +1,12 @@
 //! The examples by their words.
 ghost use Rattle.std.specs.Prelude.{◌≡◌, ◌++◌, IfOk, OnOk, flat_map};
 ghost use Rattle.client_examples.specs.Files.{IsUsable};
-ghost use Rattle.client_examples.specs.Tasks.{IsDone, line_of};
+ghost use Rattle.client_examples.specs.Tasks.{IsDone, line_below, line_of, lines_in};
 
 use crate::directories::list;
 use crate::files::{append, get, put};
-use sftp_client::{DirEntry, Error, Link, Sftp};
+use crate::trees::{Listing, below, is_self};
+use sftp_client::{DirEntry, Error, Link, RemotePath, Sftp};
 use std::alloc::Global;
 
 /// What an example does.
@@ -59,5 +60,47 @@ fn append_line(text: &mut Vec<u8>, entry: &DirEntry) -> Result<(), Error>
     ensures { OnOk result (text.new.items ≡ text.old.items ++ line_of entry.now) }
 {
     append(text, entry.filename().as_bytes())?;
+    append(text, b"\n")
+}
+
+/// The paths of all that was found in the directories of a tree, a line each; `.` and `..` are left out.
+pub fn tree_text(alloc: Global, tree: &[Listing]) -> Result<Vec<u8>, Error>
+    ensures { IfOk result (λ text. text.items ≡ flat_map lines_in tree.now) }
+{
+    let mut text = Vec::new(alloc);
+    for listing in tree {
+        append_paths(alloc, &mut text, &listing.path, &listing.entries)?;
+    }
+    Ok(text)
+}
+
+/// Puts the lines of a directory behind others.
+fn append_paths(
+    alloc: Global,
+    text: &mut Vec<u8>,
+    path: &RemotePath,
+    entries: &[DirEntry],
+) -> Result<(), Error>
+    ensures { OnOk result (text.new.items ≡ text.old.items ++ flat_map (line_below path.now) entries.now) }
+{
+    for entry in entries {
+        append_path(alloc, text, path, entry)?;
+    }
+    Ok(())
+}
+
+/// Puts the line of an entry of a directory behind others, unless it is the directory itself, or the one above.
+fn append_path(
+    alloc: Global,
+    text: &mut Vec<u8>,
+    path: &RemotePath,
+    entry: &DirEntry,
+) -> Result<(), Error>
+    ensures { OnOk result (text.new.items ≡ text.old.items ++ line_below path.now entry.now) }
+{
+    if is_self(entry) {
+        return Ok(());
+    }
+    append(text, below(alloc, path, entry)?.as_bytes())?;
     append(text, b"\n")
 }

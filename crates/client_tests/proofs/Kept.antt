@@ -2,8 +2,8 @@
 use Rattle.std.proofs.Common.{◌≡◌, ◌∙◌, ◌+◌, ◌<◌, true, false, arith, ap, subst, sym, Option, None, Some, Result, Ok, Err, IfOk, IfErr, OnOk, IsSome}
 use Rattle.sftp_core.specs.Core.{Core, IsGrant, at, failed_with, handed_out, released, retained, users_of}
 use Rattle.sftp_core.specs.Grant.{GrantValue}
-use Rattle.sftp_core.specs.declared.place.Place.{Place}
-use Rattle.sftp_core.specs.declared.place.Place.TheVariants.{Granted}
+use Rattle.sftp_core.specs.declared.id_record.IdRecord.{IdRecord}
+use Rattle.sftp_core.specs.declared.id_record.IdRecord.TheVariants.{Granted}
 use Rattle.sftp_core.specs.Info.{info_of}
 use Rattle.sftp_core.specs.Take.{IsTakeError, Read, TakenFrom, take_refusal}
 use Rattle.sftp_core.specs.declared.errors.TakeError.{TakeError}
@@ -20,6 +20,9 @@ use Rattle.sftp_file.specs.Gathers.{ReadAllValue, ReadsAll, reading_all}
 use Rattle.sftp_file.specs.declared.gathering.ReadAllError.{ReadAllError}
 use Rattle.sftp_file.proofs.GatherLaws.{reads_held}
 use Rattle.sftp_file.specs.Writes.{WriteAllValue, writing_all}
+use Rattle.sftp_fs.specs.WholeWrites.{IsWriteHeld}
+use Rattle.sftp_fs.specs.declared.fs_write.Writing.{Writing}
+use Rattle.sftp_fs.proofs.WriteOpens.{write_still}
 use Rattle.sftp_whole.specs.WholeReads.{IsReadHeld}
 use Rattle.sftp_whole.specs.declared.fs_read.Whole.{Whole}
 use Rattle.sftp_whole.proofs.FsReadLaws.{read_still}
@@ -39,7 +42,7 @@ came old new read (Err e) opened ok only refused = keeps_refused old new e (take
 pub shared_kept : (a b c d : Core) (dir other : GrantValue) → at a dir.id ≡ Some (Granted dir.handle 1) → b ≡ retained a dir
     → other ≡ dir → c ≡ released b other → KeepsGrants c d → IsGrant d dir
 shared_kept a b c d dir other here more same less k =
-    let one : users_of (at a dir.id) ≡ 1 = ap (λ (p : Option Place). users_of p) here in
+    let one : users_of (at a dir.id) ≡ 1 = ap (λ (p : Option IdRecord). users_of p) here in
     let two : users_of (at (retained a dir) dir.id) ≡ users_of (at a dir.id) + 1 = retained_users a dir in
     let many : 1 < users_of (at (retained a dir) dir.id) = omega (arith, one, two) in
     let left : c ≡ released (retained a dir) dir = less ∙ (λ i. released (more i) (same i)) in
@@ -49,6 +52,9 @@ shared_kept a b c d dir other here more same less k =
 
 pub read_stays : (old new : Core) (p : Whole) → KeepsHeld old new → IsReadHeld old p → IsReadHeld new p
 read_stays old new p k h = read_still old new p k h
+
+pub write_stays : (old new : Core) (p : Writing) → KeepsHeld old new → IsWriteHeld old p → IsWriteHeld new p
+write_stays old new p k h = write_still old new p k h
 
 pub bytes_stay : (old new : Core) (call : CallValue ReadAllValue) → KeepsHeld old new → is_ended call.stage ≡ false
     → IsHeld reading_all old call → IsHeld reading_all new call

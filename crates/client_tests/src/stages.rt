@@ -3,7 +3,7 @@
 ghost use Rattle.std.specs.Prelude.{◌≡◌, false, IfOk, IfSome, IsSome, Some};
 ghost use Rattle.sftp_core.specs.Core.{at};
 ghost use Rattle.sftp_core.specs.Info.{info_of};
-ghost use Rattle.sftp_core.specs.declared.place.Place.TheVariants.{Granted};
+ghost use Rattle.sftp_core.specs.declared.id_record.IdRecord.TheVariants.{Granted};
 ghost use Rattle.call_state.specs.Asked.{IsReady};
 ghost use Rattle.call_state.specs.Calls.{HoldsReady, IsUnderWay};
 ghost use Rattle.call_state.specs.Keeping.{KeepsHeld};

@@ -21,6 +21,7 @@ use sftp_core::Core;
 use sftp_file::{File, OnFile, Poll, PollFile, StatusCall};
 use sftp_meta::{MetaDataBuilder, Permissions};
 use sftp_model::{Error, Fault, FormatKind};
+use std::alloc::Global;
 use std::process::Abort;
 use std::test::Fail;
 
@@ -143,14 +144,19 @@ fn first_unmet(core: &mut Core, file: &mut File, rows: &[Row]) -> usize {
     met
 }
 
-#[test]
-fn reads_and_writes(rt: HostRuntime) -> Result<(), Fail> {
-    let alloc = rt.alloc();
+/// The number of the first row that is not met in a session of its own, or of them all.
+fn first_unmet_of(alloc: Global, rows: &[Row]) -> Result<usize, Fail> {
     let mut core = greeted(alloc, OFFERS_FSYNC)?;
     let mut file = opened(alloc, &mut core)?;
-    let met = first_unmet(&mut core, &mut file, &ROWS);
+    let met = first_unmet(&mut core, &mut file, rows);
     file.let_go(core.end());
-    assert_eq!(rt; met, ROWS.len());
+    Ok(met)
+}
+
+#[test]
+fn reads_and_writes(rt: HostRuntime) -> Result<(), Fail> {
+    assert_eq!(rt; first_unmet_of(rt.alloc(), &ROWS)?, ROWS.len());
+    assert_eq!(rt; first_unmet_of(rt.alloc(), &UNANSWERED)?, UNANSWERED.len());
     Ok(())
 }
 
@@ -219,6 +225,46 @@ const SETTINGS: [(u8, &[u8]); 4] = [
         3,
         b"\0\0\0\x1f\xc8\0\0\0\x01\0\0\0\x11fsync@openssh.com\0\0\0\x01h",
     ),
+];
+
+/// Writes that have no status, and calls behind the fault.
+const UNANSWERED: [Row; 5] = [
+    Row {
+        call: Transfer::Write(b"xy"),
+        sends: b"\0\0\0\x18\x06\0\0\0\x01\0\0\0\x01h\0\0\0\0\0\0\0\0\0\0\0\x02xy",
+        reply: b"",
+        gives: Seen::Pending,
+        stands: 0,
+    },
+    Row {
+        call: Transfer::Vectored(b"x", b"y"),
+        sends: b"\0\0\0\x18\x06\0\0\0\x02\0\0\0\x01h\0\0\0\0\0\0\0\0\0\0\0\x02xy",
+        reply: BROKEN,
+        gives: Seen::Failed(Fault::Format(FormatKind::Length)),
+        stands: 0,
+    },
+    Row {
+        call: Transfer::ZeroCopy(b"x", b"y"),
+        sends: b"",
+        reply: b"",
+        gives: Seen::Failed(Fault::Format(FormatKind::Length)),
+        stands: 0,
+    },
+    Row {
+        call: Transfer::Read(1),
+        sends: b"",
+        reply: b"",
+        gives: Seen::Failed(Fault::Format(FormatKind::Length)),
+        stands: 0,
+    },
+    // no bytes ask for nothing, whatever is kept
+    Row {
+        call: Transfer::Read(0),
+        sends: b"",
+        reply: b"",
+        gives: Seen::Given,
+        stands: 0,
+    },
 ];
 
 const ROWS: [Row; 9] = [

@@ -2,7 +2,7 @@
 ghost use Rattle.std.specs.Prelude.{◌≡◌, Some};
 ghost use Rattle.call_state.specs.Calls.{IsUnderWay};
 ghost use Rattle.sftp_core.specs.Core.{at};
-ghost use Rattle.sftp_core.specs.declared.place.Place.TheVariants.{Granted};
+ghost use Rattle.sftp_core.specs.declared.id_record.IdRecord.TheVariants.{Granted};
 ghost use Rattle.sftp_file.specs.Settles.{settling};
 ghost use Rattle.call_state.specs.Keeping.{KeepsGrants};
 ghost use Rattle.sftp_fs.specs.Listings.{IsListing, MayList};
@@ -152,6 +152,68 @@ pub(crate) fn unasked(core: &mut Core, call: CloseCall) -> (Seen, u32)
     call.cancel(core);
     (told, core.queued())
 }
+
+/// How far a listing is when it is closed.
+#[derive(Clone, Copy)]
+enum Closes {
+    /// Its READDIR is under way.
+    Asked,
+    /// Two entries came.
+    Came,
+    /// Of two entries one was given.
+    Given,
+}
+
+/// Lists as far as this.
+fn list_until(rt: &impl Abort, core: &mut Core, listing: &mut ReadDir, closes: Closes)
+    requires { IsListing core.old listing.old }
+    ensures { IsListing core.new listing.new }
+{
+    if matches!(closes, Closes::Asked) {
+        assert_eq!(rt; poll_entry(rt, core, listing), Next::Pending);
+        return;
+    }
+    ask(rt, core, listing, NAMES);
+    if matches!(closes, Closes::Given) {
+        assert_eq!(rt; poll_entry(rt, core, listing), Next::Entry(b'y', true));
+    }
+}
+
+/// What the close of a listing that is so far sends and gives, and how many requests are unanswered then.
+fn closed_at(
+    rt: &impl Abort,
+    alloc: Global,
+    closes: Closes,
+    frames: &[u8],
+) -> Result<(Seen, u32), Fail> {
+    let mut core = greeted(alloc, PLAIN)?;
+    let fs = from_x(alloc)?;
+    let mut listing = open(rt, alloc, &mut core, &fs).read_dir(alloc);
+    list_until(rt, &mut core, &mut listing, closes);
+    let call = listing.start_close(&mut core);
+    let told = poll_seen(&answer(rt, &mut core, call, frames, DONE));
+    Ok((told, core.kept()))
+}
+
+/// A READDIR that is under way is sent, and its reply is dropped.
+#[test]
+fn a_listing_is_closed_early(rt: HostRuntime) -> Result<(), Fail> {
+    for (closes, frames, kept) in EARLY {
+        let told = closed_at(&rt, rt.alloc(), closes, frames)?;
+        assert_eq!(rt; told, (Seen::Given, kept));
+    }
+    Ok(())
+}
+
+const EARLY: [(Closes, &[u8], u32); 3] = [
+    (
+        Closes::Asked,
+        b"\0\0\0\x0a\x0c\0\0\0\x01\0\0\0\x01h\0\0\0\x0a\x04\0\0\0\0\0\0\0\x01h",
+        1,
+    ),
+    (Closes::Came, CLOSE, 0),
+    (Closes::Given, CLOSE, 0),
+];
 
 /// A listing behind a fault, and an entry that is renamed here.
 #[test]

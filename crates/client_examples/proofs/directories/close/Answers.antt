@@ -8,15 +8,13 @@ use Rattle.sftp_client.specs.Waits.{HasFinished}
 use Rattle.client_examples.proofs.Answered.{where_done}
 use Rattle.client_examples.proofs.directories.close.Goals as goal
 
-pub returns : goal.returns
-returns g c =
-    record {
-      closed = where_done c.finish.result (λ done is. record {
-        core = c.start_close-call.new.core;
-        call = c.start_close-call.result;
-        starts = subst (λ (k : Core). ClosesDir c.args.listing.grant (given_up k c.args.listing.asked) c.start_close-call.new.core c.start_close-call.result)
-            c.core.ensures.value c.start_close-call.ensures;
-        runs = subst (λ r. HasFinished settling g.L.LinkState.state (with_core c.args.sftp.now c.start_close-call.new.core) c.finish.new.self
-            c.start_close-call.result r) is c.finish.ensures;
-      });
-    }
+pub returns-clause-closed : goal.returns-clause-closed
+returns-clause-closed g c =
+    where_done c.finish.result (λ done is. record {
+      core = c.start_close-call.new.core;
+      call = c.start_close-call.result;
+      starts = subst (λ (k : Core). ClosesDir c.args.listing.grant (given_up k c.args.listing.asked) c.start_close-call.new.core c.start_close-call.result)
+          c.core.ensures.value c.start_close-call.ensures;
+      runs = subst (λ r. HasFinished settling g.L.LinkState.state (with_core c.args.sftp.now c.start_close-call.new.core) c.finish.new.self
+          c.start_close-call.result r) is c.finish.ensures;
+    })

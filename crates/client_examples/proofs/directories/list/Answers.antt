@@ -2,8 +2,8 @@ use Rattle.std.proofs.Common.{subst}
 use Rattle.client_examples.specs.Directories.{IsListedToEnd}
 use Rattle.client_examples.proofs.directories.list.Goals as goal
 
-pub returns-in_ok-close-in-Ok : goal.returns-in_ok-close-in-Ok
-returns-in_ok-close-in-Ok g c =
+pub returns-in_ok-close-in-Ok-clause-listed : goal.returns-in_ok-close-in-Ok-clause-listed
+returns-in_ok-close-in-Ok-clause-listed g c =
     record {
       opened = c.open.new.sftp;
       listed = c.entries_of.new.sftp;

@@ -1,4 +1,4 @@
-use Rattle.std.proofs.Common.{[], refl, subst}
+use Rattle.std.proofs.Common.{List, ℕ, [], refl, subst}
 use Rattle.plan_model.specs.PathPlans.{stat_next}
 use Rattle.sftp_core.specs.Core.{Core}
 use Rattle.sftp_file.specs.Tells.{telling}
@@ -11,7 +11,9 @@ use Rattle.client_examples.proofs.sizes.ask.Goals as goal
 pub returns-clause-asked : goal.returns-clause-asked
 returns-clause-asked g c =
     where_value c.start_metadata-2.result (λ call is.
-    let starts = subst (λ (k : Core). StartsFrom telling (stat_next c.args.path.now) [] k c.start_metadata-2.new.core c.start_metadata-2.result)
+    let starts = subst (λ (k : Core). StartsFrom telling (stat_next c.as_bytes.result.now) [] k c.start_metadata-2.new.core c.start_metadata-2.result)
     c.core.ensures.value (rw (c.fs.ensures) at c.start_metadata-2.ensures) in
+    let named = subst (λ (p : List ℕ). StartsFrom telling (stat_next p) [] c.args.sftp.now.core c.start_metadata-2.new.core c.start_metadata-2.result)
+    c.as_bytes.ensures starts in
     asked_by c.args.path.now c.args.sftp.now (with_core c.args.sftp.now c.start_metadata-2.new.core) call
-    (subst (λ r. StartsFrom telling (stat_next c.args.path.now) [] c.args.sftp.now.core c.start_metadata-2.new.core r) is starts) refl)
+    (subst (λ r. StartsFrom telling (stat_next c.args.path.now) [] c.args.sftp.now.core c.start_metadata-2.new.core r) is named) refl)

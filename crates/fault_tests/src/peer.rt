@@ -1,0 +1,116 @@
+// A peer that says what it is told to, whatever it is asked.
+ghost use Rattle.std.specs.Prelude.{◌≡◌, false, true};
+
+use sftp_link::{DeviceError, Link, LinkIn, LinkOut, LinkState};
+use sftp_model::{Error, Fault};
+
+/// No call fails.
+pub(crate) const NEVER: u32 = 1000;
+
+/// A peer of whose calls the one with this number fails, and no other. It tells nothing of what it moves.
+#[derive(Drop)]
+pub(crate) struct Peer {
+    says: Vec<u8>,
+    at: usize,
+    fails: u32,
+    calls: u32,
+    failed: bool,
+    ended: bool,
+}
+
+impl Peer {
+    /// A peer that says these bytes.
+    pub(crate) fn new(says: Vec<u8>, fails: u32) -> Peer {
+        Peer {
+            says,
+            at: 0,
+            fails,
+            calls: 0,
+            failed: false,
+            ended: false,
+        }
+    }
+
+    /// Counts a call: whether it fails.
+    fn count(&mut self) -> bool
+        ensures fails { result ≡ true → (self.old.failed ≡ false) × (self.new.failed ≡ true) }
+        ensures goes { result ≡ false → self.new.failed ≡ self.old.failed }
+        ensures ended { self.new.ended ≡ false }
+    {
+        let fails = self.calls == self.fails && !self.failed;
+        self.calls = self.calls.saturating_add(1);
+        self.ended = false;
+        if fails {
+            self.failed = true;
+        }
+        fails
+    }
+}
+
+impl LinkState for Peer {
+    ghost use Rattle.std.specs.Prelude.{None, if◌then◌else◌};
+
+    ghost Service = { Unit {0} };
+
+    ghost state = { λ p. record { log = None; faults = if p.failed then 1 else 0; ended = p.ended; service = tt } };
+}
+
+impl LinkOut for Peer {
+    fn send(&mut self, bytes: &[u8]) -> Result<usize, DeviceError> {
+        if self.count() {
+            return Err(DeviceError::Failed);
+        }
+        Ok(bytes.len())
+    }
+}
+
+impl LinkIn for Peer {
+    fn recv(&mut self, room: &mut [u8]) -> Result<usize, DeviceError> {
+        if self.count() {
+            return Err(DeviceError::Failed);
+        }
+        let rest = self.says.get(self.at..).unwrap_or(&[]);
+        let n = room.len().min(rest.len());
+        room[..n].copy_from_slice(&rest[..n]);
+        self.at = self.at.saturating_add(n);
+        self.ended = n == 0;
+        Ok(n)
+    }
+}
+
+impl Link for Peer {}
+
+/// What a call answered.
+#[derive(Clone, Copy, Debug, PartialEq, Eq)]
+pub(crate) enum Seen {
+    Done,
+    /// The error of the call that met this fault.
+    Met(Fault),
+    /// This fault was met before.
+    Kept(Fault),
+    Other,
+}
+
+pub(crate) fn error_seen(e: &Error) -> Seen {
+    match e {
+        Error::LinkFault => Seen::Met(Fault::Link),
+        Error::LinkEnded => Seen::Met(Fault::Ended),
+        Error::UnsupportedSftpProtocol { version } => Seen::Met(Fault::Protocol {
+            version: *version,
+        }),
+        Error::FormatError(kind) => Seen::Met(Fault::Format(*kind)),
+        Error::HandleTooLong { len } => Seen::Met(Fault::HandleTooLong { len: *len }),
+        Error::InvalidResponseId { id } => Seen::Met(Fault::ResponseId { id: *id }),
+        Error::InvalidResponse { id } => Seen::Met(Fault::Response { id: *id }),
+        Error::SftpError { code, .. } => Seen::Met(Fault::Limits { code: *code }),
+        Error::BackgroundTaskFailure(fault) => Seen::Kept(*fault),
+        _ => Seen::Other,
+    }
+}
+
+pub(crate) fn answer_seen<T>(answer: &Result<T, Error>) -> Seen {
+    match answer {
+        Ok(_) => Seen::Done,
+        Err(e) => error_seen(e),
+    }
+}

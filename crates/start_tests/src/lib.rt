@@ -1,0 +1,15 @@
+//! Tests of starts by their public calls: what is refused before a request is queued, and calls that are made of tickets.
+#![tactic(auto)]
+
+#[cfg(test)]
+mod buffered;
+#[cfg(test)]
+mod copies;
+#[cfg(test)]
+mod files;
+#[cfg(test)]
+mod paths;
+#[cfg(test)]
+mod scene;
+#[cfg(test)]
+mod tickets;
