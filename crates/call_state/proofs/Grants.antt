@@ -6,8 +6,8 @@ use Rattle.sftp_model.specs.declared.reply.Reply.{Reply}
 use Rattle.sftp_model.specs.declared.reply.Reply.TheVariants as reply
 use Rattle.sftp_core.specs.Core.{Core, at, reply_in}
 use Rattle.sftp_core.specs.Grant.{GrantValue}
-use Rattle.sftp_core.specs.declared.place.Place.{Place}
-use Rattle.sftp_core.specs.declared.place.Place.TheVariants.{Waiting, Answered, Granted}
+use Rattle.sftp_core.specs.declared.id_record.IdRecord.{IdRecord}
+use Rattle.sftp_core.specs.declared.id_record.IdRecord.TheVariants.{Waiting, Answered, Granted}
 use Rattle.call_state.specs.Calls.{
   CallValue,
   CountsGrant,
@@ -119,7 +119,7 @@ asked_number ticket (Some (reply.Extended content)) g brings = absurd cc
 pub brought_number : (core : Core) (ticket : ℕ) (g : GrantValue) → grant_brought core (Asked ticket) ≡ Some g → g.id ≡ ticket
 brought_number core ticket g brings = asked_number ticket (reply_in (at core ticket)) g brings
 
-no_place : (p : Option Place) (handle : List ℕ) (users : ℕ) → p ≡ Some (Granted handle users) → reply_in p ≡ None
+no_place : (p : Option IdRecord) (handle : List ℕ) (users : ℕ) → p ≡ Some (Granted handle users) → reply_in p ≡ None
 no_place None handle users e = refl
 no_place (Some (Waiting expected sent wanted)) handle users e = refl
 no_place (Some (Answered expected r)) handle users e = absurd cc

@@ -34,8 +34,8 @@ use Rattle.sftp_model.specs.declared.reply.Reply.{Reply}
 use Rattle.sftp_core.specs.declared.errors.TakeError.{TakeError}
 use Rattle.sftp_core.specs.declared.handshake.Handshake.{Handshake}
 use Rattle.sftp_core.specs.declared.handshake.Handshake.TheVariants.{Greeting, Asking as AskingLimits, Open}
-use Rattle.sftp_core.specs.declared.place.Place.{Place}
-use Rattle.sftp_core.specs.declared.place.Place.TheVariants.{Waiting, Answered, Granted}
+use Rattle.sftp_core.specs.declared.id_record.IdRecord.{IdRecord}
+use Rattle.sftp_core.specs.declared.id_record.IdRecord.TheVariants.{Waiting, Answered, Granted}
 use Rattle.sftp_core.specs.declared.tokens.Taken.{Taken}
 use Rattle.sftp_core.specs.Core.{
   Core,
@@ -55,7 +55,7 @@ use Rattle.sftp_core.specs.Core.{
 }
 use Rattle.sftp_core.specs.Grant.{GrantValue}
 use Rattle.sftp_core.specs.Info.{info_of}
-use Rattle.sftp_core.specs.Table.{expected_at, sent_place}
+use Rattle.sftp_core.specs.Table.{expected_at, sent_record}
 use Rattle.sftp_core.specs.Take.{Read, Refused, IsTakeError, TakenFrom, fault_of, take_leaves, take_refusal, taken_in, wrong_at, wrong_in}
 use Rattle.sftp_core.proofs.Elsewhere.{
   abandon_elsewhere,
@@ -110,7 +110,7 @@ cancelled_opened core Ready = λ h. h
 cancelled_opened core (Unsent asking) = λ h. h
 
 -- what is kept under an id tells whether a ticket is held
-pub holds_at : (core : Core) (ticket : ℕ) (kind : Expected) (p : Option Place) → at core ticket ≡ p
+pub holds_at : (core : Core) (ticket : ℕ) (kind : Expected) (p : Option IdRecord) → at core ticket ≡ p
     → IsTrue (is_ticket p) → expected_at p ≡ Some kind → HoldsTicket core ticket kind
 holds_at core ticket kind p here counted is = record { counted = rw here counted; expects = rw here is }
 
@@ -138,7 +138,7 @@ submitted_holds old new asking ticket kind h is =
 -- and that no reply to it was taken
 pub submitted_missing : (old new : Core) (asking : Asking) (ticket : ℕ) → Submitted old asking ticket new → reply_in (at new ticket) ≡ None
 submitted_missing old new asking ticket h =
-    ap (λ (c : Core). reply_in (at c ticket)) h.queued ∙ ap (λ (p : Option Place). reply_in p) (queued_here old ticket asking)
+    ap (λ (c : Core). reply_in (at c ticket)) h.queued ∙ ap (λ (p : Option IdRecord). reply_in p) (queued_here old ticket asking)
 
 queued_elsewhere : (core : Core) (ticket : ℕ) (asking : Asking) (q : ℕ) → q ≢ ticket
     → at (queued_by core ticket asking) q ≡ at core q
@@ -146,14 +146,14 @@ queued_elsewhere core ticket (Whole asked) q h = put_elsewhere core.table ticket
 queued_elsewhere core ticket (Parts handle offset parts) q h = put_elsewhere core.table ticket _ q h
 
 -- under a free id it changes no place that is there
-other_place : (core : Core) (ticket : ℕ) (asking : Asking) (other : ℕ) (here : Place) → at core ticket ≡ None
+other_place : (core : Core) (ticket : ℕ) (asking : Asking) (other : ℕ) (here : IdRecord) → at core ticket ≡ None
     → at core other ≡ Some here → at (queued_by core ticket asking) other ≡ Some here
 other_place core ticket asking other here free there =
     queued_elsewhere core ticket asking other (λ same. let clash : Some here ≡ None = sym there ∙ ap (at core) same ∙ free in cc)
     ∙ there
 
-held_place : (core new : Core) (ticket : ℕ) (kind : Expected) (p : Option Place) → at core ticket ≡ p
-    → ((here : Place) → p ≡ Some here → at new ticket ≡ p) → IsTrue (is_ticket p) → expected_at p ≡ Some kind
+held_place : (core new : Core) (ticket : ℕ) (kind : Expected) (p : Option IdRecord) → at core ticket ≡ p
+    → ((here : IdRecord) → p ≡ Some here → at new ticket ≡ p) → IsTrue (is_ticket p) → expected_at p ≡ Some kind
     → HoldsTicket new ticket kind
 held_place core new ticket kind (Some here) e still counted is = holds_at new ticket kind (Some here) (still here refl) counted is
 held_place core new ticket kind None e still counted is = cc
@@ -199,7 +199,7 @@ keeps_failed core fault =
       grants = record { grants = λ id handle users here. here; opened = λ h. h };
     }
 
-sent_at : (core : Core) (ticket : ℕ) (kind : Expected) (p : Option Place) → at core ticket ≡ option_map sent_place p
+sent_at : (core : Core) (ticket : ℕ) (kind : Expected) (p : Option IdRecord) → at core ticket ≡ option_map sent_record p
     → IsTrue (is_ticket p) → expected_at p ≡ Some kind → HoldsTicket core ticket kind
 sent_at core ticket kind (Some (Waiting expected sent wanted)) here counted is =
     holds_at core ticket kind (Some (Waiting expected true wanted)) here counted is
@@ -213,14 +213,14 @@ keeps_handed_out core =
     record {
       holds = λ ticket kind h. sent_at (handed_out core) ticket kind (at core ticket) (hand_out_each core ticket) h.counted h.expects;
       grants = record {
-        grants = λ id handle users here. hand_out_each core id ∙ ap (λ (p : Option Place). option_map sent_place p) here;
+        grants = λ id handle users here. hand_out_each core id ∙ ap (λ (p : Option IdRecord). option_map sent_record p) here;
         opened = λ h. h;
       };
     }
 
 -- ---- a frame that is taken
 
-taken_at : (core : Core) (ticket : ℕ) (kind : Expected) (r : Reply) (p : Option Place) → IsTrue (is_ticket p)
+taken_at : (core : Core) (ticket : ℕ) (kind : Expected) (r : Reply) (p : Option IdRecord) → IsTrue (is_ticket p)
     → expected_at p ≡ Some kind → wrong_at ticket r p ≡ None
     → HoldsTicket (take_leaves core ticket r p) ticket kind
 taken_at core ticket kind r (Some (Waiting expected true true)) counted is right =
@@ -244,7 +244,7 @@ took_holds core id r ticket kind right (inr apart) h = holds_still core (take_le
     (take_elsewhere core id r (at core id) ticket apart) h
 
 -- what stands under the id of a frame that is taken is a request
-waiting_there : (id : ℕ) (r : Reply) (p : Option Place) (handle : List ℕ) (users : ℕ) → p ≡ Some (Granted handle users) → wrong_at id r p ≡ None → ⊥
+waiting_there : (id : ℕ) (r : Reply) (p : Option IdRecord) (handle : List ℕ) (users : ℕ) → p ≡ Some (Granted handle users) → wrong_at id r p ≡ None → ⊥
 waiting_there id r (Some (Granted h u)) handle users e right = cc
 waiting_there id r (Some (Waiting expected sent wanted)) handle users e right = cc
 waiting_there id r (Some (Answered expected other)) handle users e right = cc
@@ -291,7 +291,7 @@ keeps_refused old new e refusal h = refused_keeps e (fault_of e) refusal old new
 
 -- ---- a ticket and a grant have different numbers
 
-granted_ticket : (p : Option Place) (handle : List ℕ) (users : ℕ) → p ≡ Some (Granted handle users) → IsTrue (is_ticket p) → ⊥
+granted_ticket : (p : Option IdRecord) (handle : List ℕ) (users : ℕ) → p ≡ Some (Granted handle users) → IsTrue (is_ticket p) → ⊥
 granted_ticket (Some (Granted handle users)) h u e counted = cc
 granted_ticket (Some (Waiting expected sent wanted)) h u e counted = cc
 granted_ticket (Some (Answered expected r)) h u e counted = cc
@@ -347,7 +347,7 @@ retained_holds core grant ticket kind g h =
 
 -- ---- a cancel before the reply
 
-dropped_at : (core : Core) (ticket : ℕ) (kind : Expected) (p : Option Place) → IsTrue (is_ticket p) → expected_at p ≡ Some kind → reply_in p ≡ None
+dropped_at : (core : Core) (ticket : ℕ) (kind : Expected) (p : Option IdRecord) → IsTrue (is_ticket p) → expected_at p ≡ Some kind → reply_in p ≡ None
     → IsDropped (at (abandon_leaves core ticket p) ticket) kind
 dropped_at core ticket kind (Some (Waiting expected sent wanted)) counted is none =
     let same : expected ≡ kind = cc in rw (put_here core.table ticket (Waiting expected sent false)) (same, refl)
@@ -409,7 +409,7 @@ grant_kept old new grant k h =
 
 -- what others await stands elsewhere
 ticket_elsewhere : (core : Core) (ticket : ℕ) (kind : Expected) → HoldsTicket core ticket kind → at core ticket ≡ None → ⊥
-ticket_elsewhere core ticket kind h none = let gone = subst (λ (p : Option Place). IsTrue (is_ticket p)) none h.counted in cc
+ticket_elsewhere core ticket kind h none = let gone = subst (λ (p : Option IdRecord). IsTrue (is_ticket p)) none h.counted in cc
 
 ticket_no_grant : (core : Core) (grant : GrantValue) (ticket : ℕ) (kind : Expected) → IsGrant core grant → HoldsTicket core ticket kind
     → ticket ≢ grant.id

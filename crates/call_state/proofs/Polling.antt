@@ -7,12 +7,12 @@ use Rattle.sftp_model.specs.declared.answers.Expected.{Expected}
 use Rattle.sftp_model.specs.declared.error.Fault.{Fault}
 use Rattle.sftp_model.specs.declared.reply.Reply.{Reply}
 use Rattle.sftp_model.specs.declared.reply.Reply.TheVariants as reply
-use Rattle.sftp_core.specs.declared.place.Place.{Place}
-use Rattle.sftp_core.specs.declared.place.Place.TheVariants.{Waiting, Answered, Granted}
+use Rattle.sftp_core.specs.declared.id_record.IdRecord.{IdRecord}
+use Rattle.sftp_core.specs.declared.id_record.IdRecord.TheVariants.{Waiting, Answered, Granted}
 use Rattle.sftp_core.specs.declared.tokens.Polled.{Polled}
 use Rattle.sftp_core.specs.declared.tokens.Polled.TheVariants as polled
 use Rattle.sftp_core.specs.Grant.{GrantValue}
-use Rattle.sftp_core.specs.Core.{Core, after_poll, at, given, given_leaves, is_ticket, poll_gives, poll_leaves, polled_with, reply_in, with_place}
+use Rattle.sftp_core.specs.Core.{Core, after_poll, at, given, given_leaves, is_ticket, poll_gives, poll_leaves, polled_with, reply_in, with_record}
 use Rattle.sftp_core.specs.Table.{IsAllowed, brings, expected_at}
 use Rattle.sftp_core.proofs.Counts.{len_less, len_same}
 use Rattle.sftp_core.proofs.Elsewhere.{put_here}
@@ -45,7 +45,7 @@ ok_is : (x y : Polled) → (◌≡◌ {A = Result Polled ℕ} (Ok x) (Ok y)) →
 ok_is x y e = cc
 
 -- a reply that is no HANDLE was taken, and is no grant
-pub gave_reply : (t : ℕ) (fault : Option Fault) (p : Option Place) (r : Reply) → poll_gives t fault p
+pub gave_reply : (t : ℕ) (fault : Option Fault) (p : Option IdRecord) (r : Reply) → poll_gives t fault p
     ≡ Ok (polled.Reply r) → (reply_in p ≡ Some r) × (brings r ≡ None)
 gave_reply t fault None r e = absurd cc
 gave_reply t (Some f) (Some (Waiting expected sent wanted)) r e = absurd cc
@@ -56,7 +56,7 @@ gave_reply t fault (Some (Answered expected y)) r e =
 gave_reply t fault (Some (Granted handle users)) r e = absurd cc
 
 -- a HANDLE was taken
-pub gave_grant : (t : ℕ) (fault : Option Fault) (p : Option Place) (g : GrantValue) → poll_gives t fault p
+pub gave_grant : (t : ℕ) (fault : Option Fault) (p : Option IdRecord) (g : GrantValue) → poll_gives t fault p
     ≡ Ok (polled.Granted g) → (reply_in p ≡ Some (reply.Handle g.handle)) × (g.id ≡ t)
 gave_grant t fault None g e = absurd cc
 gave_grant t (Some f) (Some (Waiting expected sent wanted)) g e = absurd cc
@@ -66,8 +66,8 @@ gave_grant t fault (Some (Answered expected y)) g e =
     (ap (λ (x : Reply). Some x) same.0, same.1))
 gave_grant t fault (Some (Granted handle users)) g e = absurd cc
 
-granted_here : (core : Core) (t : ℕ) (fault : Option Fault) (p : Option Place) (g : GrantValue) → poll_gives t fault p
-    ≡ Ok (polled.Granted g) → poll_leaves core t fault p ≡ with_place core t (Granted g.handle 1)
+granted_here : (core : Core) (t : ℕ) (fault : Option Fault) (p : Option IdRecord) (g : GrantValue) → poll_gives t fault p
+    ≡ Ok (polled.Granted g) → poll_leaves core t fault p ≡ with_record core t (Granted g.handle 1)
 granted_here core t fault None g e = absurd cc
 granted_here core t (Some f) (Some (Waiting expected sent wanted)) g e = absurd cc
 granted_here core t None (Some (Waiting expected sent wanted)) g e = absurd cc
@@ -80,11 +80,11 @@ granted_here core t fault (Some (Granted handle users)) g e = absurd cc
 no_more_same : (a b : ℕ) → a ≡ b → a ≤ b
 no_more_same a b e = omega (arith, e)
 
-given_few : (core : Core) (t : ℕ) (p : Place) (h : Option (List ℕ)) → at core t ≡ Some p → fin.len (given_leaves core t h).table ≤ fin.len core.table
+given_few : (core : Core) (t : ℕ) (p : IdRecord) (h : Option (List ℕ)) → at core t ≡ Some p → fin.len (given_leaves core t h).table ≤ fin.len core.table
 given_few core t p (Some handle) here = no_more_same _ _ (len_same core.table t (Granted handle 1) p here)
 given_few core t p None here = len_less core.table t
 
-leaves_few : (core : Core) (t : ℕ) (fault : Option Fault) (p : Option Place) → at core t ≡ p → fin.len (poll_leaves core t fault p).table ≤ fin.len core.table
+leaves_few : (core : Core) (t : ℕ) (fault : Option Fault) (p : Option IdRecord) → at core t ≡ p → fin.len (poll_leaves core t fault p).table ≤ fin.len core.table
 leaves_few core t fault (Some (Answered expected r)) here = given_few core t (Answered expected r) (brings r) here
 leaves_few core t (Some f) (Some (Waiting expected sent wanted)) here =
     no_more_same _ _ (len_same core.table t (Waiting expected sent false) (Waiting expected sent wanted) here)
@@ -97,7 +97,7 @@ polls_few core t = leaves_few core t core.fault (at core t) refl
 
 -- ---- what came
 
-allowed_at : (p : Option Place) (r : Reply) (kind : Expected) → IsAllowed p → reply_in p ≡ Some r → expected_at p ≡ Some kind → allows kind r ≡ true
+allowed_at : (p : Option IdRecord) (r : Reply) (kind : Expected) → IsAllowed p → reply_in p ≡ Some r → expected_at p ≡ Some kind → allows kind r ≡ true
 allowed_at None r kind fits came is = absurd cc
 allowed_at (Some (Waiting expected sent wanted)) r kind fits came is = absurd cc
 allowed_at (Some (Answered expected y)) r kind fits came is =
@@ -138,7 +138,7 @@ came_grant core t g fits e =
       );
     }
 
-kept_fault : (t : ℕ) (fault : Option Fault) (p : Option Place) (f : Fault) → poll_gives t fault p ≡ Ok (polled.Failed f)
+kept_fault : (t : ℕ) (fault : Option Fault) (p : Option IdRecord) (f : Fault) → poll_gives t fault p ≡ Ok (polled.Failed f)
     → (reply_in p ≡ None) × (fault ≡ Some f)
 kept_fault t fault None f e = absurd cc
 kept_fault t (Some g) (Some (Waiting expected sent wanted)) f e = (let same : g ≡ f = cc in (refl, ap (λ (x : Fault). Some x) same))
@@ -159,7 +159,7 @@ kept_fault t fault (Some (Granted handle users)) f e = absurd cc
 pub failed_by : (core : Core) (t : ℕ) (f : Fault) → polled_with core t ≡ Ok (polled.Failed f) → (reply_in (at core t) ≡ None) × (core.fault ≡ Some f)
 failed_by core t f e = kept_fault t core.fault (at core t) f e
 
-missed : (core : Core) (t : ℕ) (fault : Option Fault) (p : Option Place) (q : ℕ) → IsTrue (is_ticket p)
+missed : (core : Core) (t : ℕ) (fault : Option Fault) (p : Option IdRecord) (q : ℕ) → IsTrue (is_ticket p)
     → poll_gives t fault p ≡ Err q → (reply_in p ≡ None) × (q ≡ t) × (fault ≡ None)
     × (poll_leaves core t fault p ≡ core)
 missed core t fault None q counted e = absurd cc

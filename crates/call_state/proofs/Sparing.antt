@@ -4,7 +4,7 @@ use Rattle.sftp_model.specs.declared.answers.Expected.{Expected}
 use Rattle.sftp_model.specs.declared.error.Error.{Error}
 use Rattle.sftp_core.specs.Core.{Core, abandoned, after_poll, at, is_ticket, released}
 use Rattle.sftp_core.specs.Grant.{GrantValue}
-use Rattle.sftp_core.specs.declared.place.Place.TheVariants.{Granted}
+use Rattle.sftp_core.specs.declared.id_record.IdRecord.TheVariants.{Granted}
 use Rattle.call_state.specs.Asked.{HoldsTicket, Submitted}
 use Rattle.call_state.specs.Calls.{CallValue, CancelsAwaited, CountsGrant, IsGrantOf, IsHeldAt, IsNoneOfCall, IsNotOf, Stepped, grant_brought}
 use Rattle.call_state.specs.Keeping.{KeepsHeld, SparesOthers}

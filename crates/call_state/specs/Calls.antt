@@ -9,7 +9,7 @@ use Rattle.sftp_model.specs.declared.reply.Reply.TheVariants as reply
 use Rattle.sftp_model.specs.declared.slot.Move.{Move}
 use Rattle.sftp_model.specs.declared.slot.Move.TheVariants.{Ask, Done, Wait}
 use Rattle.plan_model.specs.Moves.{Answers, Own, Plan}
-use Rattle.sftp_core.specs.declared.place.Place.TheVariants.{Granted}
+use Rattle.sftp_core.specs.declared.id_record.IdRecord.TheVariants.{Granted}
 use Rattle.sftp_core.specs.Core.{Core, abandoned, after_poll, at, released, reply_in}
 use Rattle.sftp_core.specs.Grant.{GrantValue}
 use Rattle.call_state.specs.declared.asking.Asking.{Asking}
@@ -251,8 +251,8 @@ pub record LeavesCall {W M V : Type 0} (s : Meaning W M V) (old new : Core) (bef
   pub others : KeepsOtherTickets old new before q.stage
 
 -- A poll did the next move of each plan that the call is what is left of, whatever its replies to come. The call may be
--- polled on or given up, and awaits a reply where it has no answer; its runner stays what it was. The grant that came by
--- the reply to its ticket is the value's, or the call has it still, and the core counts it. Every grant stays, what
+-- polled on or given up, and awaits a reply where it has no answer; its runner stays what it was. The grant that came
+-- by the reply to its ticket is the value's, or the call has it still, and the core counts it. Every grant stays, what
 -- others await, and the session open.
 pub record Stepped {W M V : Type 0} (s : Meaning W M V) (old new : Core) (p q : CallValue M)
     (result : Poll (Result V Error)) : Type 0 where

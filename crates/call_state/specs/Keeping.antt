@@ -1,8 +1,8 @@
 -- What calls of a core by others leave of what a state awaits, and of the grants of files.
 use Rattle.std.specs.Prelude.{◌≡◌, ℕ, false, List, Option, Some, IsSome}
 use Rattle.sftp_model.specs.declared.answers.Expected.{Expected}
-use Rattle.sftp_core.specs.declared.place.Place.{Place}
-use Rattle.sftp_core.specs.declared.place.Place.TheVariants.{Waiting, Granted}
+use Rattle.sftp_core.specs.declared.id_record.IdRecord.{IdRecord}
+use Rattle.sftp_core.specs.declared.id_record.IdRecord.TheVariants.{Waiting, Granted}
 use Rattle.sftp_core.specs.Core.{Core, at}
 use Rattle.sftp_core.specs.Info.{info_of}
 use Rattle.call_state.specs.Asked.{HoldsTicket}
@@ -32,6 +32,6 @@ pub record SparesOthers (old new : Core) (IsTheirs StaysTheirs : ℕ → Type 0)
   pub opened : StaysOpen old new
 
 -- the reply to this request counts for nothing
-abbrev pub IsDropped : Option Place → Expected → Type 0
+abbrev pub IsDropped : Option IdRecord → Expected → Type 0
 IsDropped (Some (Waiting kind sent wanted)) expected = (kind ≡ expected) × (wanted ≡ false)
 IsDropped other expected = ⊥

@@ -7,7 +7,7 @@ use Rattle.sftp_model.specs.declared.reply.Reply.TheVariants as reply
 use Rattle.sftp_core.specs.Core.{Core, at, reply_in}
 use Rattle.sftp_core.specs.Grant.{GrantValue}
 use Rattle.sftp_core.specs.Table.{expected_at}
-use Rattle.sftp_core.specs.declared.place.Place.TheVariants as places
+use Rattle.sftp_core.specs.declared.id_record.IdRecord.TheVariants as places
 use Rattle.call_state.specs.declared.runner.Then.{Then}
 use Rattle.call_state.specs.declared.runner.Then.TheVariants as then
 use Rattle.call_state.specs.declared.told.Told.{Told}

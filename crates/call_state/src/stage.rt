@@ -1,7 +1,7 @@
 //! What a call under way awaits.
 ghost use Rattle.std.specs.Prelude.{◌≡◌, ℕ, true, Some, IsTrue};
 ghost use Rattle.sftp_core.specs.Core.{abandoned, at, is_ticket, released};
-ghost use Rattle.sftp_core.specs.declared.place.Place.TheVariants.{Granted};
+ghost use Rattle.sftp_core.specs.declared.id_record.IdRecord.TheVariants.{Granted};
 ghost use Rattle.call_state.specs.declared.stage.Stage.TheVariants.{Asked, Came};
 ghost use Rattle.call_state.specs.declared.told.Told.{Told as ToldValue};
 ghost use Rattle.call_state.specs.Calls.{CancelsAwaited, is_ended, ticket_of};

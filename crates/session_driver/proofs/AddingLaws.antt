@@ -21,18 +21,18 @@ add_keeps lane call a b is log = subst (λ (w : RunProgress). KeepsTrace a.past 
 
 pub add_on : {S : Type 0} (lane : ℕ) (call : Call) (a b : Seen) (x : LinkView S) → AddsTo lane call a b
     → IsReady (at a x) → Ongoing (adding lane call) (at a x) (at b x) (Ok tt)
-add_on lane call a b x t ready = quiet (adding lane call) a b x tt t.is t.goes (add_keeps lane call a.stage b.stage t.is) ready
+add_on lane call a b x t ready = quiet (adding lane call) a b x tt t.is t.goes (add_keeps lane call a.progress b.progress t.is) ready
 
 pub call_is : {S : Type 0} (lane : ℕ) (call : Call) {a b c : At S} {result : Result (Unit {0}) Error}
     → Ongoing (adding lane call) a b (Ok tt) → Ongoing (lane_of lane) b c result
     → Ongoing (call_of lane call) a c result
 call_is lane call {a = a} {b = b} {c = c} added went =
-    join (λ u v. subst (λ (w : RunProgress). EndsLane a.seen.setting lane w c.seen.stage) u v)
+    join (λ u v. subst (λ (w : RunProgress). EndsLane a.seen.setting lane w c.seen.progress) u v)
     (λ u past part. inr (subst (λ (w : RunProgress). RoundsSoFar a.seen.setting lane w past) u part)) added went
 
 -- there was no memory for the call
 pub unmoved_self : (a b : Seen) → b ≡ a → IsUnmoved a b
 unmoved_self a b same = record {
   holds = stays_hold a b (subst (λ (w : Seen). StaysInPhase a w) (sym same) (stays_self a));
-  past = ap (λ (w : Seen). w.stage.past) same;
+  past = ap (λ (w : Seen). w.progress.past) same;
 }

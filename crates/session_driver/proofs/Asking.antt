@@ -53,24 +53,24 @@ asked_limits given asks a w =
     ap (λ (s : Setting). s.limits) w.fixed.1.1 ∙ (ap offers_limits (sym same) ∙ sym w.asked)
 
 -- the query for limits stands in the queue
-pub ask_here : (a : Seen) → IsWelcomed a.given true a → MayAsk a a.stage.past
+pub ask_here : (a : Seen) → IsWelcomed a.given true a → MayAsk a a.progress.past
 ask_here a w =
     let b = w.begins in
     record {
       later = w.later;
       fixed = w.fixed;
-      so_far = subst (λ (l : Bool). OpensSoFar l a.stage.past) (sym (asked_limits a.given true a w)) (inr (b.1.0, (b.1.1.0, inl b.1.1.1)));
+      so_far = subst (λ (l : Bool). OpensSoFar l a.progress.past) (sym (asked_limits a.given true a w)) (inr (b.1.0, (b.1.1.0, inl b.1.1.1)));
     }
 
 -- it was sent
-sent_now : (a : Seen) → IsWelcomed a.given true a → IsLater a.setting a.stage.past (entry.Event Send ∷ a.stage.past)
-    → MayAsk a (entry.Event Send ∷ a.stage.past)
+sent_now : (a : Seen) → IsWelcomed a.given true a → IsLater a.setting a.progress.past (entry.Event Send ∷ a.progress.past)
+    → MayAsk a (entry.Event Send ∷ a.progress.past)
 sent_now a w later =
     let b = w.begins in
     record {
-      later = later_on a.setting [] a.stage.past (entry.Event Send ∷ a.stage.past) w.later later;
+      later = later_on a.setting [] a.progress.past (entry.Event Send ∷ a.progress.past) w.later later;
       fixed = w.fixed;
-      so_far = subst (λ (l : Bool). OpensSoFar l (entry.Event Send ∷ a.stage.past))
+      so_far = subst (λ (l : Bool). OpensSoFar l (entry.Event Send ∷ a.progress.past))
           (sym (asked_limits a.given true a w)) (inr (
             b.1.0,
             (
@@ -81,14 +81,14 @@ sent_now a w later =
     }
 
 pub ask_sent : (a b : Seen) (work : ℕ) → IsWelcomed a.given true a → b ≡ queried_with a work
-    → IsLater b.setting a.stage.past b.stage.past → MayAsk a b.stage.past
+    → IsLater b.setting a.progress.past b.progress.past → MayAsk a b.progress.past
 ask_sent a b work w is later =
-    subst (λ (x : Seen). MayAsk a x.stage.past) (sym is)
-    (sent_now a w (subst (λ (x : Seen). IsLater x.setting a.stage.past x.stage.past) is later))
+    subst (λ (x : Seen). MayAsk a x.progress.past) (sym is)
+    (sent_now a w (subst (λ (x : Seen). IsLater x.setting a.progress.past x.progress.past) is later))
 
-pub ask_awaits : (a b : Seen) (work : ℕ) → IsWelcomed a.given true a → b ≡ queried_with a work → 0 < awaited b.stage.past
+pub ask_awaits : (a b : Seen) (work : ℕ) → IsWelcomed a.given true a → b ≡ queried_with a work → 0 < awaited b.progress.past
 ask_awaits a b work w is =
-    subst (λ (x : Seen). 0 < awaited x.stage.past) (sym is)
+    subst (λ (x : Seen). 0 < awaited x.progress.past) (sym is)
     (subst (λ (p : List Entry). 0 < awaited (entry.Event Send ∷ p)) (sym w.begins.1.1.1) (omega arith))
 
 -- the reply is one to the query
@@ -116,8 +116,8 @@ tells_opens read id now free t =
 opened_now : (read : Result (Option ℕ × Reply) FrameError) (a now : Seen) (work : ℕ) → IsWelcomed a.given true a
     → Limited read (queried_with a work) now → now.given ≡ a.given → now.version ≡ a.version → IsOpened a.given now
 opened_now read a now work w l given version =
-    let fixed : IsFixed a.given now.version now.stage.past now.setting =
-    subst (λ (g : Given). IsFixed g now.version now.stage.past now.setting) given l.fixed in
+    let fixed : IsFixed a.given now.version now.progress.past now.setting =
+    subst (λ (g : Given). IsFixed g now.version now.progress.past now.setting) given l.fixed in
     let told : a.version ≡ now.version = sym version in
     let same : w.extensions ≡ fixed.0 = cc in
     let limits : now.setting.limits ≡ true = ap (λ (s : Setting). s.limits) fixed.1.1 ∙ (ap offers_limits (sym same) ∙ sym w.asked) in
@@ -125,9 +125,9 @@ opened_now read a now work w l given version =
     record {
       same = given;
       fixed = fixed;
-      opens = subst (λ (t : Bool). OpensSession t now.stage.past) (sym limits)
-          (tells_opens read b.1.0 now.stage.past b.1.1.0 (subst (λ (p : List Entry). TakesLimitsReply read (entry.Event Send ∷ p)
-          now.stage.past) b.1.1.1 l.tells));
+      opens = subst (λ (t : Bool). OpensSession t now.progress.past) (sym limits)
+          (tells_opens read b.1.0 now.progress.past b.1.1.0 (subst (λ (p : List Entry). TakesLimitsReply read (entry.Event Send ∷ p)
+          now.progress.past) b.1.1.1 l.tells));
       later = l.later;
       is_open = l.is_open;
       begun = l.begun ∙ w.begun;
@@ -147,50 +147,50 @@ limits_open read a b now work w is l given version =
 module _ {S : Type 0} where
   -- the query could not all be sent
   pub query_fails : (a b : Seen) (x y : LinkView S) (bytes : List ℕ) (e : Error) → IsWelcomed a.given true a → IsQueried a b
-      → bytes ≡ unsent_bytes a.stage.past → SentBy {T = Unit {0}} bytes x y (Err e) → StoppedAs (MayAsk a) (at a x) (at b y) e
+      → bytes ≡ unsent_bytes a.progress.past → SentBy {T = Unit {0}} bytes x y (Err e) → StoppedAs (MayAsk a) (at a x) (at b y) e
   query_fails a b x y bytes e w is same by = record {
-    past = a.stage.past;
+    past = a.progress.past;
     is = ask_here a w;
-    ahead = by_send by.log.0 (ap (λ (v : Seen). v.stage.past) is);
+    ahead = by_send by.log.0 (ap (λ (v : Seen). v.progress.past) is);
     holds = queried_holds a b is;
-    log = sent_here y.ended e a.stage.past bytes x.log y.log same by.log.0 by.log.1;
+    log = sent_here y.ended e a.progress.past bytes x.log y.log same by.log.0 by.log.1;
   }
 
   -- it was sent
-  asked_on : (a b : Seen) (x y : LinkView S) (bytes : List ℕ) (u : Unit {0}) → IsQueried a b → bytes ≡ unsent_bytes a.stage.past
-      → SentBy bytes x y (Ok u) → Told (KeepsTrace a.stage.past b.stage.past) x.log y.log
-  asked_on a b x y bytes u is same by = keeps_sent a.stage.past b.stage.past bytes x.log y.log (ap (λ (v : Seen). v.stage.past) is) same by.log
+  asked_on : (a b : Seen) (x y : LinkView S) (bytes : List ℕ) (u : Unit {0}) → IsQueried a b → bytes ≡ unsent_bytes a.progress.past
+      → SentBy bytes x y (Ok u) → Told (KeepsTrace a.progress.past b.progress.past) x.log y.log
+  asked_on a b x y bytes u is same by = keeps_sent a.progress.past b.progress.past bytes x.log y.log (ap (λ (v : Seen). v.progress.past) is) same by.log
 
   -- and no reply came
   pub limits_fail : {R : Type 0} (a b : Seen) (x y z : LinkView S) (bytes : List ℕ) (e : Error) (u : Unit {0}) → IsWelcomed a.given true a
-      → IsQueried a b → IsLater b.setting a.stage.past b.stage.past → bytes ≡ unsent_bytes a.stage.past → SentBy bytes x y (Ok u)
+      → IsQueried a b → IsLater b.setting a.progress.past b.progress.past → bytes ≡ unsent_bytes a.progress.past → SentBy bytes x y (Ok u)
       → Told (ReadFails e) y.log z.log → Caused {T = R} y z (Err e) → StoppedAs (MayAsk a) (at a x) (at b z) e
   limits_fail a b x y z bytes e u w is later same by fails caused = record {
-    past = b.stage.past;
+    past = b.progress.past;
     is = ask_sent a b b.work w is later;
     ahead = even refl;
     holds = queried_holds a b is;
-    log = stops_behind z.ended e a.stage.past b.stage.past b.stage.past x.log y.log z.log (asked_on a b x y bytes u is same by)
-        (unread_here z.ended e b.stage.past y.log z.log (ask_awaits a b b.work w is) (end_told caused) fails);
+    log = stops_behind z.ended e a.progress.past b.progress.past b.progress.past x.log y.log z.log (asked_on a b x y bytes u is same by)
+        (unread_here z.ended e b.progress.past y.log z.log (ask_awaits a b b.work w is) (end_told caused) fails);
   }
 
   -- or one that is refused
   pub limits_refused : (a b now : Seen) (x y z : LinkView S) (sent body bytes : List ℕ) (t : TakeError) (u : Unit {0}) → IsWelcomed a.given true a
-      → IsQueried a b → IsLater b.setting a.stage.past b.stage.past → sent ≡ unsent_bytes a.stage.past → SentBy sent x y (Ok u)
-      → IsFramePrefix bytes → bytes ≡ string body → length body ≤ 1048575 → IsFirst t (refuses b.stage.past (reply_at body))
+      → IsQueried a b → IsLater b.setting a.progress.past b.progress.past → sent ≡ unsent_bytes a.progress.past → SentBy sent x y (Ok u)
+      → IsFramePrefix bytes → bytes ≡ string body → length body ≤ 1048575 → IsFirst t (refuses b.progress.past (reply_at body))
       → HasRefused t b now → Told (GotAll bytes) y.log z.log → StoppedAs (MayAsk a) (at a x) (at now z) (error_of t)
   limits_refused a b now x y z sent body bytes t u w is later same by front framed short why left got = record {
-    past = b.stage.past;
+    past = b.progress.past;
     is = ask_sent a b b.work w is later;
-    ahead = refused_ahead t b.stage.past now.stage.past left.past;
+    ahead = refused_ahead t b.progress.past now.progress.past left.past;
     holds = holds_on a b now (queried_holds a b is) left.holds;
-    log = stops_behind z.ended (error_of t) a.stage.past b.stage.past b.stage.past x.log y.log z.log (asked_on a b x y sent u is same by)
-        (refused_here z.ended t b.stage.past body bytes y.log z.log (ask_awaits a b b.work w is) front framed short why got);
+    log = stops_behind z.ended (error_of t) a.progress.past b.progress.past b.progress.past x.log y.log z.log (asked_on a b x y sent u is same by)
+        (refused_here z.ended t b.progress.past body bytes y.log z.log (ask_awaits a b b.work w is) front framed short why got);
   }
 
   -- VERSION came, the limits were asked for, and it stopped
   ask_stops : (before a now : Seen) (x y z : LinkView S) (e : Error) → a.given ≡ before.given
-      → Told (Showing a.version a.stage.past) x.log y.log → StoppedAs (MayAsk a) (at a y) (at now z) e
+      → Told (Showing a.version a.progress.past) x.log y.log → StoppedAs (MayAsk a) (at a y) (at now z) e
       → StoppedOpen (λ s. OpensSoFar s.limits) (at before x) (at now z) e
   ask_stops before a now x y z e same shows stopped = record {
     past = stopped.past;
@@ -199,12 +199,12 @@ module _ {S : Type 0} where
         (subst (λ (g : Given). IsSoFar g a.version a.setting stopped.past) same (stopped.is.later, stopped.is.fixed));
     same = ap (λ (w : Seen). w.given) stopped.holds ∙ same;
     ahead = stopped.ahead;
-    log = shown_stop a.version now.version a.stage.past stopped.past z.ended e x.log y.log z.log
+    log = shown_stop a.version now.version a.progress.past stopped.past z.ended e x.log y.log z.log
         (ap (λ (w : Seen). w.version) stopped.holds) shows stopped.log;
   }
 
   pub asked_stops : (before a now : Seen) (x y z : LinkView S) (result : Result (Unit {0}) Error) → a.given ≡ before.given
-      → Told (Showing a.version a.stage.past) x.log y.log → IfErr result (StoppedAs (MayAsk a) (at a y) (at now z))
+      → Told (Showing a.version a.progress.past) x.log y.log → IfErr result (StoppedAs (MayAsk a) (at a y) (at now z))
       → IfErr result (HasStopped (λ s. OpensSoFar s.limits) (at before x) (at now z))
   asked_stops before a now x y z (Ok u) same shows stopped = tt
   asked_stops before a now x y z (Err e) same shows stopped = inr (ask_stops before a now x y z e same shows stopped)

@@ -46,8 +46,8 @@ use Rattle.sftp_model.specs.ReplyReadings.{limits_at, limits_in}
 use Rattle.sftp_core.specs.declared.errors.TakeError.{TakeError}
 use Rattle.sftp_core.specs.declared.errors.TakeError.TheVariants as take
 use Rattle.sftp_model.specs.declared.options.SftpOptions.{SftpOptions}
-use Rattle.sftp_core.specs.declared.place.Place.{Place}
-use Rattle.sftp_core.specs.declared.place.Place.TheVariants.{Waiting}
+use Rattle.sftp_core.specs.declared.id_record.IdRecord.{IdRecord}
+use Rattle.sftp_core.specs.declared.id_record.IdRecord.TheVariants.{Waiting}
 use Rattle.sftp_core.specs.declared.tokens.Taken.{Taken}
 use Rattle.sftp_core.specs.declared.tokens.Taken.TheVariants as taken_of
 use Rattle.sftp_core.specs.declared.handshake.Handshake.TheVariants as core_phase
@@ -56,7 +56,7 @@ use Rattle.sftp_model.specs.Lengths.{offers_limits}
 use Rattle.session_model.specs.Settings.{greeting, setting_of}
 use Rattle.sftp_core.specs.Core.{Core, at, dropped, fresh, without, handed_out, awaited_of, unanswered_of, queued_of}
 use Rattle.sftp_core.proofs.Counts.{count_len}
-use Rattle.sftp_core.specs.Table.{Places, all_sent, brings, count, is_sent, is_waiting, sent_place}
+use Rattle.sftp_core.specs.Table.{IdRecords, all_sent, brings, count, is_sent, is_waiting, sent_record}
 use Rattle.sftp_core.proofs.Sent.{get_sent}
 use Rattle.sftp_core.proofs.Elsewhere.{put_here, put_elsewhere, gone_here, gone_elsewhere}
 use Rattle.ssh_encoding.specs.Writing.{or_else}
@@ -124,8 +124,8 @@ open_is options version past core Asking bare e = absurd cc
 open_is options version past core Queried bare e = absurd cc
 open_is options version past core Failed bare e = absurd cc
 
-count_empty : (p : Place → Bool) → count p fin.empty ≡ 0
-count_empty p = let few = count_len p fin.empty in let none = fin.len-empty nat_cmp Place in omega (arith, few, none)
+count_empty : (p : IdRecord → Bool) → count p fin.empty ≡ 0
+count_empty p = let few = count_len p fin.empty in let none = fin.len-empty nat_cmp IdRecord in omega (arith, few, none)
 
 pub idle_awaited : (options : SftpOptions) (core : Core) (past : List Entry) → IsOpen options core past → awaited_of core ≡ 0
 idle_awaited options core past o = ap awaited_of o.calm ∙ (let none = count_empty is_sent in omega (arith, none))
@@ -147,14 +147,14 @@ step_idle s lane at none =
 -- under the id 0 the query for limits is awaited
 asked_here : (options : SftpOptions) (extensions : Extensions) → at (handed_out (asked_core options extensions)) 0 ≡ Some (Waiting expected.Limits true false)
 asked_here options extensions = get_sent (asked_core options extensions).table 0
-    ∙ ap (option_map sent_place) (put_here (all_sent fin.empty) 0 (Waiting expected.Limits false false))
+    ∙ ap (option_map sent_record) (put_here (all_sent fin.empty) 0 (Waiting expected.Limits false false))
 
 -- and under no other id is anything
 asked_else : (options : SftpOptions) (extensions : Extensions) (q : ℕ) → q ≢ 0 → at (handed_out (asked_core options extensions)) q ≡ None
 asked_else options extensions q apart =
     get_sent (asked_core options extensions).table q
-    ∙ ap (option_map sent_place) (put_elsewhere (all_sent fin.empty) 0 (Waiting expected.Limits false false) q apart
-    ∙ get_sent fin.empty q ∙ ap (option_map sent_place) (get-empty nat_cmp q))
+    ∙ ap (option_map sent_record) (put_elsewhere (all_sent fin.empty) 0 (Waiting expected.Limits false false) q apart
+    ∙ get_sent fin.empty q ∙ ap (option_map sent_record) (get-empty nat_cmp q))
 
 -- the reply goes on
 pub record GoesOn (r : Reply) : Type 0 where
@@ -204,7 +204,7 @@ takes_limits options extensions id r none = by_id (id == 0) refl (first_none _ _
         let clash : Some (take.InvalidResponseId id) ≡ None = sym (ap (wrong_at id r) (asked_else options extensions id apart)) ∙ f.0 in
         absurd cc
 
-gone_any : (t : Places) (q : ℕ) → ((k : ℕ) → k ≢ 0 → fin.get t k ≡ None) → fin.get (fin.remove t 0) q ≡ None
+gone_any : (t : IdRecords) (q : ℕ) → ((k : ℕ) → k ≢ 0 → fin.get t k ≡ None) → fin.get (fin.remove t 0) q ≡ None
 gone_any t q else_none = by_id (q == 0) refl
   where
     by_id : (b : Bool) → (q == 0) ≡ b → fin.get (fin.remove t 0) q ≡ None
@@ -219,7 +219,7 @@ limits_gone options extensions =
 
 none_sent : all_sent fin.empty ≡ fin.empty
 none_sent = fin.same_map nat_cmp_total nat_cmp-IsAntisymmetric _ _
-    (λ q. get_sent fin.empty q ∙ ap (option_map sent_place) (get-empty nat_cmp q) ∙ sym (get-empty nat_cmp q))
+    (λ q. get_sent fin.empty q ∙ ap (option_map sent_record) (get-empty nat_cmp q) ∙ sym (get-empty nat_cmp q))
 
 -- ---- refusals
 
@@ -288,10 +288,10 @@ pub limits_in_core : (options : SftpOptions) (extensions : Extensions) (id : ℕ
 limits_in_core options extensions id r t =
     let core : Core = handed_out (asked_core options extensions) in
     let here : at core id ≡ Some (Waiting expected.Limits true false) = ap (at core) t.zero ∙ asked_here options extensions in
-    ap (λ (p : Option Place). opened (take_leaves core id r p) extensions (limits_in r)) here
+    ap (λ (p : Option IdRecord). opened (take_leaves core id r p) extensions (limits_in r)) here
     ∙ ap (λ (h : Option (List ℕ)). opened (dropped core id h) extensions (limits_in r)) t.goes.bare
     ∙ ap (λ (k : ℕ). opened (without core k) extensions (limits_in r)) t.zero
-    ∙ ap (λ (m : Places). record {
+    ∙ ap (λ (m : IdRecords). record {
       options = options;
       hello_sent = true;
       phase =
@@ -390,7 +390,7 @@ pub opened_idle : (options : SftpOptions) (extensions : Extensions) (new : Core)
     → new ≡ idle_core options (info_with extensions None options)
 opened_idle options extensions new leaves none =
     leaves ∙ ap (λ (b : Bool). if b then asked_core options extensions else opened (handed_out (fresh options)) extensions None) none
-    ∙ ap (λ (m : Places). record {
+    ∙ ap (λ (m : IdRecords). record {
       options = options;
       hello_sent = true;
       phase =
@@ -430,11 +430,11 @@ queried_wrong options extensions (Ok (Some id, r)) = by_id (0 == id) refl
         let zero : 0 ≡ id = grind (arith, nat_tests) in
         subst (λ (k : ℕ). or_else (wrong_at k r (at (handed_out (asked_core options extensions)) k)) (wrong_limits r)
         ≡ refuses_reply k r (awaited_at (queried 0) k)) zero
-        (ap (λ (p : Option Place). or_else (wrong_at 0 r p) (wrong_limits r)) (asked_here options extensions)
+        (ap (λ (p : Option IdRecord). or_else (wrong_at 0 r p) (wrong_limits r)) (asked_here options extensions)
         ∙ or_same (allows expected.Limits r) (take.InvalidResponse (Some 0)) (wrong_limits r))
     by_id false e =
         let apart : id ≢ 0 = grind (arith, nat_tests) in
-        ap (λ (p : Option Place). or_else (wrong_at id r p) (wrong_limits r)) (asked_else options extensions id apart)
+        ap (λ (p : Option IdRecord). or_else (wrong_at id r p) (wrong_limits r)) (asked_else options extensions id apart)
         ∙ ap (λ (b : Bool). refuses_reply id r (sent_at (queried 0) (still_open (answer (queried 0)) (if b then Some 0 else None)))) (sym e)
 
 -- what is refused by the core is refused by the journal
@@ -452,7 +452,7 @@ bare_refused e a b options version past = record {
     setting = setting_of [] (options i) (offered (version i)) (past i);
     phase = b.phase;
     version = version i;
-    stage = at_first b.past;
+    progress = at_first b.past;
     work = 0;
   };
   past = inl past;

@@ -29,21 +29,21 @@ use Rattle.session_driver.proofs.Stopping.{hello_refused, hello_unbegun, hello_u
 
 -- ---- what the opening leaves of a session
 
-opening_holds : (a b : Seen) (phase : Phase) (stage : RunProgress) → b ≡ record a { phase = phase; stage = stage; work = b.work } → KeepsMade a b
-opening_holds a b phase stage e = e ∙ (λ i. record a { phase = (sym e i).phase; stage = (sym e i).stage; work = b.work })
+opening_holds : (a b : Seen) (phase : Phase) (progress : RunProgress) → b ≡ record a { phase = phase; progress = progress; work = b.work } → KeepsMade a b
+opening_holds a b phase progress e = e ∙ (λ i. record a { phase = (sym e i).phase; progress = (sym e i).progress; work = b.work })
 
 pub greeted_holds : (a b : Seen) → IsGreeted a b → KeepsMade a b
-greeted_holds a b e = opening_holds a b Greeted a.stage e
+greeted_holds a b e = opening_holds a b Greeted a.progress e
 
 pub queried_holds : (a b : Seen) → IsQueried a b → KeepsMade a b
-queried_holds a b e = opening_holds a b Queried (record { past = entry.Event Send ∷ a.stage.past; begun = a.stage.begun }) e
+queried_holds a b e = opening_holds a b Queried (record { past = entry.Event Send ∷ a.progress.past; begun = a.progress.begun }) e
 
 -- nothing had happened, and nothing has but the hello
-none_yet : (a : Seen) → IsFresh a → a.stage.past ≡ []
+none_yet : (a : Seen) → IsFresh a → a.progress.past ≡ []
 none_yet a fresh = ap (λ (w : RunProgress). w.past) fresh.rest
 
-none_then : (a b : Seen) → IsFresh a → IsGreeted a b → b.stage.past ≡ []
-none_then a b fresh greeted = ap (λ (w : Seen). w.stage.past) greeted ∙ none_yet a fresh
+none_then : (a b : Seen) → IsFresh a → IsGreeted a b → b.progress.past ≡ []
+none_then a b fresh greeted = ap (λ (w : Seen). w.progress.past) greeted ∙ none_yet a fresh
 
 module _ {S : Type 0} where
   pub no_hello : (a b : Seen) (x : LinkView S) → IsFresh a → IsUnmoved a b → StoppedAtHello (at a x) (at b x) error.OutOfMemory
@@ -71,10 +71,10 @@ module _ {S : Type 0} where
       → IsFirst t (refuses_hello (reply_at body)) → HasRefused t b now → Told (GotAll bytes) y.log z.log
       → StoppedAtHello (at a x) (at now z) (error_of t)
   version_refused a b now x y z sent body bytes t u fresh greeted same by front framed short why left got = record {
-    ahead = sub (refused_ahead t b.stage.past now.stage.past left.past);
+    ahead = sub (refused_ahead t b.progress.past now.progress.past left.past);
     holds = holds_on a b now (greeted_holds a b greeted) left.holds;
     log = hello_refused z.ended t sent body bytes x.log y.log z.log same by.log front framed short why got;
   }
     where
-      sub : IsAhead (error_of t) b.stage.past now.stage.past → IsAhead (error_of t) [] now.stage.past
-      sub ahead = subst (λ (w : List Entry). IsAhead (error_of t) w now.stage.past) (none_then a b fresh greeted) ahead
+      sub : IsAhead (error_of t) b.progress.past now.progress.past → IsAhead (error_of t) [] now.progress.past
+      sub ahead = subst (λ (w : List Entry). IsAhead (error_of t) w now.progress.past) (none_then a b fresh greeted) ahead

@@ -21,7 +21,7 @@ pub stays_self : (a : Seen) → StaysInPhase a a
 stays_self a = refl
 
 pub stays_on : (a b c : Seen) → StaysInPhase a b → StaysInPhase b c → StaysInPhase a c
-stays_on a b c l m = m ∙ ap (λ (w : Seen). record w { stage = c.stage; work = c.work }) l
+stays_on a b c l m = m ∙ ap (λ (w : Seen). record w { progress = c.progress; work = c.work }) l
 
 pub setting_stays : (a b : Seen) → StaysInPhase a b → b.setting ≡ a.setting
 setting_stays a b l = ap (λ (w : Seen). w.setting) l
@@ -32,10 +32,10 @@ phase_stays a b l was = ap (λ (w : Seen). w.phase) l ∙ was
 pub stays_hold : (a b : Seen) → StaysInPhase a b → KeepsMade a b
 stays_hold a b l =
     let same = ap (λ (w : Seen). w.phase) l in
-    l ∙ (λ i. record a { phase = sym same i; stage = b.stage; work = b.work })
+    l ∙ (λ i. record a { phase = sym same i; progress = b.progress; work = b.work })
 
 pub holds_on : (a b c : Seen) → KeepsMade a b → KeepsMade b c → KeepsMade a c
-holds_on a b c l m = m ∙ ap (λ (w : Seen). record w { phase = c.phase; stage = c.stage; work = c.work }) l
+holds_on a b c l m = m ∙ ap (λ (w : Seen). record w { phase = c.phase; progress = c.progress; work = c.work }) l
 
 pub holds_self : (a : Seen) → KeepsMade a a
 holds_self a = refl
@@ -44,44 +44,44 @@ holds_self a = refl
 
 module _ {S : Type 0} where
   -- one part, and then another
-  pub went_on : {p q r : Part} {a b c : At S} → (p.whole a.seen.setting a.seen.stage b.seen.stage
-      → q.whole a.seen.setting b.seen.stage c.seen.stage → r.whole a.seen.setting a.seen.stage c.seen.stage)
+  pub went_on : {p q r : Part} {a b c : At S} → (p.whole a.seen.setting a.seen.progress b.seen.progress
+      → q.whole a.seen.setting b.seen.progress c.seen.progress → r.whole a.seen.setting a.seen.progress c.seen.progress)
       → RunsToEnd p a b → RunsToEnd q b c → RunsToEnd r a c
   went_on {p = p} {q = q} {r = r} {a = a} {b = b} {c = c} joins first second =
       let same = setting_stays a.seen b.seen first.stays in
       record {
-        whole = joins first.whole (subst (λ (s : Setting). q.whole s b.seen.stage c.seen.stage) same second.whole);
-        later = later_on a.seen.setting a.seen.stage.past b.seen.stage.past c.seen.stage.past first.later
-            (subst (λ (s : Setting). IsLater s b.seen.stage.past c.seen.stage.past) same second.later);
+        whole = joins first.whole (subst (λ (s : Setting). q.whole s b.seen.progress c.seen.progress) same second.whole);
+        later = later_on a.seen.setting a.seen.progress.past b.seen.progress.past c.seen.progress.past first.later
+            (subst (λ (s : Setting). IsLater s b.seen.progress.past c.seen.progress.past) same second.later);
         stays = stays_on a.seen b.seen c.seen first.stays second.stays;
-        log = keeps_on a.seen.stage.past b.seen.stage.past c.seen.stage.past a.link.log b.link.log c.link.log first.log second.log;
+        log = keeps_on a.seen.progress.past b.seen.progress.past c.seen.progress.past a.link.log b.link.log c.link.log first.log second.log;
         ready = second.ready;
       }
 
   -- one part, and then another that was stopped
   pub stopped_on : (p q r : Part) (a b c : At S) (e : Error) →
-      (p.whole a.seen.setting a.seen.stage b.seen.stage → (past : List Entry)
-      → q.so_far a.seen.setting b.seen.stage past → r.so_far a.seen.setting a.seen.stage past)
+      (p.whole a.seen.setting a.seen.progress b.seen.progress → (past : List Entry)
+      → q.so_far a.seen.setting b.seen.progress past → r.so_far a.seen.setting a.seen.progress past)
       → RunsToEnd p a b → Stopped q b c e → Stopped r a c e
   stopped_on p q r a b c e joins first second =
       let same = setting_stays a.seen b.seen first.stays in
       record {
         past = second.past;
         is = record {
-          later = later_on a.seen.setting a.seen.stage.past b.seen.stage.past second.past first.later
-              (subst (λ (s : Setting). IsLater s b.seen.stage.past second.past) same second.is.later);
+          later = later_on a.seen.setting a.seen.progress.past b.seen.progress.past second.past first.later
+              (subst (λ (s : Setting). IsLater s b.seen.progress.past second.past) same second.is.later);
           so_far = joins first.whole second.past
-              (subst (λ (s : Setting). q.so_far s b.seen.stage second.past) same second.is.so_far);
+              (subst (λ (s : Setting). q.so_far s b.seen.progress second.past) same second.is.so_far);
         };
         ahead = second.ahead;
         holds = holds_on a.seen b.seen c.seen (stays_hold a.seen b.seen first.stays) second.holds;
-        log = stops_behind c.link.ended e a.seen.stage.past b.seen.stage.past second.past a.link.log b.link.log c.link.log first.log second.log;
+        log = stops_behind c.link.ended e a.seen.progress.past b.seen.progress.past second.past a.link.log b.link.log c.link.log first.log second.log;
       }
 
   pub join : {p q r : Part} {a b c : At S} {x : Unit {0}} {result : Result (Unit {0}) Error}
-      → (p.whole a.seen.setting a.seen.stage b.seen.stage → q.whole a.seen.setting b.seen.stage c.seen.stage → r.whole a.seen.setting a.seen.stage c.seen.stage)
-      → (p.whole a.seen.setting a.seen.stage b.seen.stage → (past : List Entry)
-      → q.so_far a.seen.setting b.seen.stage past → r.so_far a.seen.setting a.seen.stage past)
+      → (p.whole a.seen.setting a.seen.progress b.seen.progress → q.whole a.seen.setting b.seen.progress c.seen.progress → r.whole a.seen.setting a.seen.progress c.seen.progress)
+      → (p.whole a.seen.setting a.seen.progress b.seen.progress → (past : List Entry)
+      → q.so_far a.seen.setting b.seen.progress past → r.so_far a.seen.setting a.seen.progress past)
       → Ongoing p a b (Ok x) → Ongoing q b c result → Ongoing r a c result
   join {p = p} {q = q} {r = r} {a = a} {b = b} {c = c} {x = x} {result = Ok y} whole so_far first second =
       record { went = went_on whole first.went second.went; stopped = tt; caused = caused_on a.link b.link c.link x (Ok y) first.caused second.caused }
@@ -94,7 +94,7 @@ module _ {S : Type 0} where
       }
 
   pub stopped_as : (p r : Part) (a b : At S) (e : Error) → ((past : List Entry)
-      → p.so_far a.seen.setting a.seen.stage past → r.so_far a.seen.setting a.seen.stage past) → Stopped p a b e
+      → p.so_far a.seen.setting a.seen.progress past → r.so_far a.seen.setting a.seen.progress past) → Stopped p a b e
       → Stopped r a b e
   stopped_as p r a b e so_far stopped =
       record {
@@ -107,8 +107,8 @@ module _ {S : Type 0} where
 
   -- a part that is a part of another
   pub as_part : {p r : Part} {a b : At S} {result : Result (Unit {0}) Error}
-      → (p.whole a.seen.setting a.seen.stage b.seen.stage → r.whole a.seen.setting a.seen.stage b.seen.stage)
-      → ((past : List Entry) → p.so_far a.seen.setting a.seen.stage past → r.so_far a.seen.setting a.seen.stage past)
+      → (p.whole a.seen.setting a.seen.progress b.seen.progress → r.whole a.seen.setting a.seen.progress b.seen.progress)
+      → ((past : List Entry) → p.so_far a.seen.setting a.seen.progress past → r.so_far a.seen.setting a.seen.progress past)
       → Ongoing p a b result → Ongoing r a b result
   as_part {p = p} {r = r} {a = a} {b = b} {result = Ok y} whole so_far part =
       let w = part.went in
@@ -117,15 +117,15 @@ module _ {S : Type 0} where
       record { went = tt; stopped = stopped_as p r a b e so_far part.stopped; caused = part.caused }
 
   -- nothing was moved over the link
-  pub quiet : (p : Part) (before now : Seen) (link : LinkView S) (x : Unit {0}) → p.whole before.setting before.stage now.stage → Continues before now
-      → ((log : List Piece) → KeepsTrace before.stage.past now.stage.past log log) → IsReady (at before link) → Ongoing p (at before link) (at now link) (Ok x)
+  pub quiet : (p : Part) (before now : Seen) (link : LinkView S) (x : Unit {0}) → p.whole before.setting before.progress now.progress → Continues before now
+      → ((log : List Piece) → KeepsTrace before.progress.past now.progress.past log log) → IsReady (at before link) → Ongoing p (at before link) (at now link) (Ok x)
   quiet p before now link x whole goes keeps ready =
       record {
         went = record {
           whole = whole;
           later = goes.later;
           stays = goes.stays;
-          log = keeps_quietly before.stage.past now.stage.past link.log keeps;
+          log = keeps_quietly before.progress.past now.progress.past link.log keeps;
           ready = record { is_open = phase_stays before now goes.stays ready.is_open; count = ready.count };
         };
         stopped = tt;
@@ -133,30 +133,30 @@ module _ {S : Type 0} where
       }
 
   -- there was nothing to do
-  pub idle : (p : Part) (seen : Seen) (link : LinkView S) (x : Unit {0}) → p.whole seen.setting seen.stage seen.stage
+  pub idle : (p : Part) (seen : Seen) (link : LinkView S) (x : Unit {0}) → p.whole seen.setting seen.progress seen.progress
       → IsReady (at seen link) → Ongoing p (at seen link) (at seen link) (Ok x)
   idle p seen link x whole ready =
-      quiet p seen seen link x whole (record { stays = refl; later = later_self seen.setting seen.stage.past }) (λ log hello first shown. shown) ready
+      quiet p seen seen link x whole (record { stays = refl; later = later_self seen.setting seen.progress.past }) (λ log hello first shown. shown) ready
 
   -- no memory was there to begin with it
-  pub stopped_here : (such : List Entry → Type 0) (before now : Seen) (link : LinkView S) → such before.stage.past → IsUnmoved before now
+  pub stopped_here : (such : List Entry → Type 0) (before now : Seen) (link : LinkView S) → such before.progress.past → IsUnmoved before now
       → StoppedAs such (at before link) (at now link) error.OutOfMemory
   stopped_here such before now link is left =
       record {
-        past = before.stage.past;
+        past = before.progress.past;
         is = is;
         ahead = even left.past;
         holds = left.holds;
-        log = stops_here link.ended before.stage.past link.log;
+        log = stops_here link.ended before.progress.past link.log;
       }
 
-  pub no_memory : (p : Part) (before now : Seen) (link : LinkView S) → p.so_far before.setting before.stage before.stage.past → IsUnmoved before now
+  pub no_memory : (p : Part) (before now : Seen) (link : LinkView S) → p.so_far before.setting before.progress before.progress.past → IsUnmoved before now
       → Ongoing p (at before link) (at now link) (Err error.OutOfMemory)
   no_memory p before now link nothing left =
       record {
         went = tt;
         stopped = stopped_here (MayStop p before) before now link
-            (record { later = later_self before.setting before.stage.past; so_far = nothing }) left;
+            (record { later = later_self before.setting before.progress.past; so_far = nothing }) left;
         caused = record { cause = refl; end = tt; only = tt; service = refl };
       }
 

@@ -31,7 +31,7 @@ use Rattle.session_driver.proofs.Rounds.{
 
 module _ {S : Type 0} where
   pub whole_join : {p q r : Part} {a b c : At S} {u v : Unit {0}}
-      → (p.whole a.seen.setting a.seen.stage b.seen.stage → q.whole a.seen.setting b.seen.stage c.seen.stage → r.whole a.seen.setting a.seen.stage c.seen.stage)
+      → (p.whole a.seen.setting a.seen.progress b.seen.progress → q.whole a.seen.setting b.seen.progress c.seen.progress → r.whole a.seen.setting a.seen.progress c.seen.progress)
       → Ongoing p a b (Ok u) → Ongoing q b c (Ok v) → Ongoing r a c (Ok tt)
   whole_join {a = a} {b = b} {c = c} {u = u} {v = v} whole first second =
       record {
@@ -43,8 +43,8 @@ module _ {S : Type 0} where
       }
 
   pub stop_join : {p q r : Part} {a b c : At S} {u : Unit {0}} {e : Error}
-      → (p.whole a.seen.setting a.seen.stage b.seen.stage → (past : List Entry)
-      → q.so_far a.seen.setting b.seen.stage past → r.so_far a.seen.setting a.seen.stage past)
+      → (p.whole a.seen.setting a.seen.progress b.seen.progress → (past : List Entry)
+      → q.so_far a.seen.setting b.seen.progress past → r.so_far a.seen.setting a.seen.progress past)
       → Ongoing p a b (Ok u) → Ongoing q b c (Err e) → Ongoing r a c (Err e)
   stop_join {p = p} {q = q} {r = r} {a = a} {b = b} {c = c} {u = u} {e = e} so_far first second =
       record {
@@ -54,8 +54,8 @@ module _ {S : Type 0} where
             caused_on a.link b.link c.link u (Err e) first.caused second.caused;
       }
 
-  whole_as : {p r : Part} {a b : At S} {u : Unit {0}} → (p.whole a.seen.setting a.seen.stage b.seen.stage
-      → r.whole a.seen.setting a.seen.stage b.seen.stage) → Ongoing p a b (Ok u) → Ongoing r a b (Ok tt)
+  whole_as : {p r : Part} {a b : At S} {u : Unit {0}} → (p.whole a.seen.setting a.seen.progress b.seen.progress
+      → r.whole a.seen.setting a.seen.progress b.seen.progress) → Ongoing p a b (Ok u) → Ongoing r a b (Ok tt)
   whole_as whole part =
       let w = part.went in
       record {
@@ -71,7 +71,7 @@ module _ {S : Type 0} where
       }
 
   pub stops_as : {p r : Part} {a b : At S} {e : Error} → ((past : List Entry)
-      → p.so_far a.seen.setting a.seen.stage past → r.so_far a.seen.setting a.seen.stage past) → Ongoing p a b (Err e)
+      → p.so_far a.seen.setting a.seen.progress past → r.so_far a.seen.setting a.seen.progress past) → Ongoing p a b (Err e)
       → Ongoing r a b (Err e)
   stops_as {p = p} {r = r} {a = a} {b = b} {e = e} so_far part =
       record { went = tt; stopped = stopped_as p r a b e so_far part.stopped; caused = part.caused }
@@ -89,54 +89,54 @@ module _ {S : Type 0} where
       ++ t ∷ [] → Ongoing (first_turns ts i) a b (Ok u) → Ongoing (turn_of t) b c (Ok v)
       → Ongoing (first_turns ts (i + 1)) a c (Ok tt)
   turns_next ts i t {a = a} {b = b} {c = c} cut first next = whole_join
-      (λ r q. turns_on a.seen.setting ts i t a.seen.stage b.seen.stage c.seen.stage cut r q) first next
+      (λ r q. turns_on a.seen.setting ts i t a.seen.progress b.seen.progress c.seen.progress cut r q) first next
 
   pub turns_fail : (ts : List Turn) (i : ℕ) (t : Turn) {a b c : At S} {u : Unit {0}} {e : Error} → take (i + 1) ts
       ≡ take i ts ++ t ∷ [] → Ongoing (first_turns ts i) a b (Ok u) → Ongoing (turn_of t) b c (Err e)
       → Ongoing (turns_of ts) a c (Err e)
   turns_fail ts i t {a = a} {b = b} cut first next = stop_join
-      (λ r past part. turns_stop a.seen.setting ts i t a.seen.stage b.seen.stage past cut r part) first next
+      (λ r past part. turns_stop a.seen.setting ts i t a.seen.progress b.seen.progress past cut r part) first next
 
   pub turns_done : (ts : List Turn) (i : ℕ) {a b : At S} {u : Unit {0}} → take i ts ≡ ts
       → Ongoing (first_turns ts i) a b (Ok u) → Ongoing (turns_of ts) a b (Ok tt)
-  turns_done ts i {a = a} {b = b} all part = whole_as (λ r. subst (λ (w : List Turn). (turns_of w).whole a.seen.setting a.seen.stage b.seen.stage) all r) part
+  turns_done ts i {a = a} {b = b} all part = whole_as (λ r. subst (λ (w : List Turn). (turns_of w).whole a.seen.setting a.seen.progress b.seen.progress) all r) part
 
   -- ---- rounds of a lane
 
-  left_by : (lane : ℕ) (p : Part) (a b : At S) (u : Unit {0}) → current b.seen.setting b.seen.stage.past lane ≢ None
-      → Ongoing p a b (Ok u) → current a.seen.setting b.seen.stage.past lane ≢ None
-  left_by lane p a b u left part = subst (λ (s : Setting). current s b.seen.stage.past lane ≢ None) (same_setting part) left
+  left_by : (lane : ℕ) (p : Part) (a b : At S) (u : Unit {0}) → current b.seen.setting b.seen.progress.past lane ≢ None
+      → Ongoing p a b (Ok u) → current a.seen.setting b.seen.progress.past lane ≢ None
+  left_by lane p a b u left part = subst (λ (s : Setting). current s b.seen.progress.past lane ≢ None) (same_setting part) left
 
   pub lane_begin : (lane : ℕ) (a : Seen) (x : LinkView S) → IsReady (at a x) → Ongoing (some_rounds lane) (at a x) (at a x) (Ok tt)
   lane_begin lane a x ready = idle (some_rounds lane) a x tt (record { rounds = 0; went = refl }) ready
 
-  pub lane_next : (lane : ℕ) {a b c : At S} {u v : Unit {0}} → current b.seen.setting b.seen.stage.past lane ≢ None
+  pub lane_next : (lane : ℕ) {a b c : At S} {u v : Unit {0}} → current b.seen.setting b.seen.progress.past lane ≢ None
       → Ongoing (some_rounds lane) a b (Ok u) → Ongoing (turns_of (round_of lane)) b c (Ok v)
       → Ongoing (some_rounds lane) a c (Ok tt)
   lane_next lane {a = a} {b = b} {c = c} {u = u} left first next =
-      whole_join (λ r q. some_rounds_more a.seen.setting lane a.seen.stage b.seen.stage c.seen.stage r
+      whole_join (λ r q. some_rounds_more a.seen.setting lane a.seen.progress b.seen.progress c.seen.progress r
       (left_by lane (some_rounds lane) a b u left first) q) first next
 
   pub lane_fail : (lane : ℕ) {a b c : At S} {u : Unit {0}} {e : Error}
-      → current b.seen.setting b.seen.stage.past lane ≢ None → Ongoing (some_rounds lane) a b (Ok u)
+      → current b.seen.setting b.seen.progress.past lane ≢ None → Ongoing (some_rounds lane) a b (Ok u)
       → Ongoing (turns_of (round_of lane)) b c (Err e) → Ongoing (lane_of lane) a c (Err e)
   lane_fail lane {a = a} {b = b} {u = u} left first next =
       stop_join (λ r past part. record {
         rounds = r.rounds;
-        mid = b.seen.stage;
+        mid = b.seen.progress;
         whole = r.went;
         left =
             left_by lane (some_rounds lane) a b u left first;
         part = part;
       }) first next
 
-  pub lane_done : (lane : ℕ) {a b : At S} {u : Unit {0}} → current b.seen.setting b.seen.stage.past lane ≡ None
+  pub lane_done : (lane : ℕ) {a b : At S} {u : Unit {0}} → current b.seen.setting b.seen.progress.past lane ≡ None
       → Ongoing (some_rounds lane) a b (Ok u) → Ongoing (lane_of lane) a b (Ok tt)
   lane_done lane {b = b} none part = whole_as (λ r. record {
     rounds = r.rounds;
     went = r.went;
     done =
-        subst (λ (s : Setting). current s b.seen.stage.past lane ≡ None) (same_setting part) none;
+        subst (λ (s : Setting). current s b.seen.progress.past lane ≡ None) (same_setting part) none;
   }) part
 
   -- ---- rounds of each lane
@@ -147,15 +147,15 @@ module _ {S : Type 0} where
   pub ends_next : (lane : ℕ) {a b c : At S} {u v : Unit {0}} → Ongoing (first_ends lane) a b (Ok u)
       → Ongoing (lane_of lane) b c (Ok v) → Ongoing (first_ends (lane + 1)) a c (Ok tt)
   ends_next lane {a = a} {b = b} {c = c} first next = whole_join
-      (λ r q. ends_more a.seen.setting lane q.rounds a.seen.stage b.seen.stage c.seen.stage r q.went q.done) first next
+      (λ r q. ends_more a.seen.setting lane q.rounds a.seen.progress b.seen.progress c.seen.progress r q.went q.done) first next
 
   pub ends_fail : (lane : ℕ) {a b c : At S} {u : Unit {0}} {e : Error} → lane < length a.seen.setting.lanes
       → Ongoing (first_ends lane) a b (Ok u) → Ongoing (lane_of lane) b c (Err e) → Ongoing lanes_end a c (Err e)
   ends_fail lane {b = b} there first next = stop_join (λ r past part. record
-      { lane = lane; mid = b.seen.stage; there = there; whole = r; part = part }) first next
+      { lane = lane; mid = b.seen.progress; there = there; whole = r; part = part }) first next
 
   pub ends_done : (n : ℕ) {a b : At S} {u : Unit {0}} → n ≡ length a.seen.setting.lanes → Ongoing (first_ends n) a b (Ok u) → Ongoing lanes_end a b (Ok tt)
-  ends_done n {a = a} {b = b} all part = whole_as (λ r. subst (λ (k : ℕ). EndsTo a.seen.setting k a.seen.stage b.seen.stage) all r) part
+  ends_done n {a = a} {b = b} all part = whole_as (λ r. subst (λ (k : ℕ). EndsTo a.seen.setting k a.seen.progress b.seen.progress) all r) part
 
   -- ---- the letting go of each lane
 
@@ -164,45 +164,45 @@ module _ {S : Type 0} where
 
   pub go_next : (lane : ℕ) {a b c : At S} {u v : Unit {0}} → Ongoing (first_go lane) a b (Ok u)
       → Ongoing (let_go_of lane) b c (Ok v) → Ongoing (first_go (lane + 1)) a c (Ok tt)
-  go_next lane {a = a} {b = b} {c = c} first next = whole_join (λ r q. lets_go_more a.seen.setting lane a.seen.stage b.seen.stage c.seen.stage r q) first next
+  go_next lane {a = a} {b = b} {c = c} first next = whole_join (λ r q. lets_go_more a.seen.setting lane a.seen.progress b.seen.progress c.seen.progress r q) first next
 
   pub go_fail : (lane : ℕ) {a b c : At S} {u : Unit {0}} {e : Error} → lane < length a.seen.setting.lanes
       → Ongoing (first_go lane) a b (Ok u) → Ongoing (let_go_of lane) b c (Err e) → Ongoing lanes_go a c (Err e)
   go_fail lane {b = b} there first next = stop_join (λ r past part. record
-      { lane = lane; mid = b.seen.stage; there = there; whole = r; part = part }) first next
+      { lane = lane; mid = b.seen.progress; there = there; whole = r; part = part }) first next
 
   pub go_all : (n : ℕ) {a b : At S} {u : Unit {0}} → n ≡ length a.seen.setting.lanes → Ongoing (first_go n) a b (Ok u) → Ongoing lanes_go a b (Ok tt)
-  go_all n {a = a} {b = b} all part = whole_as (λ r. subst (λ (k : ℕ). LetsGoTo a.seen.setting k a.seen.stage b.seen.stage) all r) part
+  go_all n {a = a} {b = b} all part = whole_as (λ r. subst (λ (k : ℕ). LetsGoTo a.seen.setting k a.seen.progress b.seen.progress) all r) part
 
   pub go_there : (lane : ℕ) {a b : At S} {u : Unit {0}} → lane < length a.seen.setting.lanes
       → Ongoing (first_go lane) a b (Ok u) → lane < length b.seen.setting.lanes
   go_there lane there part = subst (λ (s : Setting). lane < length s.lanes) (sym (same_setting part)) there
 
-  pub go_idle : (lane : ℕ) {a b : At S} {u : Unit {0}} (k : ℕ) → current a.seen.setting a.seen.stage.past k ≡ None
-      → Ongoing (first_go lane) a b (Ok u) → current b.seen.setting b.seen.stage.past k ≡ None
-  go_idle lane {a = a} {b = b} k none part = subst (λ (s : Setting). current s b.seen.stage.past k ≡ None)
-      (sym (same_setting part)) (go_done a.seen.setting lane a.seen.stage b.seen.stage part.went.whole k none)
+  pub go_idle : (lane : ℕ) {a b : At S} {u : Unit {0}} (k : ℕ) → current a.seen.setting a.seen.progress.past k ≡ None
+      → Ongoing (first_go lane) a b (Ok u) → current b.seen.setting b.seen.progress.past k ≡ None
+  go_idle lane {a = a} {b = b} k none part = subst (λ (s : Setting). current s b.seen.progress.past k ≡ None)
+      (sym (same_setting part)) (go_done a.seen.setting lane a.seen.progress b.seen.progress part.went.whole k none)
 
-  pub go_held : (lane : ℕ) {a b : At S} {u : Unit {0}} → was_let_go a.seen.stage.past lane ≡ false
-      → Ongoing (first_go lane) a b (Ok u) → was_let_go b.seen.stage.past lane ≡ false
-  go_held lane {a = a} {b = b} held part = go_holds a.seen.setting lane a.seen.stage b.seen.stage part.went.whole lane (omega arith) held
+  pub go_held : (lane : ℕ) {a b : At S} {u : Unit {0}} → was_let_go a.seen.progress.past lane ≡ false
+      → Ongoing (first_go lane) a b (Ok u) → was_let_go b.seen.progress.past lane ≡ false
+  go_held lane {a = a} {b = b} held part = go_holds a.seen.setting lane a.seen.progress b.seen.progress part.went.whole lane (omega arith) held
 
   -- ---- the last replies
 
   pub drains_begin : (a : Seen) (x : LinkView S) → IsReady (at a x) → Ongoing some_drains (at a x) (at a x) (Ok tt)
   drains_begin a x ready = idle some_drains a x tt (record { drains = 0; went = refl }) ready
 
-  pub drains_next : {a b c : At S} {u v : Unit {0}} → 0 < unanswered b.seen.stage.past → Ongoing some_drains a b (Ok u)
+  pub drains_next : {a b c : At S} {u v : Unit {0}} → 0 < unanswered b.seen.progress.past → Ongoing some_drains a b (Ok u)
       → Ongoing (turns_of drain_of) b c (Ok v) → Ongoing some_drains a c (Ok tt)
   drains_next {a = a} {b = b} {c = c} some first next = whole_join
-      (λ r q. some_drains_more a.seen.setting a.seen.stage b.seen.stage c.seen.stage r some q) first next
+      (λ r q. some_drains_more a.seen.setting a.seen.progress b.seen.progress c.seen.progress r some q) first next
 
-  pub drains_fail : {a b c : At S} {u : Unit {0}} {e : Error} → 0 < unanswered b.seen.stage.past
+  pub drains_fail : {a b c : At S} {u : Unit {0}} {e : Error} → 0 < unanswered b.seen.progress.past
       → Ongoing some_drains a b (Ok u) → Ongoing (turns_of drain_of) b c (Err e) → Ongoing draining a c (Err e)
   drains_fail {b = b} some first next = stop_join (λ r past part. record
-      { drains = r.drains; mid = b.seen.stage; whole = r.went; left = some; part = part }) first next
+      { drains = r.drains; mid = b.seen.progress; whole = r.went; left = some; part = part }) first next
 
-  pub drains_done : {a b : At S} {u : Unit {0}} → unanswered b.seen.stage.past ≡ 0 → Ongoing some_drains a b (Ok u) → Ongoing draining a b (Ok tt)
+  pub drains_done : {a b : At S} {u : Unit {0}} → unanswered b.seen.progress.past ≡ 0 → Ongoing some_drains a b (Ok u) → Ongoing draining a b (Ok tt)
   drains_done none part = whole_as (λ r. record { drains = r.drains; went = r.went; answered = none }) part
 
   -- ---- turns in a row
@@ -214,8 +214,8 @@ module _ {S : Type 0} where
   -- the first of them went on, and then come the others
   pub first_then : (t : Turn) (ts : List Turn) {a b c : At S} {u : Unit {0}} {result : Result (Unit {0}) Error}
       → Ongoing (turn_of t) a b (Ok u) → Ongoing (turns_of ts) b c result → Ongoing (turns_of (t ∷ ts)) a c result
-  first_then t ts {a = a} {b = b} {c = c} first rest = join (λ r q. (b.seen.stage, (r, q))) (λ r past part. inr (b.seen.stage, (r, part))) first rest
+  first_then t ts {a = a} {b = b} {c = c} first rest = join (λ r q. (b.seen.progress, (r, q))) (λ r past part. inr (b.seen.progress, (r, part))) first rest
 
   -- the last of them
   pub last_is : (t : Turn) {a b : At S} {result : Result (Unit {0}) Error} → Ongoing (turn_of t) a b result → Ongoing (turns_of (t ∷ [])) a b result
-  last_is t {b = b} part = as_part (λ r. (b.seen.stage, (r, refl))) (λ past so_far. inl so_far) part
+  last_is t {b = b} part = as_part (λ r. (b.seen.progress, (r, refl))) (λ past so_far. inl so_far) part

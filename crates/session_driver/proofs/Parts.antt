@@ -52,24 +52,24 @@ use Rattle.session_driver.proofs.Joining.{quiet, idle, join, as_part, went_of, p
 later_same : (s : Setting) (before now : RunProgress) → now ≡ before → IsLater s before.past now.past
 later_same s before now same = subst (λ (w : RunProgress). IsLater s before.past w.past) (sym same) (later_self s before.past)
 
-pub flush_none : {S : Type 0} (a now : Seen) (x : LinkView S) (u : Unit {0}) → HandsOut a.setting a.stage None now.stage
+pub flush_none : {S : Type 0} (a now : Seen) (x : LinkView S) (u : Unit {0}) → HandsOut a.setting a.progress None now.progress
     → StaysInPhase a now → IsReady (at a x) → Ongoing flushing (at a x) (at now x) (Ok u)
 flush_none a now x u out stays ready =
     quiet flushing a now x u (match_false _ _ _ out.0 out.1) (record
-    { stays = stays; later = later_same a.setting a.stage now.stage out.1 }) (same_keep a.stage now.stage out.1)
+    { stays = stays; later = later_same a.setting a.progress now.progress out.1 }) (same_keep a.progress now.progress out.1)
     ready
 
 pub flush_sent : {S : Type 0} (a mid now : Seen) (x y : LinkView S) (sent bytes : List ℕ) (v u : Unit {0})
-    → IsReady (at a x) → HandsOut a.setting a.stage (Some bytes) mid.stage → StaysInPhase a mid → now ≡ mid → sent ≡ bytes
+    → IsReady (at a x) → HandsOut a.setting a.progress (Some bytes) mid.progress → StaysInPhase a mid → now ≡ mid → sent ≡ bytes
     → SentBy sent x y (Ok v) → Ongoing flushing (at a x) (at now y) (Ok u)
 flush_sent a mid now x y sent bytes v u ready out stays is same by =
     subst (λ (w : Seen). Ongoing flushing (at a x) (at w y) (Ok u)) (sym is)
     (record {
       went = record {
         whole = match_true _ _ _ out.0 (out.2, out.3);
-        later = subst (λ (w : RunProgress). IsLater a.setting a.stage.past w.past) (sym out.2) (inr (out.4, later_self a.setting a.stage.past));
+        later = subst (λ (w : RunProgress). IsLater a.setting a.progress.past w.past) (sym out.2) (inr (out.4, later_self a.setting a.progress.past));
         stays = stays;
-        log = keeps_sent a.stage.past mid.stage.past sent x.log y.log (ap (λ (w : RunProgress). w.past) out.2) (same ∙ out.1) by.log;
+        log = keeps_sent a.progress.past mid.progress.past sent x.log y.log (ap (λ (w : RunProgress). w.past) out.2) (same ∙ out.1) by.log;
         ready = record { is_open = phase_stays a mid stays ready.is_open; count = subst (λ (n : ℕ). n < 2 ^ 64 - 1) (sym by.caused.cause) ready.count };
       };
       stopped = tt;
@@ -77,17 +77,17 @@ flush_sent a mid now x y sent bytes v u ready out stays is same by =
     })
 
 pub flush_unsent : {S : Type 0} (a now : Seen) (x y : LinkView S) (sent bytes : List ℕ) (e : Error)
-    → HandsOut a.setting a.stage (Some bytes) now.stage → StaysInPhase a now → sent ≡ bytes
+    → HandsOut a.setting a.progress (Some bytes) now.progress → StaysInPhase a now → sent ≡ bytes
     → SentBy {T = Unit {0}} sent x y (Err e) → Ongoing flushing (at a x) (at now y) (Err e)
 flush_unsent a now x y sent bytes e out stays same by =
     record {
       went = tt;
       stopped = record {
-        past = a.stage.past;
-        is = record { later = later_self a.setting a.stage.past; so_far = refl };
+        past = a.progress.past;
+        is = record { later = later_self a.setting a.progress.past; so_far = refl };
         ahead = by_send by.log.0 (ap (λ (w : RunProgress). w.past) out.2);
         holds = stays_hold a now stays;
-        log = sent_here y.ended e a.stage.past sent x.log y.log (same ∙ out.1) by.log.0 by.log.1;
+        log = sent_here y.ended e a.progress.past sent x.log y.log (same ∙ out.1) by.log.0 by.log.1;
       };
       caused = by.caused;
     }
@@ -129,11 +129,11 @@ abbrev pub stepping : ℕ → Stepped → Part
 stepping lane event = record { whole = λ s a b. StepsTo s lane a b (move_of s a.past lane) event; so_far = Nothing }
 
 pub stepped_on : {S : Type 0} (lane : ℕ) (event : Stepped) (a b : Seen) (x : LinkView S)
-    → StepsTo a.setting lane a.stage b.stage (move_of a.setting a.stage.past lane) event → Continues a b
+    → StepsTo a.setting lane a.progress b.progress (move_of a.setting a.progress.past lane) event → Continues a b
     → IsReady (at a x)
     → Ongoing (stepping lane event) (at a x) (at b x) (Ok tt)
 stepped_on lane event a b x t goes ready = quiet (stepping lane event) a b x tt t goes
-    (step_keeps a.setting lane a.stage b.stage (move_of a.setting a.stage.past lane) event t) ready
+    (step_keeps a.setting lane a.progress b.progress (move_of a.setting a.progress.past lane) event t) ready
 
 pub half_step : (s : Setting) (lane : ℕ) (event : Stepped) (a b : RunProgress)
     → StepsTo s lane a b (move_of s a.past lane) event → (past : List Entry) → past ≡ b.past
@@ -167,28 +167,28 @@ cancels_nothing s lane a b at true event is t = (let e = t.0 in absurd cc)
 cancels_nothing s lane a b at false event is t = t.1
 
 -- the lanes that were begun, but this one
-abbrev ended_stage : ℕ → RunProgress → RunProgress
-ended_stage lane a = record { past = a.past; begun = begun_but a.begun lane }
+abbrev ended_progress : ℕ → RunProgress → RunProgress
+ended_progress lane a = record { past = a.past; begun = begun_but a.begun lane }
 
 abbrev pub cancelling : ℕ → Bool → Part
 cancelling lane event = record { whole = λ s a b. CancelsCall s lane a b event; so_far = Nothing }
 
 pub cancelled_on : {S : Type 0} (lane : ℕ) (event : Bool) (a b : Seen) (x : LinkView S)
-    → CancelsCall a.setting lane a.stage b.stage event → Continues a b → IsReady (at a x)
+    → CancelsCall a.setting lane a.progress b.progress event → Continues a b → IsReady (at a x)
     → Ongoing (cancelling lane event) (at a x) (at b x) (Ok tt)
-cancelled_on lane event a b x t goes ready = quiet (cancelling lane event) a b x tt t goes (cancel_keeps a.setting lane a.stage b.stage event t) ready
+cancelled_on lane event a b x t goes ready = quiet (cancelling lane event) a b x tt t goes (cancel_keeps a.setting lane a.progress b.progress event t) ready
 
 pub cancel_settles : (s : Setting) (lane : ℕ) (event : Bool) (a b c : RunProgress) → event ≡ true → CancelsCall s lane a b event
     → Settled s b c → TurnTo s (turn.Cancel lane) a c
-cancel_settles s lane event a b c is t settled = cancels_settle s lane a b c (ended_stage lane a) _ event is t settled
+cancel_settles s lane event a b c is t settled = cancels_settle s lane a b c (ended_progress lane a) _ event is t settled
 
 pub cancel_nothing : (s : Setting) (lane : ℕ) (event : Bool) (a b : RunProgress) → event ≡ false → CancelsCall s lane a b event → TurnTo s (turn.Cancel lane) a b
-cancel_nothing s lane event a b is t = cancels_nothing s lane a b (ended_stage lane a) _ event is t
+cancel_nothing s lane event a b is t = cancels_nothing s lane a b (ended_progress lane a) _ event is t
 
 pub half_cancel : (s : Setting) (lane : ℕ) (event : Bool) (a b : RunProgress) → CancelsCall s lane a b event → (past : List Entry)
     → past ≡ b.past → TurnSoFar s (turn.Cancel lane) a past
 half_cancel s lane event a b t past is =
-    inr (record { now = b; event = cancels_by s lane a b (ended_stage lane a) _ event t; is = sym is })
+    inr (record { now = b; event = cancels_by s lane a b (ended_progress lane a) _ event t; is = sym is })
 
 -- ---- a take
 
@@ -196,7 +196,7 @@ abbrev pub taking : List ℕ → Part
 taking body = record { whole = λ s a b. (nat_lt 0 (awaited a.past) ≡ true) × TakesAndSettles s (reply_at body) a b; so_far = Nothing }
 
 pub taken_on : {S R : Type 0} (a b : Seen) (x y : LinkView S) (r : R) (body bytes : List ℕ) → IsReady (at a x)
-    → nat_lt 0 (awaited a.stage.past) ≡ true → TakesAndSettles a.setting (reply_at body) a.stage b.stage → Continues a b
+    → nat_lt 0 (awaited a.progress.past) ≡ true → TakesAndSettles a.setting (reply_at body) a.progress b.progress → Continues a b
     → bytes ≡ string body → length body ≤ 1048575 → Told (GotAll bytes) x.log y.log → Caused x y (Ok r) → Ongoing (taking body) (at a x) (at b y) (Ok tt)
 taken_on a b x y r body bytes ready some t goes framed short got caused =
     record {
@@ -204,7 +204,7 @@ taken_on a b x y r body bytes ready some t goes framed short got caused =
         whole = (some, t);
         later = goes.later;
         stays = goes.stays;
-        log = keeps_taken a.setting a.stage b.stage body bytes x.log y.log t framed short got;
+        log = keeps_taken a.setting a.progress b.progress body bytes x.log y.log t framed short got;
         ready = record { is_open = phase_stays a b goes.stays ready.is_open; count = subst (λ (n : ℕ). n < 2 ^ 64 - 1) (sym caused.cause) ready.count };
       };
       stopped = tt;
@@ -225,7 +225,7 @@ pub take_nothing : (s : Setting) (a : RunProgress) → nat_lt 0 (awaited a.past)
 take_nothing s a none = match_false _ _ _ none refl
 
 -- no frame came
-pub unread : {S R : Type 0} (a : Seen) (x y : LinkView S) (e : Error) → 0 < awaited a.stage.past
+pub unread : {S R : Type 0} (a : Seen) (x y : LinkView S) (e : Error) → 0 < awaited a.progress.past
     → Told (ReadFails e) x.log y.log → Caused {T = R} x y (Err e)
     → Ongoing (turn_of turn.Take) (at a x) (at a y) (Err e)
 unread a x y e some fails caused =
@@ -233,29 +233,29 @@ unread a x y e some fails caused =
     record {
       went = tt;
       stopped = record {
-        past = a.stage.past;
-        is = record { later = later_self a.setting a.stage.past; so_far = inl refl };
+        past = a.progress.past;
+        is = record { later = later_self a.setting a.progress.past; so_far = inl refl };
         ahead = even refl;
         holds = holds_self a;
-        log = unread_here y.ended e a.stage.past x.log y.log some why.end fails;
+        log = unread_here y.ended e a.progress.past x.log y.log some why.end fails;
       };
       caused = why;
     }
 
 -- a frame came that is refused
 pub refused_take : {S R : Type 0} (a now : Seen) (x y : LinkView S) (r : R) (t : TakeError) (body bytes : List ℕ)
-    → 0 < awaited a.stage.past → IsFramePrefix bytes → bytes ≡ string body → length body ≤ 1048575
-    → IsFirst t (refuses a.stage.past (reply_at body)) → HasRefused t a now → Told (GotAll bytes) x.log y.log → Caused x y (Ok r)
+    → 0 < awaited a.progress.past → IsFramePrefix bytes → bytes ≡ string body → length body ≤ 1048575
+    → IsFirst t (refuses a.progress.past (reply_at body)) → HasRefused t a now → Told (GotAll bytes) x.log y.log → Caused x y (Ok r)
     → Ongoing (turn_of turn.Take) (at a x) (at now y) (Err (error_of t))
 refused_take a now x y r t body bytes some front framed short why left got caused =
     record {
       went = tt;
       stopped = record {
-        past = a.stage.past;
-        is = record { later = later_self a.setting a.stage.past; so_far = inl refl };
-        ahead = refused_ahead t a.stage.past now.stage.past left.past;
+        past = a.progress.past;
+        is = record { later = later_self a.setting a.progress.past; so_far = inl refl };
+        ahead = refused_ahead t a.progress.past now.progress.past left.past;
         holds = left.holds;
-        log = refused_here y.ended t a.stage.past body bytes x.log y.log some front framed short why got;
+        log = refused_here y.ended t a.progress.past body bytes x.log y.log some front framed short why got;
       };
       caused = error_causes x y r t caused;
     }
@@ -265,12 +265,12 @@ refused_take a now x y r t body bytes some front framed short why left got cause
 abbrev pub letting_go : ℕ → Part
 letting_go lane = record { whole = λ s a b. (b.begun ≡ a.begun) × SettlesTo s (entry.LetGo lane ∷ a.past) b.past; so_far = Nothing }
 
-pub let_go_on : {S : Type 0} (lane : ℕ) (a b : Seen) (x : LinkView S) → LetsGo a.setting lane a.stage b.stage
+pub let_go_on : {S : Type 0} (lane : ℕ) (a b : Seen) (x : LinkView S) → LetsGo a.setting lane a.progress b.progress
     → lane < length a.setting.lanes → Continues a b → IsReady (at a x)
     → Ongoing (letting_go lane) (at a x) (at b x) (Ok tt)
 let_go_on lane a b x t there goes ready =
-    let l = lets_go a.setting lane a.stage b.stage t there in
-    quiet (letting_go lane) a b x tt l goes (let_go_keeps a.setting lane a.stage.past b.stage.past l.1) ready
+    let l = lets_go a.setting lane a.progress b.progress t there in
+    quiet (letting_go lane) a b x tt l goes (let_go_keeps a.setting lane a.progress.past b.progress.past l.1) ready
 
 pub let_go_settles : (s : Setting) (lane : ℕ) (a b c : RunProgress) → (b.begun ≡ a.begun)
     × SettlesTo s (entry.LetGo lane ∷ a.past) b.past → Settled s b c → LetGoTo s lane a c
@@ -284,72 +284,72 @@ half_let_go s lane a b t past is = inr (subst (λ (p : List Entry). SettlesTo s 
 
 -- too much was unsent, and it was flushed
 pub settle_full : {S : Type 0} {a b : At S} {result : Result (Unit {0}) Error}
-    → is_full a.seen.setting a.seen.stage.past ≡ true → Ongoing flushing a b result → Ongoing settling a b result
+    → is_full a.seen.setting a.seen.progress.past ≡ true → Ongoing flushing a b result → Ongoing settling a b result
 settle_full {a = a} {b = b} full part =
     as_part (λ f. record {
-      begun = full_begun a.seen.setting a.seen.stage b.seen.stage f;
+      begun = full_begun a.seen.setting a.seen.progress b.seen.progress f;
       sends =
-          full_sends a.seen.setting a.seen.stage b.seen.stage full f;
+          full_sends a.seen.setting a.seen.progress b.seen.progress full f;
     }) (λ past nothing. nothing) part
 
 -- no more was unsent than may be
-pub settle_none : {S : Type 0} (a : Seen) (x : LinkView S) → is_full a.setting a.stage.past ≡ false → IsReady (at a x)
+pub settle_none : {S : Type 0} (a : Seen) (x : LinkView S) → is_full a.setting a.progress.past ≡ false → IsReady (at a x)
     → Ongoing settling (at a x) (at a x) (Ok tt)
 settle_none a x none ready = idle settling a x tt (record { begun = refl; sends = match_false _ _ _ none refl }) ready
 
 pub flush_is : {S : Type 0} {a b : At S} {result : Result (Unit {0}) Error} → Ongoing flushing a b result → Ongoing (turn_of turn.Flush) a b result
-flush_is {a = a} {b = b} part = as_part (λ f. flush_turns a.seen.setting a.seen.stage b.seen.stage f) (λ past nothing. inl nothing) part
+flush_is {a = a} {b = b} part = as_part (λ f. flush_turns a.seen.setting a.seen.progress b.seen.progress f) (λ past nothing. inl nothing) part
 
 pub flush_leaves : {S : Type 0} {a b : At S} {result : Result (Unit {0}) Error} → Ongoing flushing a b result
-    → OnOk result (0 < unanswered a.seen.stage.past → 0 < awaited b.seen.stage.past)
-flush_leaves {a = a} {b = b} part = went_of _ part (λ went. flush_awaits a.seen.setting a.seen.stage b.seen.stage went.whole)
+    → OnOk result (0 < unanswered a.seen.progress.past → 0 < awaited b.seen.progress.past)
+flush_leaves {a = a} {b = b} part = went_of _ part (λ went. flush_awaits a.seen.setting a.seen.progress b.seen.progress went.whole)
 
 -- a step was no event
 pub step_none : {S : Type 0} (lane : ℕ) (event : Stepped) (a b : Seen) (x : LinkView S) → event ≡ stepped.Nothing
-    → StepsTo a.setting lane a.stage b.stage (move_of a.setting a.stage.past lane) event → Continues a b
+    → StepsTo a.setting lane a.progress b.progress (move_of a.setting a.progress.past lane) event → Continues a b
     → IsReady (at a x)
     → Ongoing (turn_of (turn.Step lane)) (at a x) (at b x) (Ok tt)
 step_none lane event a b x none t goes ready =
-    as_part (λ u. steps_nothing a.setting lane a.stage b.stage (move_of a.setting a.stage.past lane) event none u)
+    as_part (λ u. steps_nothing a.setting lane a.progress b.progress (move_of a.setting a.progress.past lane) event none u)
     (λ past nothing. inl nothing) (stepped_on lane event a b x t goes ready)
 
 -- a step was an event, and was settled
 pub step_is : {S : Type 0} (lane : ℕ) (event : Stepped) (a b : Seen) (x : LinkView S) {c : At S}
     {result : Result (Unit {0}) Error} → event ≢ stepped.Nothing
-    → StepsTo a.setting lane a.stage b.stage (move_of a.setting a.stage.past lane) event → Continues a b
+    → StepsTo a.setting lane a.progress b.progress (move_of a.setting a.progress.past lane) event → Continues a b
     → IsReady (at a x)
     → Ongoing settling (at b x) c result → Ongoing (turn_of (turn.Step lane)) (at a x) c result
 step_is lane event a b x {c = c} some t goes ready settled =
-    join (λ u v. steps_settle a.setting lane a.stage b.stage c.seen.stage (move_of a.setting a.stage.past lane) event
-    some u v) (λ u. half_step a.setting lane event a.stage b.stage u) (stepped_on lane event a b x t goes ready)
+    join (λ u v. steps_settle a.setting lane a.progress b.progress c.seen.progress (move_of a.setting a.progress.past lane) event
+    some u v) (λ u. half_step a.setting lane event a.progress b.progress u) (stepped_on lane event a b x t goes ready)
     settled
 
 pub cancel_none : {S : Type 0} (lane : ℕ) (event : Bool) (a b : Seen) (x : LinkView S) → event ≡ false
-    → CancelsCall a.setting lane a.stage b.stage event → Continues a b → IsReady (at a x)
+    → CancelsCall a.setting lane a.progress b.progress event → Continues a b → IsReady (at a x)
     → Ongoing (turn_of (turn.Cancel lane)) (at a x) (at b x) (Ok tt)
-cancel_none lane event a b x is t goes ready = as_part (λ u. cancel_nothing a.setting lane event a.stage b.stage is u)
+cancel_none lane event a b x is t goes ready = as_part (λ u. cancel_nothing a.setting lane event a.progress b.progress is u)
     (λ past nothing. inl nothing) (cancelled_on lane event a b x t goes ready)
 
 pub cancel_is : {S : Type 0} (lane : ℕ) (event : Bool) (a b : Seen) (x : LinkView S) {c : At S}
-    {result : Result (Unit {0}) Error} → event ≡ true → CancelsCall a.setting lane a.stage b.stage event → Continues a b
+    {result : Result (Unit {0}) Error} → event ≡ true → CancelsCall a.setting lane a.progress b.progress event → Continues a b
     → IsReady (at a x)
     → Ongoing settling (at b x) c result → Ongoing (turn_of (turn.Cancel lane)) (at a x) c result
 cancel_is lane event a b x {c = c} is t goes ready settled =
-    join (λ u v. cancel_settles a.setting lane event a.stage b.stage c.seen.stage is u v)
-    (λ u. half_cancel a.setting lane event a.stage b.stage u) (cancelled_on lane event a b x t goes ready) settled
+    join (λ u v. cancel_settles a.setting lane event a.progress b.progress c.seen.progress is u v)
+    (λ u. half_cancel a.setting lane event a.progress b.progress u) (cancelled_on lane event a b x t goes ready) settled
 
-pub take_none : {S : Type 0} (a : Seen) (x : LinkView S) → nat_lt 0 (awaited a.stage.past) ≡ false → IsReady (at a x)
+pub take_none : {S : Type 0} (a : Seen) (x : LinkView S) → nat_lt 0 (awaited a.progress.past) ≡ false → IsReady (at a x)
     → Ongoing (turn_of turn.Take) (at a x) (at a x) (Ok tt)
-take_none a x none ready = idle (turn_of turn.Take) a x tt (take_nothing a.setting a.stage none) ready
+take_none a x none ready = idle (turn_of turn.Take) a x tt (take_nothing a.setting a.progress none) ready
 
 pub take_is : {S : Type 0} (body : List ℕ) {a b c : At S} {result : Result (Unit {0}) Error}
     → Ongoing (taking body) a b (Ok tt) → Ongoing settling b c result → Ongoing (turn_of turn.Take) a c result
 take_is body {a = a} {b = b} {c = c} taken settled =
-    join (λ u v. take_settles a.seen.setting body a.seen.stage b.seen.stage c.seen.stage u v)
-    (λ u. half_take a.seen.setting body a.seen.stage b.seen.stage u) taken settled
+    join (λ u v. take_settles a.seen.setting body a.seen.progress b.seen.progress c.seen.progress u v)
+    (λ u. half_take a.seen.setting body a.seen.progress b.seen.progress u) taken settled
 
 pub let_go_is : {S : Type 0} (lane : ℕ) {a b c : At S} {result : Result (Unit {0}) Error}
     → Ongoing (letting_go lane) a b (Ok tt) → Ongoing settling b c result → Ongoing (let_go_of lane) a c result
 let_go_is lane {a = a} {b = b} {c = c} gone settled =
-    join (λ u v. let_go_settles a.seen.setting lane a.seen.stage b.seen.stage c.seen.stage u v)
-    (λ u. half_let_go a.seen.setting lane a.seen.stage b.seen.stage u) gone settled
+    join (λ u v. let_go_settles a.seen.setting lane a.seen.progress b.seen.progress c.seen.progress u v)
+    (λ u. half_let_go a.seen.setting lane a.seen.progress b.seen.progress u) gone settled

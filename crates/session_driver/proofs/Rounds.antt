@@ -166,7 +166,7 @@ some_rounds_more s lane a b c r left q = record { rounds = suc r.rounds; went = 
 pub some_drains_more : (s : Setting) (a b c : RunProgress) → SomeDrains s a b → 0 < unanswered b.past → TurnsTo s drain_of b c → SomeDrains s a c
 some_drains_more s a b c r some q = record { drains = suc r.drains; went = drains_more s r.drains a b c r.went some q }
 
--- a stage without a begun lane
+-- progress without a begun lane
 pub begins_at_first : (a : RunProgress) → a.begun ≡ at_rest.begun → a ≡ at_first a.past
 begins_at_first a none = λ i. record { past = a.past; begun = none i }
 

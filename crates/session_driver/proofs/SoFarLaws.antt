@@ -80,8 +80,8 @@ both a b c x y = (y.0 ++ x.0, y.1 ∙ ap (λ (w : List Entry). y.0 ++ w) x.1 ∙
 after_one : (e : Entry) (past now : List Entry) → Extends (e ∷ past) now → Extends past now
 after_one e past now x = both past (e ∷ past) now (one_more e past) x
 
-same_stage : (before now : RunProgress) → now ≡ before → Extends before.past now.past
-same_stage before now is = same before.past now.past (ap (λ (w : RunProgress). w.past) is)
+same_progress : (before now : RunProgress) → now ≡ before → Extends before.past now.past
+same_progress before now is = same before.past now.past (ap (λ (w : RunProgress). w.past) is)
 
 by_closes : (s : Setting) (before now : List Entry) → ClosesTo s before now → Extends before now
 by_closes s before [] c = ([], sym c)
@@ -102,20 +102,20 @@ by_rules s before now t = both before t.0 now (by_settling s before t.0 t.1.0) (
 
 module _ (Follows : List Entry → List Entry → Type 0) (grows : (before now : List Entry) → Follows before now → Extends before now) where
   by_move : (lane : ℕ) (a b : RunProgress) (m : Option Move) → MovesBy Follows lane a b m → Extends a.past b.past
-  by_move lane a b None t = same_stage a b t
+  by_move lane a b None t = same_progress a b t
   by_move lane a b (Some (Wait place)) t = same a.past b.past (ap (λ (w : RunProgress). w.past) t)
   by_move lane a b (Some (Ask r)) t = after_one (entry.Event (Submit (owner.Call lane (ended a.past lane)) t.1.0 r)) a.past b.past (grows _ b.past t.1.1.1)
   by_move lane a b (Some (Done o site)) t = after_one (entry.Event (End lane (ended a.past lane) o)) a.past b.past (grows _ b.past t.1)
 
   by_flush : (a b : RunProgress) (some : Bool) → MatchBool some ((b.begun ≡ a.begun) × Follows (entry.Event Send ∷ a.past) b.past) (b ≡ a) → Extends a.past b.past
   by_flush a b true t = after_one (entry.Event Send) a.past b.past (grows _ b.past t.1)
-  by_flush a b false t = same_stage a b t
+  by_flush a b false t = same_progress a b t
 
   by_take : (a b : RunProgress) (some : Bool)
       → MatchBool some ((b.begun ≡ a.begun) × ((id : ℕ) × ((r : Reply)
       × (MayTake a.past id r × Follows (entry.Event (Take id r) ∷ a.past) b.past)))) (b ≡ a) → Extends a.past b.past
   by_take a b true t = after_one (entry.Event (Take t.1.0 t.1.1.0)) a.past b.past (grows _ b.past t.1.1.1.1)
-  by_take a b false t = same_stage a b t
+  by_take a b false t = same_progress a b t
 
   by_cancel : (lane : ℕ) (a b at : RunProgress) (some : Bool)
       → MatchBool some ((b.begun ≡ at.begun) × Follows (cancelled_end (entry.Event (Cancel lane) ∷ a.past) lane ∷
@@ -124,7 +124,7 @@ module _ (Follows : List Entry → List Entry → Type 0) (grows : (before now :
       after_one (entry.Event (Cancel lane)) a.past b.past (after_one
       (cancelled_end (entry.Event (Cancel lane) ∷ a.past) lane) (entry.Event (Cancel lane) ∷ a.past) b.past
       (grows _ b.past t.1))
-  by_cancel lane a b at false t = same_stage a b t
+  by_cancel lane a b at false t = same_progress a b t
 
   by_turn_by : (s : Setting) (t : Turn) (a b : RunProgress) → TurnBy Follows s t a b → Extends a.past b.past
   by_turn_by s (turn.Step lane) a b t = by_move lane a b (move_of s a.past lane) t
@@ -139,26 +139,26 @@ by_turn s turn.Take a b t = by_turn_by (RulesTo s) (by_rules s) s turn.Take a b 
 by_turn s (turn.Cancel lane) a b t = by_turn_by (RulesTo s) (by_rules s) s (turn.Cancel lane) a b t
 
 by_turns : (s : Setting) (ts : List Turn) (a b : RunProgress) → TurnsTo s ts a b → Extends a.past b.past
-by_turns s [] a b t = same_stage a b t
+by_turns s [] a b t = same_progress a b t
 by_turns s (u ∷ ts) a b t = both a.past t.0.past b.past (by_turn s u a t.0 t.1.0) (by_turns s ts t.0 b t.1.1)
 
 -- ---- parts that are whole
 
 by_rounds : (s : Setting) (lane n : ℕ) (a b : RunProgress) → RoundsTo s lane n a b → Extends a.past b.past
-by_rounds s lane zero a b t = same_stage a b t
+by_rounds s lane zero a b t = same_progress a b t
 by_rounds s lane (suc n) a b t = both a.past t.1.0.past b.past (by_turns s (round_of lane) a t.1.0 t.1.1.0) (by_rounds s lane n t.1.0 b t.1.1.1)
 
 by_ends : (s : Setting) (n : ℕ) (a b : RunProgress) → EndsTo s n a b → Extends a.past b.past
-by_ends s zero a b t = same_stage a b t
+by_ends s zero a b t = same_progress a b t
 by_ends s (suc lane) a b t = both a.past t.0.past b.past (by_ends s lane a t.0 t.1.0) (by_rounds s lane t.1.1.0 t.0 b t.1.1.1)
 
 by_letting_go : (s : Setting) (n : ℕ) (a b : RunProgress) → LetsGoTo s n a b → Extends a.past b.past
-by_letting_go s zero a b t = same_stage a b t
+by_letting_go s zero a b t = same_progress a b t
 by_letting_go s (suc lane) a b t = both a.past t.0.past b.past (by_letting_go s lane a t.0 t.1.0)
     (after_one (entry.LetGo lane) t.0.past b.past (by_rules s (entry.LetGo lane ∷ t.0.past) b.past t.1.1.1))
 
 by_drains : (s : Setting) (n : ℕ) (a b : RunProgress) → DrainsTo s n a b → Extends a.past b.past
-by_drains s zero a b t = same_stage a b t
+by_drains s zero a b t = same_progress a b t
 by_drains s (suc n) a b t = both a.past t.1.0.past b.past (by_turns s drain_of a t.1.0 t.1.1.0) (by_drains s n t.1.0 b t.1.1.1)
 
 -- ---- parts that were stopped

@@ -55,89 +55,89 @@ from_first s schedule a b none turns = subst (λ (w : RunProgress). TurnsTo s sc
 
 module _ {S : Type 0} where
   pub turns_stopped : (schedule : List Turn) {a b : At S} {e : Error} → Ongoing (turns_of schedule) a b (Err e) → Ongoing (run_on schedule) a b (Err e)
-  turns_stopped schedule {a = a} {b = b} part = stops_as (λ past so_far opens none. in_turns a.seen.stage.past opens
+  turns_stopped schedule {a = a} {b = b} part = stops_as (λ past so_far opens none. in_turns a.seen.progress.past opens
       (by_first schedule a past none so_far)) part
     where
-      by_first : (schedule : List Turn) (a : At S) (past : List Entry) → a.seen.stage.begun ≡ at_rest.begun
-          → (turns_of schedule).so_far a.seen.setting a.seen.stage past
-          → (turns_of schedule).so_far a.seen.setting (at_first a.seen.stage.past) past
-      by_first schedule a past none so_far = subst (λ (w : RunProgress). (turns_of schedule).so_far a.seen.setting w past) (begins_at_first a.seen.stage none) so_far
+      by_first : (schedule : List Turn) (a : At S) (past : List Entry) → a.seen.progress.begun ≡ at_rest.begun
+          → (turns_of schedule).so_far a.seen.setting a.seen.progress past
+          → (turns_of schedule).so_far a.seen.setting (at_first a.seen.progress.past) past
+      by_first schedule a past none so_far = subst (λ (w : RunProgress). (turns_of schedule).so_far a.seen.setting w past) (begins_at_first a.seen.progress none) so_far
 
   pub ends_stopped : (schedule : List Turn) {a b c : At S} {u : Unit {0}} {e : Error}
       → Ongoing (turns_of schedule) a b (Ok u) → Ongoing lanes_end b c (Err e) → Ongoing (run_on schedule) a c (Err e)
   ends_stopped schedule {a = a} {b = b} turned part =
-      stop_join (λ r past so_far opens none. in_rounds a.seen.stage.past b.seen.stage opens
-      (from_first a.seen.setting schedule a.seen.stage b.seen.stage none r) so_far) turned part
+      stop_join (λ r past so_far opens none. in_rounds a.seen.progress.past b.seen.progress opens
+      (from_first a.seen.setting schedule a.seen.progress b.seen.progress none r) so_far) turned part
 
   pub ended_on : (schedule : List Turn) {a b c : At S} {u v : Unit {0}} → Ongoing (turns_of schedule) a b (Ok u)
       → Ongoing lanes_end b c (Ok v) → Ongoing (to_ends schedule) a c (Ok tt)
-  ended_on schedule {b = b} turned part = whole_join (λ r q. record { turned = b.seen.stage; turns = r; ends = q }) turned part
+  ended_on schedule {b = b} turned part = whole_join (λ r q. record { turned = b.seen.progress; turns = r; ends = q }) turned part
 
   pub go_stopped : (schedule : List Turn) {a b c : At S} {u : Unit {0}} {e : Error}
       → Ongoing (to_ends schedule) a b (Ok u) → Ongoing lanes_go b c (Err e) → Ongoing (run_on schedule) a c (Err e)
   go_stopped schedule {a = a} {b = b} ended part =
-      stop_join (λ r past so_far opens none. in_letting_go a.seen.stage.past r.turned b.seen.stage opens
-      (from_first a.seen.setting schedule a.seen.stage r.turned none r.turns) r.ends so_far) ended part
+      stop_join (λ r past so_far opens none. in_letting_go a.seen.progress.past r.turned b.seen.progress opens
+      (from_first a.seen.setting schedule a.seen.progress r.turned none r.turns) r.ends so_far) ended part
 
   pub gone_on : (schedule : List Turn) {a b c : At S} {u v : Unit {0}} → Ongoing (to_ends schedule) a b (Ok u)
       → Ongoing lanes_go b c (Ok v) → Ongoing (to_gone schedule) a c (Ok tt)
-  gone_on schedule {b = b} ended part = whole_join (λ r q. record { ended = b.seen.stage; first = r; goes = q }) ended part
+  gone_on schedule {b = b} ended part = whole_join (λ r q. record { ended = b.seen.progress; first = r; goes = q }) ended part
 
   pub run_is : (schedule : List Turn) {a b c : At S} {u : Unit {0}} {result : Result (Unit {0}) Error}
       → Ongoing (to_gone schedule) a b (Ok u) → Ongoing draining b c result → Ongoing (run_on schedule) a c result
   run_is schedule {a = a} {b = b} {c = c} gone part =
       join
-      (λ r q opens none. is_run a.seen.setting schedule a.seen.stage r.first.turned r.ended b.seen.stage c.seen.stage
+      (λ r q opens none. is_run a.seen.setting schedule a.seen.progress r.first.turned r.ended b.seen.progress c.seen.progress
       opens none r.first.turns r.first.ends r.goes (q.drains, q.went) q.answered)
-      (λ r past so_far opens none. in_drains a.seen.stage.past r.first.turned r.ended b.seen.stage opens
-      (from_first a.seen.setting schedule a.seen.stage r.first.turned none r.first.turns) r.first.ends r.goes
+      (λ r past so_far opens none. in_drains a.seen.progress.past r.first.turned r.ended b.seen.progress opens
+      (from_first a.seen.setting schedule a.seen.progress r.first.turned none r.first.turns) r.first.ends r.goes
       so_far)
       gone part
 
   -- where rounds have ended, no lane has a call, and none was let go
   pub all_done : (schedule : List Turn) {a b : At S} {u : Unit {0}} → Ongoing (to_ends schedule) a b (Ok u) → (k : ℕ)
-      → k < length b.seen.setting.lanes → current b.seen.setting b.seen.stage.past k ≡ None
+      → k < length b.seen.setting.lanes → current b.seen.setting b.seen.progress.past k ≡ None
   all_done schedule {a = a} {b = b} ended k lt =
       let same = same_setting ended in
       let r = ended.went.whole in
-      subst (λ (s : Setting). current s b.seen.stage.past k ≡ None) (sym same)
-      (ended_done a.seen.setting (length a.seen.setting.lanes) r.turned b.seen.stage r.ends k (subst (λ (s : Setting). k < length s.lanes) same lt))
+      subst (λ (s : Setting). current s b.seen.progress.past k ≡ None) (sym same)
+      (ended_done a.seen.setting (length a.seen.setting.lanes) r.turned b.seen.progress r.ends k (subst (λ (s : Setting). k < length s.lanes) same lt))
 
-  pub all_held : (schedule : List Turn) {a b : At S} {u : Unit {0}} → OpensSession a.seen.setting.limits a.seen.stage.past
-      → Ongoing (to_ends schedule) a b (Ok u) → (k : ℕ) → was_let_go b.seen.stage.past k ≡ false
+  pub all_held : (schedule : List Turn) {a b : At S} {u : Unit {0}} → OpensSession a.seen.setting.limits a.seen.progress.past
+      → Ongoing (to_ends schedule) a b (Ok u) → (k : ℕ) → was_let_go b.seen.progress.past k ≡ false
   all_held schedule {a = a} {b = b} opens ended k =
       let r = ended.went.whole in
-      held_on a.seen.setting schedule (length a.seen.setting.lanes) a.seen.stage r.turned b.seen.stage r.turns r.ends k
-      (opened_holds a.seen.setting.limits a.seen.stage.past opens k)
+      held_on a.seen.setting schedule (length a.seen.setting.lanes) a.seen.progress r.turned b.seen.progress r.turns r.ends k
+      (opened_holds a.seen.setting.limits a.seen.progress.past opens k)
 
   -- ---- what the caller is told
 
   run_told : (given : Given) (schedule : List Turn) (x : Option _) {a c : At S} {u : Unit {0}} → IsOpened given a.seen
-      → Told (Showing a.seen.version a.seen.stage.past) x a.link.log → Ongoing (run_on schedule) a c (Ok u)
+      → Told (Showing a.seen.version a.seen.progress.past) x a.link.log → Ongoing (run_on schedule) a c (Ok u)
       → HasRun given schedule c.seen x c.link.log
   run_told given schedule x {a = a} {c = c} opened shows run = record {
-    run = subst (λ (s : Setting). IsRun s schedule c.seen.stage.past) (sym (same_setting run)) (run.went.whole opened.opens opened.begun);
-    fixed = subst (λ (w : Seen). IsFixed given w.version c.seen.stage.past w.setting) (sym run.went.stays)
-        (still_fixed given a.seen.version a.seen.stage.past c.seen.stage.past a.seen.setting opened.fixed opened.opens run.went.later);
-    shows = shows_on a.seen.version c.seen.version a.seen.stage.past c.seen.stage.past x a.link.log c.link.log
+    run = subst (λ (s : Setting). IsRun s schedule c.seen.progress.past) (sym (same_setting run)) (run.went.whole opened.opens opened.begun);
+    fixed = subst (λ (w : Seen). IsFixed given w.version c.seen.progress.past w.setting) (sym run.went.stays)
+        (still_fixed given a.seen.version a.seen.progress.past c.seen.progress.past a.seen.setting opened.fixed opened.opens run.went.later);
+    shows = shows_on a.seen.version c.seen.version a.seen.progress.past c.seen.progress.past x a.link.log c.link.log
         (ap (λ (w : Seen). w.version) run.went.stays) shows run.went.log;
   }
 
   -- where it was opened, and then stopped
   left_on : (schedule : List Turn) (before : At S) {a c : At S} (e : Error) → IsOpened before.seen.given a.seen
-      → Told (Showing a.seen.version a.seen.stage.past) before.link.log a.link.log → Stopped (run_on schedule) a c e
+      → Told (Showing a.seen.version a.seen.progress.past) before.link.log a.link.log → Stopped (run_on schedule) a c e
       → StoppedOpen (λ s. RunSoFar s schedule) before c e
   left_on schedule before {a = a} {c = c} e opened shows stopped = record {
     past = stopped.past;
     is = subst (λ (w : Seen). RunSoFar w.setting schedule stopped.past) (sym stopped.holds)
         (stopped.is.so_far opened.opens opened.begun);
     so_far = subst (λ (w : Seen). IsSoFar before.seen.given w.version w.setting stopped.past) (sym stopped.holds) (
-      later_on a.seen.setting [] a.seen.stage.past stopped.past opened.later stopped.is.later,
-      still_fixed before.seen.given a.seen.version a.seen.stage.past stopped.past a.seen.setting opened.fixed opened.opens stopped.is.later,
+      later_on a.seen.setting [] a.seen.progress.past stopped.past opened.later stopped.is.later,
+      still_fixed before.seen.given a.seen.version a.seen.progress.past stopped.past a.seen.setting opened.fixed opened.opens stopped.is.later,
     );
     same = ap (λ (w : Seen). w.given) stopped.holds ∙ opened.same;
     ahead = stopped.ahead;
-    log = shown_stop a.seen.version c.seen.version a.seen.stage.past stopped.past c.link.ended e before.link.log a.link.log c.link.log
+    log = shown_stop a.seen.version c.seen.version a.seen.progress.past stopped.past c.link.ended e before.link.log a.link.log c.link.log
         (ap (λ (w : Seen). w.version) stopped.holds) shows stopped.log;
   }
 
@@ -164,7 +164,7 @@ module _ {S : Type 0} where
 
   -- a session was opened, and then its lanes ran, or it stopped
   pub drives : (schedule : List Turn) (before : At S) {a c : At S} {u : Unit {0}} {result : Result (Unit {0}) Error}
-      → IsOpened before.seen.given a.seen → Told (Showing a.seen.version a.seen.stage.past) before.link.log a.link.log
+      → IsOpened before.seen.given a.seen → Told (Showing a.seen.version a.seen.progress.past) before.link.log a.link.log
       → Caused before.link a.link (Ok u) → Ongoing (run_on schedule) a c result → Drives schedule before c result
   drives schedule before {a = a} {c = c} {u = u} {result = Ok v} opened shows caused run = record {
     run = run_told before.seen.given schedule before.link.log opened shows run;

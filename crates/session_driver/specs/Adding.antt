@@ -20,7 +20,7 @@ with_call lanes lane call = slice_set lanes lane (record { calls = calls_of (sli
 pub record MayAdd (lane : ℕ) (call : Call) (seen : Seen) (calls : List Lane) : Type 0 where
   pub opened : seen.phase ≡ Open
   pub there : lane < length calls
-  pub held : was_let_go seen.stage.past lane ≡ false
+  pub held : was_let_go seen.progress.past lane ≡ false
   pub ok : are_ok (with_call calls lane call) ≡ true
 
 -- the call's entry is the newest of the journal
@@ -30,7 +30,7 @@ added_to before lane call = record { past = entry.Added lane call ∷ before.pas
 -- the call was added, and nothing else has changed
 pub record AddsTo (lane : ℕ) (call : Call) (before now : Seen) : Type 0 where
   pub goes : Continues before now
-  pub is : now.stage ≡ added_to before.stage lane call
+  pub is : now.progress ≡ added_to before.progress lane call
 
 -- a call is added to a lane, and then come rounds of the lane until it has no call left
 abbrev pub call_of : ℕ → Call → Part

@@ -45,9 +45,9 @@ Showing (Some hello) past before after = Shows hello past before after
 -- it.
 pub record HasRun (given : Given) (schedule : List Turn) (now : Seen) (before after : Option (List Piece)) : Type 0
   where
-    pub run : IsRun now.setting schedule now.stage.past
-    pub fixed : IsFixed given now.version now.stage.past now.setting
-    pub shows : Told (Showing now.version now.stage.past) before after
+    pub run : IsRun now.setting schedule now.progress.past
+    pub fixed : IsFixed given now.version now.progress.past now.setting
+    pub shows : Told (Showing now.version now.progress.past) before after
 
 -- ---- parts
 

@@ -50,7 +50,7 @@ seen_in b = record {
   setting = setting_in b;
   phase = b.phase;
   version = b.version;
-  stage =
+  progress =
       at_first b.past;
   work = 0;
 }

@@ -127,16 +127,16 @@ draining = record { whole = Drained; so_far = DrainsSoFar }
 -- A part went on to its end: the journal by that part alone, and the link's log shows it, where it showed the journal
 -- before.
 pub record RunsToEnd {Service : Type 0} (p : Part) (before now : At Service) : Type 0 where
-  pub whole : p.whole before.seen.setting before.seen.stage now.seen.stage
-  pub later : IsLater before.seen.setting before.seen.stage.past now.seen.stage.past
+  pub whole : p.whole before.seen.setting before.seen.progress now.seen.progress
+  pub later : IsLater before.seen.setting before.seen.progress.past now.seen.progress.past
   pub stays : StaysInPhase before.seen now.seen
-  pub log : Told (KeepsTrace before.seen.stage.past now.seen.stage.past) before.link.log now.link.log
+  pub log : Told (KeepsTrace before.seen.progress.past now.seen.progress.past) before.link.log now.link.log
   pub ready : IsReady now
 
 -- what the journal may be where a part was stopped
 pub record MayStop (p : Part) (before : Seen) (past : List Entry) : Type 0 where
-  pub later : IsLater before.setting before.stage.past past
-  pub so_far : p.so_far before.setting before.stage past
+  pub later : IsLater before.setting before.progress.past past
+  pub so_far : p.so_far before.setting before.progress past
 
 -- Something was stopped: such a journal has come so far, the link's log shows it, and what comes after it tells why.
 -- The session's journal is that one, or one entry ahead of it, and the rest of the session is as it was.
@@ -144,9 +144,9 @@ pub record StoppedAs {Service : Type 0} (such : List Entry → Type 0) (before n
   where
     pub past : List Entry
     pub is : such past
-    pub ahead : IsAhead e past now.seen.stage.past
+    pub ahead : IsAhead e past now.seen.progress.past
     pub holds : KeepsMade before.seen now.seen
-    pub log : Told (StopsAt past now.link.ended e before.seen.stage.past) before.link.log now.link.log
+    pub log : Told (StopsAt past now.link.ended e before.seen.progress.past) before.link.log now.link.log
 
 -- a part was stopped
 abbrev pub Stopped : {Service : Type 0} → Part → At Service → At Service → Error → Type 0
@@ -169,7 +169,7 @@ pub record MayAsk (before : Seen) (past : List Entry) : Type 0 where
 
 -- VERSION was not taken: the log shows a part of the hello, or the hello and what came then
 pub record StoppedAtHello {Service : Type 0} (before now : At Service) (e : Error) : Type 0 where
-  pub ahead : IsAhead e [] now.seen.stage.past
+  pub ahead : IsAhead e [] now.seen.progress.past
   pub holds : KeepsMade before.seen now.seen
   pub log : Told (HelloStops now.link.ended e) before.link.log now.link.log
 
@@ -186,7 +186,7 @@ pub record StoppedOpen {Service : Type 0} (such : Setting → List Entry → Typ
   pub is : such now.seen.setting past
   pub so_far : IsSoFar before.seen.given now.seen.version now.seen.setting past
   pub same : now.seen.given ≡ before.seen.given
-  pub ahead : IsAhead e past now.seen.stage.past
+  pub ahead : IsAhead e past now.seen.progress.past
   pub log : Told (StopsShown now.seen.version past now.link.ended e) before.link.log now.link.log
 
 -- a session was stopped

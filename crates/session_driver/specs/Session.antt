@@ -63,7 +63,7 @@ pub record Seen : Type 0 where
   pub setting : Setting
   pub phase : Phase
   pub version : Option Reply
-  pub stage : RunProgress
+  pub progress : RunProgress
   pub work : ℕ
 
 -- nothing has happened
@@ -73,7 +73,7 @@ at_rest = at_first []
 -- a session whose hello stands in the queue
 pub record IsFresh (now : Seen) : Type 0 where
   pub fresh : now.phase ≡ Fresh
-  pub rest : now.stage ≡ at_rest
+  pub rest : now.progress ≡ at_rest
 
 -- ---- how journals go on
 
@@ -104,10 +104,10 @@ pub record IsWelcomed (given : Given) (asks : Bool) (now : Seen) : Type 0 where
   pub extensions : Extensions
   pub told : now.version ≡ Some (greeting extensions)
   pub asked : asks ≡ offers_limits extensions
-  pub begins : BeginsWithQuery asks now.phase now.stage.past
-  pub begun : now.stage.begun ≡ at_rest.begun
-  pub later : IsLater now.setting [] now.stage.past
-  pub fixed : IsFixed given now.version now.stage.past now.setting
+  pub begins : BeginsWithQuery asks now.phase now.progress.past
+  pub begun : now.progress.begun ≡ at_rest.begun
+  pub later : IsLater now.setting [] now.progress.past
+  pub fixed : IsFixed given now.version now.progress.past now.setting
   pub same : now.given ≡ given
 
 -- a body is VERSION 3, and it was taken
@@ -125,11 +125,11 @@ TakesLimitsReply body_reads before now =
 -- the session was opened
 pub record IsOpened (given : Given) (now : Seen) : Type 0 where
   pub same : now.given ≡ given
-  pub fixed : IsFixed given now.version now.stage.past now.setting
-  pub opens : OpensSession now.setting.limits now.stage.past
-  pub later : IsLater now.setting [] now.stage.past
+  pub fixed : IsFixed given now.version now.progress.past now.setting
+  pub opens : OpensSession now.setting.limits now.progress.past
+  pub later : IsLater now.setting [] now.progress.past
   pub is_open : now.phase ≡ Open
-  pub begun : now.stage.begun ≡ at_rest.begun
+  pub begun : now.progress.begun ≡ at_rest.begun
 
 -- the limits were asked for, and the session was opened
 pub record OpensOn (before now : Seen) : Type 0 where
@@ -138,11 +138,11 @@ pub record OpensOn (before now : Seen) : Type 0 where
 
 -- a body is the reply to the query for limits, it was taken, and the session goes by it
 pub record Limited (body_reads : Result (Option ℕ × Reply) FrameError) (before now : Seen) : Type 0 where
-  pub tells : TakesLimitsReply body_reads before.stage.past now.stage.past
+  pub tells : TakesLimitsReply body_reads before.progress.past now.progress.past
   pub is_open : now.phase ≡ Open
-  pub begun : now.stage.begun ≡ before.stage.begun
-  pub later : IsLater now.setting [] now.stage.past
-  pub fixed : IsFixed now.given now.version now.stage.past now.setting
+  pub begun : now.progress.begun ≡ before.progress.begun
+  pub later : IsLater now.setting [] now.progress.past
+  pub fixed : IsFixed now.given now.version now.progress.past now.setting
 
 -- the hello was handed out
 abbrev pub IsGreeted : Seen → Seen → Type 0
@@ -152,8 +152,8 @@ IsGreeted before now = now ≡ record before { phase = Greeted; work = now.work 
 abbrev pub queried_with : Seen → ℕ → Seen
 queried_with before work = record before {
   phase = Queried;
-  stage =
-      record { past = entry.Event Send ∷ before.stage.past; begun = before.stage.begun };
+  progress =
+      record { past = entry.Event Send ∷ before.progress.past; begun = before.progress.begun };
   work = work;
 }
 
@@ -162,26 +162,26 @@ IsQueried before now = now ≡ queried_with before now.work
 
 -- what the session was made of, what its lanes go by, and VERSION are what they were, also after a refusal
 abbrev pub KeepsMade : Seen → Seen → Type 0
-KeepsMade before now = now ≡ record before { phase = now.phase; stage = now.stage; work = now.work }
+KeepsMade before now = now ≡ record before { phase = now.phase; progress = now.progress; work = now.work }
 
 -- a call was refused for want of memory: also the journal is as before
 pub record IsUnmoved (before now : Seen) : Type 0 where
   pub holds : KeepsMade before now
-  pub past : now.stage.past ≡ before.stage.past
+  pub past : now.progress.past ≡ before.progress.past
 
 -- a frame was refused: the journal is as before, or has the fault that was kept
 pub record HasRefused (e : TakeError) (before now : Seen) : Type 0 where
   pub holds : KeepsMade before now
-  pub past : Notes e before.stage.past now.stage.past
+  pub past : Notes e before.progress.past now.progress.past
 
 -- only the journal went on, and what is left to do may be less
 abbrev pub StaysInPhase : Seen → Seen → Type 0
-StaysInPhase before now = now ≡ record before { stage = now.stage; work = now.work }
+StaysInPhase before now = now ≡ record before { progress = now.progress; work = now.work }
 
 -- only the journal went on, by entries that may come next
 pub record Continues (before now : Seen) : Type 0 where
   pub stays : StaysInPhase before now
-  pub later : IsLater before.setting before.stage.past now.stage.past
+  pub later : IsLater before.setting before.progress.past now.progress.past
 
 -- ---- calls of an open session
 
@@ -251,5 +251,5 @@ Flushed s before now =
 -- a lane was moved, or it has no call left, or something is unanswered
 abbrev pub Progresses : ℕ → Seen → Seen → Type 0
 Progresses lane before now =
-    (now.work < before.work) ⊎ ((now.work ≤ before.work) × (current before.setting before.stage.past lane ≢ None
-    → 0 < unanswered now.stage.past))
+    (now.work < before.work) ⊎ ((now.work ≤ before.work) × (current before.setting before.progress.past lane ≢ None
+    → 0 < unanswered now.progress.past))

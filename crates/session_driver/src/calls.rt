@@ -39,7 +39,7 @@ pub fn run_call<X: AddsCalls, L: Link>(
 ) -> Result<(), Error>
     requires ready { IsReady (at (X.RunsLanes.seen session.old) (L.LinkState.state link.old)) }
     requires there { lane < length (X.calls session.old) }
-    requires held { was_let_go (X.RunsLanes.seen session.old).stage.past lane ≡ false }
+    requires held { was_let_go (X.RunsLanes.seen session.old).progress.past lane ≡ false }
     requires ok { are_ok (with_call (X.calls session.old) lane call) ≡ true }
     ensures ongoing { Ongoing (call_of lane call) (at (X.RunsLanes.seen session.old) (L.LinkState.state link.old)) (at (X.RunsLanes.seen session.new) (L.LinkState.state link.new)) result }
 {

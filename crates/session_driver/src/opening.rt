@@ -18,7 +18,7 @@ fn greet<X: RunsLanes, L: Link>(alloc: Global, session: &mut X, link: &mut L) ->
     requires fresh { IsFresh (X.seen session.old) }
     requires count { (L.LinkState.state link.old).faults < 2 ^ 64 - 1 }
     ensures welcomed { IfOk result (λ asks. IsWelcomed (X.seen session.old).given asks (X.seen session.new)) }
-    ensures log { OnOk result (Told (Showing (X.seen session.new).version (X.seen session.new).stage.past) (L.LinkState.state link.old).log (L.LinkState.state link.new).log) }
+    ensures log { OnOk result (Told (Showing (X.seen session.new).version (X.seen session.new).progress.past) (L.LinkState.state link.old).log (L.LinkState.state link.new).log) }
     ensures stops { IfErr result (StoppedAtHello (at (X.seen session.old) (L.LinkState.state link.old)) (at (X.seen session.new) (L.LinkState.state link.new))) }
     ensures caused { Caused (L.LinkState.state link.old) (L.LinkState.state link.new) result }
 {
@@ -47,7 +47,7 @@ fn ask_limits<X: RunsLanes, L: Link>(
     requires welcomed { IsWelcomed (X.seen session.old).given true (X.seen session.old) }
     requires count { (L.LinkState.state link.old).faults < 2 ^ 64 - 1 }
     ensures opens { OnOk result (OpensOn (X.seen session.old) (X.seen session.new)) }
-    ensures log { OnOk result (Told (KeepsTrace (X.seen session.old).stage.past (X.seen session.new).stage.past) (L.LinkState.state link.old).log (L.LinkState.state link.new).log) }
+    ensures log { OnOk result (Told (KeepsTrace (X.seen session.old).progress.past (X.seen session.new).progress.past) (L.LinkState.state link.old).log (L.LinkState.state link.new).log) }
     ensures stops { IfErr result (StoppedAs (MayAsk (X.seen session.old)) (at (X.seen session.old) (L.LinkState.state link.old)) (at (X.seen session.new) (L.LinkState.state link.new))) }
     ensures caused { Caused (L.LinkState.state link.old) (L.LinkState.state link.new) result }
 {
@@ -76,7 +76,7 @@ pub fn open<X: RunsLanes, L: Link>(
     requires fresh { IsFresh (X.seen session.old) }
     requires count { (L.LinkState.state link.old).faults < 2 ^ 64 - 1 }
     ensures opened { OnOk result (IsOpened (X.seen session.old).given (X.seen session.new)) }
-    ensures log { OnOk result (Told (Showing (X.seen session.new).version (X.seen session.new).stage.past) (L.LinkState.state link.old).log (L.LinkState.state link.new).log) }
+    ensures log { OnOk result (Told (Showing (X.seen session.new).version (X.seen session.new).progress.past) (L.LinkState.state link.old).log (L.LinkState.state link.new).log) }
     ensures stops { IfErr result (HasStopped (λ s. OpensSoFar s.limits) (at (X.seen session.old) (L.LinkState.state link.old)) (at (X.seen session.new) (L.LinkState.state link.new))) }
     ensures caused { Caused (L.LinkState.state link.old) (L.LinkState.state link.new) result }
 {

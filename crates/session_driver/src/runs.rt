@@ -38,7 +38,7 @@ fn one_round<X: RunsLanes, L: Link>(
 ) -> Result<(), Error>
     requires ready { IsReady (at (X.seen session.old) (L.LinkState.state link.old)) }
     ensures ongoing { Ongoing (turns_of (round_of lane)) (at (X.seen session.old) (L.LinkState.state link.old)) (at (X.seen session.new) (L.LinkState.state link.new)) result }
-    ensures less { OnOk result (current (X.seen session.old).setting (X.seen session.old).stage.past lane ≢ None → (X.seen session.new).work < (X.seen session.old).work) }
+    ensures less { OnOk result (current (X.seen session.old).setting (X.seen session.old).progress.past lane ≢ None → (X.seen session.new).work < (X.seen session.old).work) }
 {
     step_turn(session, link, lane)?;
     flush_turn(session, link)?;
@@ -80,8 +80,8 @@ pub(crate) fn end_lanes<X: RunsLanes, L: Link>(
 fn let_go_one<X: RunsLanes, L: Link>(session: &mut X, link: &mut L, lane: u32) -> Result<(), Error>
     requires ready { IsReady (at (X.seen session.old) (L.LinkState.state link.old)) }
     requires there { lane < length (X.seen session.old).setting.lanes }
-    requires done { current (X.seen session.old).setting (X.seen session.old).stage.past lane ≡ None }
-    requires holds { was_let_go (X.seen session.old).stage.past lane ≡ false }
+    requires done { current (X.seen session.old).setting (X.seen session.old).progress.past lane ≡ None }
+    requires holds { was_let_go (X.seen session.old).progress.past lane ≡ false }
     ensures ongoing { Ongoing (let_go_of lane) (at (X.seen session.old) (L.LinkState.state link.old)) (at (X.seen session.new) (L.LinkState.state link.new)) result }
 {
     match session.let_go(lane) {
@@ -93,8 +93,8 @@ fn let_go_one<X: RunsLanes, L: Link>(session: &mut X, link: &mut L, lane: u32) -
 /// Lets go of each lane in order.
 pub fn let_go_lanes<X: RunsLanes, L: Link>(session: &mut X, link: &mut L) -> Result<(), Error>
     requires ready { IsReady (at (X.seen session.old) (L.LinkState.state link.old)) }
-    requires done { (lane : ℕ) → lane < length (X.seen session.old).setting.lanes → current (X.seen session.old).setting (X.seen session.old).stage.past lane ≡ None }
-    requires holds { (lane : ℕ) → was_let_go (X.seen session.old).stage.past lane ≡ false }
+    requires done { (lane : ℕ) → lane < length (X.seen session.old).setting.lanes → current (X.seen session.old).setting (X.seen session.old).progress.past lane ≡ None }
+    requires holds { (lane : ℕ) → was_let_go (X.seen session.old).progress.past lane ≡ false }
     ensures ongoing { Ongoing lanes_go (at (X.seen session.old) (L.LinkState.state link.old)) (at (X.seen session.new) (L.LinkState.state link.new)) result }
 {
     for lane in 0..session.lane_count() {
@@ -111,7 +111,7 @@ fn one_drain<X: RunsLanes, L: Link>(
 ) -> Result<(), Error>
     requires ready { IsReady (at (X.seen session.old) (L.LinkState.state link.old)) }
     ensures ongoing { Ongoing (turns_of drain_of) (at (X.seen session.old) (L.LinkState.state link.old)) (at (X.seen session.new) (L.LinkState.state link.new)) result }
-    ensures less { OnOk result (0 < unanswered (X.seen session.old).stage.past → (X.seen session.new).work < (X.seen session.old).work) }
+    ensures less { OnOk result (0 < unanswered (X.seen session.old).progress.past → (X.seen session.new).work < (X.seen session.old).work) }
 {
     flush_turn(session, link)?;
     take_turn(alloc, session, link)

@@ -58,7 +58,7 @@ pub trait RunsLanes {
     /// that is wrong with it, or for want of memory.
     fn take_version(&mut self, body: &[u8]) -> Result<bool, TakeError>
         requires greeted { (seen self.old).phase ≡ Phase.Greeted }
-        requires rest { (seen self.old).stage ≡ at_rest }
+        requires rest { (seen self.old).progress ≡ at_rest }
         ensures ok { IfOk result (λ asks. Greets (reply_at body.now) (seen self.old).given asks (seen self.new)) }
         ensures refused { IfErr result (λ e. IsFirst e (refuses_hello (reply_at body.now))) }
         ensures left { IfErr result (λ e. HasRefused e (seen self.old) (seen self.new)) };
@@ -66,9 +66,9 @@ pub trait RunsLanes {
     /// The frame of the query for limits. Refused for want of memory.
     fn query(&mut self) -> Result<Chunk, OutOfMemory>
         requires asking { (seen self.old).phase ≡ Phase.Asking }
-        ensures ok { IfOk result (λ chunk. joined chunk ≡ unsent_bytes (seen self.old).stage.past) }
+        ensures ok { IfOk result (λ chunk. joined chunk ≡ unsent_bytes (seen self.old).progress.past) }
         ensures now { OnOk result (IsQueried (seen self.old) (seen self.new)) }
-        ensures later { OnOk result (IsLater (seen self.new).setting (seen self.old).stage.past (seen self.new).stage.past) }
+        ensures later { OnOk result (IsLater (seen self.new).setting (seen self.old).progress.past (seen self.new).progress.past) }
         ensures left { OnErr result (IsUnmoved (seen self.old) (seen self.new)) };
 
     /// Takes the body of the reply to the query for limits. Refused by the first thing that is wrong with it, or for
@@ -76,7 +76,7 @@ pub trait RunsLanes {
     fn take_limits(&mut self, body: &[u8]) -> Result<(), TakeError>
         requires queried { (seen self.old).phase ≡ Phase.Queried }
         ensures ok { OnOk result (Limited (reply_at body.now) (seen self.old) (seen self.new)) }
-        ensures refused { IfErr result (λ e. IsFirst e (refuses (seen self.old).stage.past (reply_at body.now))) }
+        ensures refused { IfErr result (λ e. IsFirst e (refuses (seen self.old).progress.past (reply_at body.now))) }
         ensures given { (seen self.new).given ≡ (seen self.old).given }
         ensures version { (seen self.new).version ≡ (seen self.old).version }
         ensures left { IfErr result (λ e. HasRefused e (seen self.old) (seen self.new)) };
@@ -84,34 +84,34 @@ pub trait RunsLanes {
     /// One step of a lane: its call's next request, or its end, or nothing. Refused for want of memory.
     fn step(&mut self, lane: u32) -> Result<Stepped, OutOfMemory>
         requires open { (seen self.old).phase ≡ Phase.Open }
-        ensures ok { IfOk result (λ event. StepsTo (seen self.old).setting lane (seen self.old).stage (seen self.new).stage
-            (move_of (seen self.old).setting (seen self.old).stage.past lane) event) }
+        ensures ok { IfOk result (λ event. StepsTo (seen self.old).setting lane (seen self.old).progress (seen self.new).progress
+            (move_of (seen self.old).setting (seen self.old).progress.past lane) event) }
         ensures goes { OnOk result (Continues (seen self.old) (seen self.new)) }
         ensures work { IfOk result (λ event. LessBy (is_event event) (seen self.old).work (seen self.new).work) }
         ensures waits { IfOk result (λ event. is_event event ≡ false
-            → current (seen self.old).setting (seen self.old).stage.past lane ≢ None → 0 < unanswered (seen self.new).stage.past) }
+            → current (seen self.old).setting (seen self.old).progress.past lane ≢ None → 0 < unanswered (seen self.new).progress.past) }
         ensures left { OnErr result (IsUnmoved (seen self.old) (seen self.new)) };
 
     /// Cancels the call of a lane that was begun, and answers whether it was. Refused for want of memory.
     fn cancel(&mut self, lane: u32) -> Result<bool, OutOfMemory>
         requires open { (seen self.old).phase ≡ Phase.Open }
-        ensures ok { IfOk result (λ event. CancelsCall (seen self.old).setting lane (seen self.old).stage (seen self.new).stage event) }
+        ensures ok { IfOk result (λ event. CancelsCall (seen self.old).setting lane (seen self.old).progress (seen self.new).progress event) }
         ensures goes { OnOk result (Continues (seen self.old) (seen self.new)) }
         ensures left { OnErr result (IsUnmoved (seen self.old) (seen self.new)) };
 
     /// Lets go of all that the slots of a lane hold, where the lane is there. Refused for want of memory.
     fn let_go(&mut self, lane: u32) -> Result<(), OutOfMemory>
         requires open { (seen self.old).phase ≡ Phase.Open }
-        requires done { current (seen self.old).setting (seen self.old).stage.past lane ≡ None }
-        requires holds { was_let_go (seen self.old).stage.past lane ≡ false }
-        ensures ok { OnOk result (LetsGo (seen self.old).setting lane (seen self.old).stage (seen self.new).stage) }
+        requires done { current (seen self.old).setting (seen self.old).progress.past lane ≡ None }
+        requires holds { was_let_go (seen self.old).progress.past lane ≡ false }
+        ensures ok { OnOk result (LetsGo (seen self.old).setting lane (seen self.old).progress (seen self.new).progress) }
         ensures goes { OnOk result (Continues (seen self.old) (seen self.new)) }
         ensures left { OnErr result (IsUnmoved (seen self.old) (seen self.new)) };
 
     /// The frames of all unsent requests; None where nothing is unsent. Refused for want of memory.
     fn hand_out(&mut self) -> Result<Option<Chunk>, OutOfMemory>
         requires open { (seen self.old).phase ≡ Phase.Open }
-        ensures ok { IfOk result (λ chunk. HandsOut (seen self.old).setting (seen self.old).stage (option_map joined chunk) (seen self.new).stage) }
+        ensures ok { IfOk result (λ chunk. HandsOut (seen self.old).setting (seen self.old).progress (option_map joined chunk) (seen self.new).progress) }
         ensures stays { OnOk result (StaysInPhase (seen self.old) (seen self.new)) }
         ensures work { OnOk result ((seen self.new).work ≡ (seen self.old).work) }
         ensures left { OnErr result (IsUnmoved (seen self.old) (seen self.new)) };
@@ -123,26 +123,26 @@ pub trait RunsLanes {
     /// Takes the body of one frame. Refused by the first thing that is wrong with it, or for want of memory.
     fn take(&mut self, body: &[u8]) -> Result<(), TakeError>
         requires open { (seen self.old).phase ≡ Phase.Open }
-        ensures ok { OnOk result (TakesAndSettles (seen self.old).setting (reply_at body.now) (seen self.old).stage (seen self.new).stage) }
+        ensures ok { OnOk result (TakesAndSettles (seen self.old).setting (reply_at body.now) (seen self.old).progress (seen self.new).progress) }
         ensures goes { OnOk result (Continues (seen self.old) (seen self.new)) }
         ensures work { OnOk result ((seen self.new).work < (seen self.old).work) }
-        ensures refused { IfErr result (λ e. IsFirst e (refuses (seen self.old).stage.past (reply_at body.now))) }
+        ensures refused { IfErr result (λ e. IsFirst e (refuses (seen self.old).progress.past (reply_at body.now))) }
         ensures left { IfErr result (λ e. HasRefused e (seen self.old) (seen self.new)) };
 
     /// Whether more requests are unsent than may be.
     fn wants_flush(&self) -> bool
         requires open { (seen self.now).phase ≡ Phase.Open }
-        ensures { result ≡ is_full (seen self.now).setting (seen self.now).stage.past };
+        ensures { result ≡ is_full (seen self.now).setting (seen self.now).progress.past };
 
     /// How many sent requests have no reply.
     fn awaited(&self) -> u32
         requires open { (seen self.now).phase ≡ Phase.Open }
-        ensures { result ≡ awaited (seen self.now).stage.past };
+        ensures { result ≡ awaited (seen self.now).progress.past };
 
     /// How many requests have no reply.
     fn unanswered(&self) -> u32
         requires open { (seen self.now).phase ≡ Phase.Open }
-        ensures { result ≡ unanswered (seen self.now).stage.past };
+        ensures { result ≡ unanswered (seen self.now).progress.past };
 
     /// How many lanes there are.
     fn lane_count(&self) -> u32
@@ -151,5 +151,5 @@ pub trait RunsLanes {
     /// Whether a lane has no call left.
     fn is_done(&self, lane: u32) -> bool
         requires open { (seen self.now).phase ≡ Phase.Open }
-        ensures { IsTrue result ↔ (current (seen self.now).setting (seen self.now).stage.past lane ≡ None) };
+        ensures { IsTrue result ↔ (current (seen self.now).setting (seen self.now).progress.past lane ≡ None) };
 }

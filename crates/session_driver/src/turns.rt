@@ -20,7 +20,7 @@ pub(crate) fn flush<X: RunsLanes, L: Link>(session: &mut X, link: &mut L) -> Res
     requires ready { IsReady (at (X.seen session.old) (L.LinkState.state link.old)) }
     ensures ongoing { Ongoing flushing (at (X.seen session.old) (L.LinkState.state link.old)) (at (X.seen session.new) (L.LinkState.state link.new)) result }
     ensures work { OnOk result ((X.seen session.new).work ≡ (X.seen session.old).work) }
-    ensures sent { IfErr result (λ e. e ≢ error.OutOfMemory → (X.seen session.new).stage.past ≡ entry.Event Send ∷ (X.seen session.old).stage.past) }
+    ensures sent { IfErr result (λ e. e ≢ error.OutOfMemory → (X.seen session.new).progress.past ≡ entry.Event Send ∷ (X.seen session.old).progress.past) }
 {
     let chunk = match session.hand_out() {
         Ok(Some(chunk)) => chunk,
@@ -69,7 +69,7 @@ pub(crate) fn flush_turn<X: RunsLanes, L: Link>(session: &mut X, link: &mut L) -
     requires ready { IsReady (at (X.seen session.old) (L.LinkState.state link.old)) }
     ensures ongoing { Ongoing (turn_of turns.Flush) (at (X.seen session.old) (L.LinkState.state link.old)) (at (X.seen session.new) (L.LinkState.state link.new)) result }
     ensures work { OnOk result ((X.seen session.new).work ≡ (X.seen session.old).work) }
-    ensures awaits { OnOk result (0 < unanswered (X.seen session.old).stage.past → 0 < awaited (X.seen session.new).stage.past) }
+    ensures awaits { OnOk result (0 < unanswered (X.seen session.old).progress.past → 0 < awaited (X.seen session.new).progress.past) }
 {
     flush(session, link)
 }
@@ -83,8 +83,8 @@ pub(crate) fn take_turn<X: RunsLanes, L: Link>(
 ) -> Result<(), Error>
     requires ready { IsReady (at (X.seen session.old) (L.LinkState.state link.old)) }
     ensures ongoing { Ongoing (turn_of turns.Take) (at (X.seen session.old) (L.LinkState.state link.old)) (at (X.seen session.new) (L.LinkState.state link.new)) result }
-    ensures work { OnOk result (LessBy (nat_lt 0 (awaited (X.seen session.old).stage.past)) (X.seen session.old).work (X.seen session.new).work) }
-    ensures some { OnErr result (awaited (X.seen session.old).stage.past ≢ 0) }
+    ensures work { OnOk result (LessBy (nat_lt 0 (awaited (X.seen session.old).progress.past)) (X.seen session.old).work (X.seen session.new).work) }
+    ensures some { OnErr result (awaited (X.seen session.old).progress.past ≢ 0) }
 {
     if session.awaited() == 0 {
         return Ok(());

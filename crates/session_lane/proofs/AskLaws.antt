@@ -11,7 +11,7 @@ use Rattle.sftp_model.specs.declared.reply.Reply.TheVariants as reply
 use Rattle.sftp_model.specs.declared.slot.Site.{Site}
 use Rattle.sftp_core.specs.Core.{Core, IsGrant, at, is_call, queued_last, release_gives, reply_in, users_of}
 use Rattle.sftp_core.specs.Grant.{GrantValue}
-use Rattle.sftp_core.specs.declared.place.Place.TheVariants.{Granted}
+use Rattle.sftp_core.specs.declared.id_record.IdRecord.TheVariants.{Granted}
 use Rattle.plan_runner.specs.declared.next.Asked.{Asked}
 use Rattle.plan_runner.specs.declared.next.Asked.TheVariants as ask
 use Rattle.plan_runner.specs.declared.next.Next.{Next}

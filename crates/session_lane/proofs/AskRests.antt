@@ -36,8 +36,8 @@ use Rattle.sftp_model.specs.declared.request.Request.{Request}
 use Rattle.sftp_model.specs.declared.request.Request.TheVariants as request
 use Rattle.sftp_model.specs.declared.slot.Site.{Site}
 use Rattle.sftp_core.specs.Core.{Core, at, queued_last}
-use Rattle.sftp_core.specs.declared.place.Place.{Place}
-use Rattle.sftp_core.specs.declared.place.Place.TheVariants.{Waiting, Granted}
+use Rattle.sftp_core.specs.declared.id_record.IdRecord.{IdRecord}
+use Rattle.sftp_core.specs.declared.id_record.IdRecord.TheVariants.{Waiting, Granted}
 use Rattle.plan_model.specs.Moves.{Answers}
 use Rattle.plan_runner.specs.declared.next.Asked.{Asked as Ask_of}
 use Rattle.plan_runner.specs.declared.next.Asked.TheVariants as ask
@@ -91,7 +91,7 @@ use Rattle.session_lane.proofs.Holding.{with_here}
 -- ---- ids
 
 -- where the core awaits no reply under an id, the id is free
-pub unwaiting_free : (past : List Entry) (w g : ℕ → Bool) (table : ℕ → Option Place) (id : ℕ) → Tabled past w g table
+pub unwaiting_free : (past : List Entry) (w g : ℕ → Bool) (table : ℕ → Option IdRecord) (id : ℕ) → Tabled past w g table
     → ((e : Expected) (sent wanted : Bool) → table id ≢ Some (Waiting e sent wanted)) → awaiting past id ≡ None
 unwaiting_free past w g table id t never = free_state past id (by_state (id_state past id) refl)
   where
@@ -132,7 +132,7 @@ pub submitted_under : (s : Setting) (past : List Entry) (core c new : Core) (lan
 submitted_under s past core c new lanes lane id tickets now grants held a q h m bears x =
     record {
       free = unwaiting_free past (among past (tickets_of lanes)) (among past (grants_of lanes)) (at core) id h.table
-          (λ e sent wanted is. let clash : ◌≡◌ {A = Option Place} None (Some (Waiting e sent wanted)) = sym x.free ∙ m.waits id e sent wanted is in cc);
+          (λ e sent wanted is. let clash : ◌≡◌ {A = Option IdRecord} None (Some (Waiting e sent wanted)) = sym x.free ∙ m.waits id e sent wanted is in cc);
       counted = subst (Counted (own_request past lane id q ∷ past)) (sym x.core)
           (counted_ask past c (owner.Call lane (ended past lane)) id q true x.free m.counted);
       work = (let more : weigh new ≤ weigh c + 3 = subst (λ (y : Core). weigh y ≤ weigh c + 3) (sym x.core)
@@ -154,7 +154,7 @@ released_under s past core new lanes lane g id tickets now grants held q h count
     ∙ ap (λ (n : ℕ). queued_last core n (request.Close x.grant.handle) true) (sym x.same) in
     record {
       free = unwaiting_free past (among past (tickets_of lanes)) (among past (grants_of lanes)) (at core) id h.table
-          (λ e sent wanted is. let clash : ◌≡◌ {A = Option Place} (Some (Granted x.grant.handle 1)) (Some (Waiting e sent wanted)) = sym there ∙ is in cc);
+          (λ e sent wanted is. let clash : ◌≡◌ {A = Option IdRecord} (Some (Granted x.grant.handle 1)) (Some (Waiting e sent wanted)) = sym there ∙ is in cc);
       counted = subst (Counted (own_request past lane id q ∷ past)) (sym queued)
           (subst (λ (r : Request). Counted (own_request past lane id r ∷ past)
           (queued_last core id (request.Close x.grant.handle) true)) (sym x.is)

@@ -6,8 +6,8 @@ use Rattle.sftp_model.specs.declared.reply.Reply.{Reply}
 use Rattle.sftp_model.specs.declared.reply.Reply.TheVariants as reply
 use Rattle.sftp_core.specs.Core.{Core, abandon_leaves, at, poll_leaves, reply_in}
 use Rattle.sftp_core.specs.Table.{brings}
-use Rattle.sftp_core.specs.declared.place.Place.{Place}
-use Rattle.sftp_core.specs.declared.place.Place.TheVariants.{Waiting, Answered, Granted}
+use Rattle.sftp_core.specs.declared.id_record.IdRecord.{IdRecord}
+use Rattle.sftp_core.specs.declared.id_record.IdRecord.TheVariants.{Waiting, Answered, Granted}
 use Rattle.sftp_model.specs.declared.slot.Facts.{Facts}
 use Rattle.sftp_model.specs.declared.slot.Site.{Site}
 use Rattle.plan_runner.specs.Pending.{Fewer, own_place}
@@ -58,7 +58,7 @@ pub nothing_came : (o : Option Reply) (handle : List ℕ) → o ≡ None → o �
 nothing_came o handle none came = (let clash : ◌≡◌ {A = Option Reply} None (Some (reply.Handle handle)) = sym none ∙ came in cc)
 
 -- a reply without a handle that is polled is dropped
-polled_drops : (core : Core) (t : ℕ) (fault : Option Fault) (p : Option Place) (r : Reply) → reply_in p ≡ Some r
+polled_drops : (core : Core) (t : ℕ) (fault : Option Fault) (p : Option IdRecord) (r : Reply) → reply_in p ≡ Some r
     → brings r ≡ None → poll_leaves core t fault p ≡ abandon_leaves core t p
 polled_drops core t fault None r came none = absurd cc
 polled_drops core t fault (Some (Waiting expected sent wanted)) r came none = absurd cc

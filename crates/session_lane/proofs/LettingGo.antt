@@ -4,7 +4,7 @@ use Rattle.sftp_model.specs.Answers.{expected_of}
 use Rattle.sftp_model.specs.declared.request.Request.TheVariants as request
 use Rattle.sftp_core.specs.Core.{Core, at, is_ticket, queued_last, release_leaves, released, users_of}
 use Rattle.sftp_core.specs.Grant.{GrantValue}
-use Rattle.sftp_core.specs.declared.place.Place.TheVariants.{Granted, Waiting}
+use Rattle.sftp_core.specs.declared.id_record.IdRecord.TheVariants.{Granted, Waiting}
 use Rattle.sftp_core.proofs.Elsewhere.{put_here}
 
 -- the last user's release queues the CLOSE

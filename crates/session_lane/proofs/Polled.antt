@@ -4,10 +4,10 @@ use Rattle.std.specs.Prelude.{length, slice_get}
 use Rattle.sftp_model.specs.Answers.{is_handle}
 use Rattle.sftp_model.specs.declared.answers.Expected.{Expected}
 use Rattle.sftp_model.specs.declared.reply.Reply.{Reply}
-use Rattle.sftp_core.specs.Core.{Core, after_poll, at, given_leaves, poll_leaves, reply_in, with_place, without as removed}
+use Rattle.sftp_core.specs.Core.{Core, after_poll, at, given_leaves, poll_leaves, reply_in, with_record, without as removed}
 use Rattle.sftp_core.specs.Table.{brings}
-use Rattle.sftp_core.specs.declared.place.Place.{Place}
-use Rattle.sftp_core.specs.declared.place.Place.TheVariants.{Answered, Granted, Waiting}
+use Rattle.sftp_core.specs.declared.id_record.IdRecord.{IdRecord}
+use Rattle.sftp_core.specs.declared.id_record.IdRecord.TheVariants.{Answered, Granted, Waiting}
 use Rattle.sftp_core.proofs.Elsewhere.{gone_elsewhere, gone_here, put_elsewhere, put_here}
 use Rattle.session_model.specs.declared.entry.Entry.{Entry}
 use Rattle.session_model.specs.Calls.{Setting}
@@ -42,7 +42,7 @@ polled_lane v k t y = record {
   ended = v.ended;
 }
 
-answered_is : (x : Option Place) (y : Reply) → reply_in x ≡ Some y → (e : Expected) × (x ≡ Some (Answered e y))
+answered_is : (x : Option IdRecord) (y : Reply) → reply_in x ≡ Some y → (e : Expected) × (x ≡ Some (Answered e y))
 answered_is None y came = absurd cc
 answered_is (Some (Waiting e b w)) y came = absurd cc
 answered_is (Some (Answered e z)) y came = (e, ap (λ (r : Reply). Some (Answered e r)) (let same : z ≡ y = cc in same))
@@ -108,7 +108,7 @@ handle_polled : (s : Setting) (past : List Entry) (c : Core) (lanes : ℕ → La
 handle_polled s past c lanes lane k t handle v h there j at_k came asker et eg ee =
     let old : LaneValue = lanes lane in
     let l : LaneTied s past lane old [] = h.each lane there in
-    let now : Core = with_place c t.ticket (Granted handle 1) in
+    let now : Core = with_record c t.ticket (Granted handle 1) in
     let got = came_answer past (among past (tickets_of lanes)) (among past (grants_of lanes)) (at c) t.ticket t.place
     (reply.Handle handle) h.table (ticket_at past old.tickets k t l.holds.tied at_k) came in
     let here : slice_get (ticket_places old.tickets) k ≡ Some t.place = ticket_index old.tickets k t at_k in

@@ -35,12 +35,12 @@ use Rattle.std.specs.Prelude.{Result, slice_get, slice_index_or}
 use Rattle.sftp_model.specs.declared.error.Fault.{Fault}
 use Rattle.sftp_model.specs.declared.reply.Reply.{Reply}
 use Rattle.sftp_model.specs.declared.reply.Reply.TheVariants as reply
-use Rattle.sftp_core.specs.declared.place.Place.{Place}
-use Rattle.sftp_core.specs.declared.place.Place.TheVariants.{Waiting, Answered, Granted}
+use Rattle.sftp_core.specs.declared.id_record.IdRecord.{IdRecord}
+use Rattle.sftp_core.specs.declared.id_record.IdRecord.TheVariants.{Waiting, Answered, Granted}
 use Rattle.sftp_core.specs.declared.tokens.Polled.{Polled}
 use Rattle.sftp_core.specs.declared.tokens.Polled.TheVariants as polled
 use Rattle.sftp_core.specs.Grant.{GrantValue}
-use Rattle.sftp_core.specs.Core.{Core, after_poll, at, given, given_leaves, is_ticket, poll_gives, poll_leaves, polled_with, reply_in, with_place}
+use Rattle.sftp_core.specs.Core.{Core, after_poll, at, given, given_leaves, is_ticket, poll_gives, poll_leaves, polled_with, reply_in, with_record}
 use Rattle.sftp_core.specs.Table.{brings}
 use Rattle.sftp_core.proofs.Counts.{len_less, len_same}
 use Rattle.sftp_core.proofs.Elsewhere.{poll_elsewhere, put_here}
@@ -80,7 +80,7 @@ plainly grants place ticket (reply.Handle handle) e = absurd cc
 plainly grants place ticket other e = refl
 
 -- a reply that is no HANDLE was taken, and is no grant
-pub gave_reply : (t : ℕ) (fault : Option Fault) (p : Option Place) (r : Reply) → poll_gives t fault p
+pub gave_reply : (t : ℕ) (fault : Option Fault) (p : Option IdRecord) (r : Reply) → poll_gives t fault p
     ≡ Ok (polled.Reply r) → (reply_in p ≡ Some r) × (brings r ≡ None)
 gave_reply t fault None r e = absurd cc
 gave_reply t (Some f) (Some (Waiting expected sent wanted)) r e = absurd cc
@@ -90,12 +90,12 @@ gave_reply t fault (Some (Answered expected y)) r e =
     (ap (λ (x : Reply). Some x) same.0, ap brings (sym same.0) ∙ same.1))
 gave_reply t fault (Some (Granted handle users)) r e = absurd cc
 
-pub plain_grants : (grants : List Held) (place t : ℕ) (fault : Option Fault) (p : Option Place) (r : Reply)
+pub plain_grants : (grants : List Held) (place t : ℕ) (fault : Option Fault) (p : Option IdRecord) (r : Reply)
     → poll_gives t fault p ≡ Ok (polled.Reply r) → grants ≡ grants_with grants place t r
 plain_grants grants place t fault p r e = plainly grants place t r (gave_reply t fault p r e).1
 
 -- a HANDLE was taken
-pub gave_grant : (t : ℕ) (fault : Option Fault) (p : Option Place) (g : GrantValue) → poll_gives t fault p
+pub gave_grant : (t : ℕ) (fault : Option Fault) (p : Option IdRecord) (g : GrantValue) → poll_gives t fault p
     ≡ Ok (polled.Granted g) → (reply_in p ≡ Some (reply.Handle g.handle)) × (g.id ≡ t)
 gave_grant t fault None g e = absurd cc
 gave_grant t (Some f) (Some (Waiting expected sent wanted)) g e = absurd cc
@@ -143,7 +143,7 @@ in_pushed P (z ∷ xs) y (suc k) x old new got = in_pushed P xs y k x (λ i w th
 
 -- ---- what it leaves
 
-no_grant : (p : Option Place) (handle : List ℕ) → is_ticket p ≡ true → p ≡ Some (Granted handle 1) → ⊥
+no_grant : (p : Option IdRecord) (handle : List ℕ) → is_ticket p ≡ true → p ≡ Some (Granted handle 1) → ⊥
 no_grant None handle e is = cc
 no_grant (Some (Waiting expected sent wanted)) handle e is = cc
 no_grant (Some (Answered expected r)) handle e is = cc
@@ -157,8 +157,8 @@ pub grants_stay : (core : Core) (t : ℕ) (grants : List Held) → is_ticket (at
 grants_stay core t grants counted all k g got =
     poll_elsewhere core t core.fault (at core t) g.grant.id (apart core t g.grant.id g.grant.handle counted (all k g got)) ∙ all k g got
 
-granted_here : (core : Core) (t : ℕ) (fault : Option Fault) (p : Option Place) (g : GrantValue) → poll_gives t fault p
-    ≡ Ok (polled.Granted g) → poll_leaves core t fault p ≡ with_place core t (Granted g.handle 1)
+granted_here : (core : Core) (t : ℕ) (fault : Option Fault) (p : Option IdRecord) (g : GrantValue) → poll_gives t fault p
+    ≡ Ok (polled.Granted g) → poll_leaves core t fault p ≡ with_record core t (Granted g.handle 1)
 granted_here core t fault None g e = absurd cc
 granted_here core t (Some f) (Some (Waiting expected sent wanted)) g e = absurd cc
 granted_here core t None (Some (Waiting expected sent wanted)) g e = absurd cc
@@ -183,7 +183,7 @@ given_open : (core : Core) (t : ℕ) (h : Option (List ℕ)) → IsOpen core →
 given_open core t (Some handle) o = record { unfailed = o.unfailed; ready = o.ready }
 given_open core t None o = record { unfailed = o.unfailed; ready = o.ready }
 
-leaves_open : (core : Core) (t : ℕ) (fault : Option Fault) (p : Option Place) → IsOpen core → IsOpen (poll_leaves core t fault p)
+leaves_open : (core : Core) (t : ℕ) (fault : Option Fault) (p : Option IdRecord) → IsOpen core → IsOpen (poll_leaves core t fault p)
 leaves_open core t fault (Some (Answered expected r)) o = given_open core t (brings r) o
 leaves_open core t (Some f) (Some (Waiting expected sent wanted)) o = record { unfailed = o.unfailed; ready = o.ready }
 leaves_open core t None (Some (Waiting expected sent wanted)) o = o
@@ -198,11 +198,11 @@ stays_open core t o = leaves_open core t core.fault (at core t) o
 no_more_same : (a b : ℕ) → a ≡ b → a ≤ b
 no_more_same a b e = omega (arith, e)
 
-given_few : (core : Core) (t : ℕ) (p : Place) (h : Option (List ℕ)) → at core t ≡ Some p → fin.len (given_leaves core t h).table ≤ fin.len core.table
+given_few : (core : Core) (t : ℕ) (p : IdRecord) (h : Option (List ℕ)) → at core t ≡ Some p → fin.len (given_leaves core t h).table ≤ fin.len core.table
 given_few core t p (Some handle) here = no_more_same _ _ (len_same core.table t (Granted handle 1) p here)
 given_few core t p None here = len_less core.table t
 
-leaves_few : (core : Core) (t : ℕ) (fault : Option Fault) (p : Option Place) → at core t ≡ p → fin.len (poll_leaves core t fault p).table ≤ fin.len core.table
+leaves_few : (core : Core) (t : ℕ) (fault : Option Fault) (p : Option IdRecord) → at core t ≡ p → fin.len (poll_leaves core t fault p).table ≤ fin.len core.table
 leaves_few core t fault (Some (Answered expected r)) here = given_few core t (Answered expected r) (brings r) here
 leaves_few core t (Some f) (Some (Waiting expected sent wanted)) here =
     no_more_same _ _ (len_same core.table t (Waiting expected sent false) (Waiting expected sent wanted) here)

@@ -16,8 +16,8 @@ use Rattle.session_model.specs.Grants.{is_granted}
 use Rattle.session_lane.specs.Holding.{HandlesAreAwaited}
 use Rattle.session_lane.proofs.Holding.{with_here}
 use Rattle.session_lane.proofs.Polled.{polled_holds, polled_lane}
-use Rattle.sftp_core.specs.declared.place.Place.{Place}
-use Rattle.sftp_core.specs.declared.place.Place.TheVariants.{Waiting}
+use Rattle.sftp_core.specs.declared.id_record.IdRecord.{IdRecord}
+use Rattle.sftp_core.specs.declared.id_record.IdRecord.TheVariants.{Waiting}
 use Rattle.sftp_core.proofs.Elsewhere.{poll_elsewhere}
 use Rattle.plan_runner.specs.declared.next.Asked.TheVariants as ask
 use Rattle.plan_runner.specs.declared.next.Next.{Next}
@@ -98,7 +98,7 @@ by_places false true e r may = tt
 by_places false false e r may = tt
 
 -- a reply that is kept is one that may answer
-all_allowed : (s : Setting) (past : List Entry) (w g : ℕ → Bool) (table : ℕ → Option Place) (id : ℕ) → IsJournal s past
+all_allowed : (s : Setting) (past : List Entry) (w g : ℕ → Bool) (table : ℕ → Option IdRecord) (id : ℕ) → IsJournal s past
     → Tabled past w g table → IsAllowed (table id)
 all_allowed s past w g table id j t = subst IsAllowed (sym (t id)) (by_state (id_state past id) (reads past id))
   where

@@ -10,7 +10,7 @@ use Rattle.sftp_model.specs.declared.request.Request.{Request}
 use Rattle.sftp_model.specs.declared.slot.Site.{Site}
 use Rattle.sftp_model.specs.declared.slot.Move.TheVariants.{Ask, Wait, Done}
 use Rattle.sftp_core.specs.Core.{Core, at}
-use Rattle.sftp_core.specs.declared.place.Place.TheVariants.{Granted}
+use Rattle.sftp_core.specs.declared.id_record.IdRecord.TheVariants.{Granted}
 use Rattle.sftp_core.specs.Table.{brings}
 use Rattle.plan_model.specs.Moves.{Own}
 use Rattle.plan_model.specs.RequestCounts.{work}

@@ -25,7 +25,7 @@ use Rattle.sftp_model.specs.declared.request.Request.{Request}
 use Rattle.sftp_model.specs.declared.slot.Slot.{Slot}
 use Rattle.sftp_model.specs.declared.slot.Slot.TheVariants.{Buffered}
 use Rattle.sftp_core.specs.Core.{Core, abandoned, after_poll, at, is_ticket, reply_in}
-use Rattle.sftp_core.specs.declared.place.Place.TheVariants.{Granted}
+use Rattle.sftp_core.specs.declared.id_record.IdRecord.TheVariants.{Granted}
 use Rattle.plan_model.specs.Moves.{Answers}
 use Rattle.plan_runner.specs.declared.next.Asked.{Asked}
 use Rattle.plan_runner.specs.Runners.{filled}

@@ -4,7 +4,7 @@ use Rattle.std.specs.Prelude.{length, slice_get, ◌⊎◌, [], None}
 use Rattle.sftp_model.specs.declared.request.Request.{Request}
 use Rattle.sftp_model.specs.declared.reply.Reply.{Reply}
 use Rattle.sftp_core.specs.Core.{Core, at}
-use Rattle.sftp_core.specs.declared.place.Place.TheVariants.{Granted}
+use Rattle.sftp_core.specs.declared.id_record.IdRecord.TheVariants.{Granted}
 use Rattle.plan_model.specs.Moves.{handle_of}
 use Rattle.plan_runner.specs.Pending.{pends}
 use Rattle.session_model.specs.declared.event.Event.TheVariants.{Submit}

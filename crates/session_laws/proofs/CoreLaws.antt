@@ -1,8 +1,8 @@
 -- The core of a session, as it is queued to, polled, abandoned, sent and taken from.
 use Rattle.std.proofs.Common.{◌≡◌, ℕ, Bool, List, [], ◌∷◌, ◌++◌, refl, ap, sym, ◌∙◌}
 use Rattle.sftp_model.specs.declared.request.Request.{Request}
-use Rattle.sftp_core.specs.declared.place.Place.{Place}
-use Rattle.sftp_core.specs.Core.{Core, handed_out, queued_last, with_place, without as removed}
+use Rattle.sftp_core.specs.declared.id_record.IdRecord.{IdRecord}
+use Rattle.sftp_core.specs.Core.{Core, handed_out, queued_last, with_record, without as removed}
 use Rattle.session_model.specs.declared.event.Owner.{Owner}
 use Rattle.session_model.specs.declared.event.Event.TheVariants.{Send, Submit}
 use Rattle.session_model.specs.declared.entry.Entry.{Entry}
@@ -40,7 +40,7 @@ core_on s past now core same c = record {
   queue = c.queue ∙ sym same;
 }
 
-pub core_placed : (s : Setting) (past : List Entry) (core : Core) (id : ℕ) (p : Place) → CoreTied s past core → CoreTied s past (with_place core id p)
+pub core_placed : (s : Setting) (past : List Entry) (core : Core) (id : ℕ) (p : IdRecord) → CoreTied s past core → CoreTied s past (with_record core id p)
 core_placed s past core id p c = record { info = c.info; phase = c.phase; read_len = c.read_len; unfailed = c.unfailed; greeted = c.greeted; queue = c.queue }
 
 pub core_removed : (s : Setting) (past : List Entry) (core : Core) (id : ℕ) → CoreTied s past core → CoreTied s past (removed core id)

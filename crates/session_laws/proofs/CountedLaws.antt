@@ -34,8 +34,8 @@ use Rattle.sftp_model.specs.declared.reply.Reply.TheVariants as reply
 use Rattle.sftp_model.specs.declared.request.Request.{Request}
 use Rattle.sftp_model.specs.declared.request.Request.TheVariants as request
 use Rattle.sftp_model.specs.Answers.{allows, expected_of}
-use Rattle.sftp_core.specs.declared.place.Place.{Place}
-use Rattle.sftp_core.specs.declared.place.Place.TheVariants.{Waiting, Answered, Granted}
+use Rattle.sftp_core.specs.declared.id_record.IdRecord.{IdRecord}
+use Rattle.sftp_core.specs.declared.id_record.IdRecord.TheVariants.{Waiting, Answered, Granted}
 use Rattle.sftp_core.specs.Core.{
   Core,
   abandon_leaves,
@@ -76,7 +76,7 @@ use Rattle.session_laws.specs.Rest.{Counted, weigh}
 pub counted_ask : (past : List Entry) (old : Core) (by : Owner) (id : ℕ) (r : Request) (wanted : Bool) → at old id ≡ None → Counted past old
     → Counted (entry.Event (Submit by id r) ∷ past) (queued_last old id r wanted)
 counted_ask past old by id r wanted free c =
-    let v : Place = Waiting (expected_of r) false wanted in
+    let v : IdRecord = Waiting (expected_of r) false wanted in
     record {
       waiting = count-insert_new is_waiting old.table id v free ∙ ap (λ n. n + 1) c.waiting ∙ sym (unanswered_submit past by id r);
       sent = count-insert_new is_sent old.table id v free ∙ ap (λ n. n + 0) c.sent ∙ omega arith;
@@ -85,7 +85,7 @@ counted_ask past old by id r wanted free c =
 -- and weighs 3 at the most
 pub weigh_ask : (old : Core) (id : ℕ) (r : Request) (wanted : Bool) → at old id ≡ None → weigh (queued_last old id r wanted) ≤ weigh old + 3
 weigh_ask old id r wanted free =
-    let v : Place = Waiting (expected_of r) false wanted in
+    let v : IdRecord = Waiting (expected_of r) false wanted in
     let waits = count-insert_new is_waiting old.table id v free in
     let owes = count-insert_new is_owing old.table id v free in
     let one : tally is_owing v ≤ 1 = tally_le is_owing v in
@@ -140,7 +140,7 @@ counted_given past old t e r None here c =
     let sends = count-remove is_sent old.table t (Answered e r) here in
     record { waiting = omega (arith, waits) ∙ c.waiting; sent = omega (arith, sends) ∙ c.sent }
 
-counted_poll : (past : List Entry) (old : Core) (t : ℕ) (y : Reply) (f : Option Fault) (p : Option Place) → at old t ≡ p
+counted_poll : (past : List Entry) (old : Core) (t : ℕ) (y : Reply) (f : Option Fault) (p : Option IdRecord) → at old t ≡ p
     → reply_in p ≡ Some y → Counted past old → Counted past (poll_leaves old t f p)
 counted_poll past old t y f (Some (Answered e r)) here is c = counted_given past old t e r (brings r) here c
 counted_poll past old t y f (Some (Waiting e was_sent wanted)) here is c = absurd cc
@@ -163,7 +163,7 @@ weigh_given old t e r None here is may =
     let owes = count-remove is_owing old.table t (Answered e r) here in
     omega (arith, waits, owes)
 
-weigh_poll : (old : Core) (t : ℕ) (y : Reply) (f : Option Fault) (p : Option Place) → at old t ≡ p → reply_in p ≡ Some y
+weigh_poll : (old : Core) (t : ℕ) (y : Reply) (f : Option Fault) (p : Option IdRecord) → at old t ≡ p → reply_in p ≡ Some y
     → IsAllowed p → weigh (poll_leaves old t f p) ≤ weigh old
 weigh_poll old t y f (Some (Answered e r)) here is may = weigh_given old t e r (brings r) here refl may
 weigh_poll old t y f (Some (Waiting e was_sent wanted)) here is may = absurd cc
@@ -227,7 +227,7 @@ pub counted_drop : (past : List Entry) (old : Core) (t : ℕ) → is_ticket (at 
     → Counted past (abandoned old t)
 counted_drop past old t ticket ungranted c = by_place (at old t) refl
   where
-    by_place : (p : Option Place) → at old t ≡ p → Counted past (abandoned old t)
+    by_place : (p : Option IdRecord) → at old t ≡ p → Counted past (abandoned old t)
     by_place None is = absurd (let clash : false ≡ true = sym (ap is_ticket is) ∙ ticket in cc)
     by_place (Some (Waiting e was_sent wanted)) is = counted_abandon_waiting past old t e was_sent wanted is c
     by_place (Some (Answered e r)) is = counted_abandon_plain past old t e r is (plain_brings old t e r ungranted is) c
@@ -238,7 +238,7 @@ pub weigh_drop : (old : Core) (t : ℕ) → is_ticket (at old t) ≡ true
     → ((handle : List ℕ) → reply_in (at old t) ≢ Some (reply.Handle handle)) → weigh (abandoned old t) ≤ weigh old
 weigh_drop old t ticket ungranted = by_place (at old t) refl
   where
-    by_place : (p : Option Place) → at old t ≡ p → weigh (abandoned old t) ≤ weigh old
+    by_place : (p : Option IdRecord) → at old t ≡ p → weigh (abandoned old t) ≤ weigh old
     by_place None is = absurd (let clash : false ≡ true = sym (ap is_ticket is) ∙ ticket in cc)
     by_place (Some (Waiting e was_sent wanted)) is = (let same : weigh (abandoned old t) ≡ weigh old =
         weigh_abandon_waiting old t e was_sent wanted is in omega (arith, same))

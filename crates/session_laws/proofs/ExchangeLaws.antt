@@ -10,8 +10,8 @@ use Rattle.sftp_model.specs.Answers.{allows, expected_of, is_handle, may_answer}
 use Rattle.sftp_core.specs.Core.{at, handed_out, Core}
 use Rattle.sftp_core.specs.Table.{brings}
 use Rattle.sftp_core.specs.Take.{take_leaves}
-use Rattle.sftp_core.specs.declared.place.Place.{Place}
-use Rattle.sftp_core.specs.declared.place.Place.TheVariants.{Waiting}
+use Rattle.sftp_core.specs.declared.id_record.IdRecord.{IdRecord}
+use Rattle.sftp_core.specs.declared.id_record.IdRecord.TheVariants.{Waiting}
 use Rattle.plan_model.specs.Moves.{handle_of}
 use Rattle.session_model.specs.declared.event.Event.TheVariants.{Send, Submit, Take}
 use Rattle.session_model.specs.declared.event.Owner.TheVariants as owner
@@ -89,7 +89,7 @@ replied_waits false true e kind (reply.Attrs attrs) wanted h = absurd cc
 replied_waits false true e kind (reply.Extended content) wanted h = absurd cc
 replied_waits false false e kind r wanted h = absurd cc
 
-pub pends_by : (past : List Entry) (w g : ℕ → Bool) (table : ℕ → Option Place) (id : ℕ) (kind : Expected)
+pub pends_by : (past : List Entry) (w g : ℕ → Bool) (table : ℕ → Option IdRecord) (id : ℕ) (kind : Expected)
     (wanted : Bool) → Tabled past w g table → table id ≡ Some (Waiting kind true wanted) → Pends past w id kind wanted
 pends_by past w g table id kind wanted t here = by_state (id_state past id) refl (sym (t id) ∙ here)
   where

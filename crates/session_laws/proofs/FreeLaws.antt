@@ -3,7 +3,7 @@ use Rattle.std.proofs.Common.{◌≡◌, ℕ, Bool, true, false, List, Option, S
 use Rattle.sftp_model.specs.Answers.{expected_of, is_handle}
 use Rattle.sftp_model.specs.declared.answers.Expected.{Expected}
 use Rattle.sftp_model.specs.declared.reply.Reply.{Reply}
-use Rattle.sftp_core.specs.declared.place.Place.{Place}
+use Rattle.sftp_core.specs.declared.id_record.IdRecord.{IdRecord}
 use Rattle.session_model.specs.declared.entry.Entry.{Entry}
 use Rattle.session_model.specs.Readings.{answer}
 use Rattle.session_model.specs.Grants.{is_grant, is_granted}
@@ -22,7 +22,7 @@ unwanted true c e r h = absurd cc
 unwanted false c e r h = refl
 
 -- nothing stands under the id: its place is not wanted
-pub free_unwanted : (past : List Entry) (w g : ℕ → Bool) (table : ℕ → Option Place) (id p : ℕ) → Tabled past w g table
+pub free_unwanted : (past : List Entry) (w g : ℕ → Bool) (table : ℕ → Option IdRecord) (id p : ℕ) → Tabled past w g table
     → table id ≡ None → place_of (id_state past id) ≡ Some p → w p ≡ false
 free_unwanted past w g table id p t none at = by_state (id_state past id) at (sym (t id) ∙ none)
   where
@@ -32,7 +32,7 @@ free_unwanted past w g table id p t none at = by_state (id_state past id) at (sy
     by_state (Replied q a r) at h = (let same : q ≡ p = cc in ap w (sym same) ∙ unwanted (w q) (g q) _ r h)
 
 -- so no ticket of a lane bears it
-pub free_bare : (past : List Entry) (tickets : ℕ → List ℕ) (g : ℕ → Bool) (table : ℕ → Option Place) (id lane : ℕ)
+pub free_bare : (past : List Entry) (tickets : ℕ → List ℕ) (g : ℕ → Bool) (table : ℕ → Option IdRecord) (id lane : ℕ)
     → Tabled past (among past tickets) g table → table id ≡ None → AllOf past lane (tickets lane)
     → IsBare past id (tickets lane)
 free_bare past tickets g table id lane t none all p at = by_test (is_in p (tickets lane)) refl
@@ -48,7 +48,7 @@ granted_stands e (reply.Handle handle) is none = absurd cc
 granted_stands e other is none = absurd cc
 
 -- nothing stands under the id: the grants of a lane don't bear it
-pub free_bare_grants : (past : List Entry) (tickets grants : ℕ → List ℕ) (table : ℕ → Option Place) (id lane : ℕ)
+pub free_bare_grants : (past : List Entry) (tickets grants : ℕ → List ℕ) (table : ℕ → Option IdRecord) (id lane : ℕ)
     → Tabled past (among past tickets) (among past grants) table → table id ≡ None → AllOf past lane (grants lane)
     → ((g : ℕ) → is_in g (grants lane) ≡ true → is_grant past g ≡ true)
     → ((g : ℕ) → is_in g (grants lane) ≡ true → is_in g (tickets lane) ≡ false) → IsBare past id (grants lane)

@@ -7,8 +7,8 @@ use Rattle.sftp_model.specs.declared.error.Fault.{Fault}
 use Rattle.sftp_model.specs.declared.reply.Reply.{Reply}
 use Rattle.sftp_model.specs.declared.request.Request.{Request}
 use Rattle.sftp_model.specs.declared.request.Request.TheVariants as request
-use Rattle.sftp_core.specs.declared.place.Place.{Place}
-use Rattle.sftp_core.specs.declared.place.Place.TheVariants.{Waiting, Answered, Granted}
+use Rattle.sftp_core.specs.declared.id_record.IdRecord.{IdRecord}
+use Rattle.sftp_core.specs.declared.id_record.IdRecord.TheVariants.{Waiting, Answered, Granted}
 use Rattle.sftp_core.specs.Core.{
   Core,
   abandon_leaves,
@@ -24,7 +24,7 @@ use Rattle.sftp_core.specs.Core.{
   reply_in,
 }
 use Rattle.sftp_core.specs.Grant.{GrantValue}
-use Rattle.sftp_core.specs.Table.{Places, brings}
+use Rattle.sftp_core.specs.Table.{IdRecords, brings}
 use Rattle.sftp_core.specs.Take.{answered, take_leaves}
 use Rattle.sftp_core.proofs.Counts.{count_len, len_less, len_more, len_same, len_sent}
 use Rattle.sftp_core.proofs.Tables.{count-remove}
@@ -39,7 +39,7 @@ pub kept_ask : (old : Core) (id : ℕ) (r : Request) (wanted : Bool) → kept (q
 kept_ask old id r wanted = len_more old.table id _
 
 -- in the place of what stands there it keeps as many
-kept_again : (old : Core) (id : ℕ) (r : Request) (wanted : Bool) (p : Place) → at old id ≡ Some p → kept (queued_last old id r wanted) ≡ kept old
+kept_again : (old : Core) (id : ℕ) (r : Request) (wanted : Bool) (p : IdRecord) → at old id ≡ Some p → kept (queued_last old id r wanted) ≡ kept old
 kept_again old id r wanted p here = len_same old.table id _ p here
 
 -- so does the CLOSE of a grant
@@ -48,21 +48,21 @@ kept_released old grant here = ap kept (released_is old grant here) ∙ kept_aga
 
 -- ---- what is dropped
 
-kept_dropped : (old : Core) (id : ℕ) (b : Option (List ℕ)) (p : Place) → at old id ≡ Some p → kept (dropped old id b) ≤ kept old
+kept_dropped : (old : Core) (id : ℕ) (b : Option (List ℕ)) (p : IdRecord) → at old id ≡ Some p → kept (dropped old id b) ≤ kept old
 kept_dropped old id (Some handle) p here = (let same = kept_again old id (request.Close handle) false p here in omega (arith, same))
 kept_dropped old id None p here = len_less old.table id
 
 pub kept_abandoned : (old : Core) (t : ℕ) → kept (abandoned old t) ≤ kept old
 kept_abandoned old t = by_place (at old t) refl
   where
-    by_place : (p : Option Place) → at old t ≡ p → kept (abandon_leaves old t (at old t)) ≤ kept old
-    by_place None is = subst (λ (x : Option Place). kept (abandon_leaves old t x) ≤ kept old) (sym is) (omega arith)
+    by_place : (p : Option IdRecord) → at old t ≡ p → kept (abandon_leaves old t (at old t)) ≤ kept old
+    by_place None is = subst (λ (x : Option IdRecord). kept (abandon_leaves old t x) ≤ kept old) (sym is) (omega arith)
     by_place (Some (Waiting e sent wanted)) is =
-        subst (λ (x : Option Place). kept (abandon_leaves old t x) ≤ kept old) (sym is)
+        subst (λ (x : Option IdRecord). kept (abandon_leaves old t x) ≤ kept old) (sym is)
         (let same = len_same old.table t (Waiting e sent false) (Waiting e sent wanted) is in omega (arith, same))
-    by_place (Some (Answered e r)) is = subst (λ (x : Option Place). kept (abandon_leaves old t x) ≤ kept old) (sym is)
+    by_place (Some (Answered e r)) is = subst (λ (x : Option IdRecord). kept (abandon_leaves old t x) ≤ kept old) (sym is)
         (kept_dropped old t (brings r) (Answered e r) is)
-    by_place (Some (Granted handle users)) is = subst (λ (x : Option Place). kept (abandon_leaves old t x) ≤ kept old) (sym is) (omega arith)
+    by_place (Some (Granted handle users)) is = subst (λ (x : Option IdRecord). kept (abandon_leaves old t x) ≤ kept old) (sym is) (omega arith)
 
 -- a grant that the session lets go of
 pub kept_let_go : (old : Core) (grant : GrantValue) → at old grant.id ≡ Some (Granted grant.handle 1) → kept (let_go old grant) ≤ kept old
@@ -70,17 +70,17 @@ kept_let_go old grant here = (let less = kept_abandoned (released old grant) gra
 
 -- ---- a poll
 
-some_there : (t : Places) (k : ℕ) (w : Place) → fin.get t k ≡ Some w → 1 ≤ fin.len t
-some_there t k w some = (let one = count-remove (λ (p : Place). true) t k w some in let few = count_len (λ (p : Place). true) t in omega (arith, one, few))
+some_there : (t : IdRecords) (k : ℕ) (w : IdRecord) → fin.get t k ≡ Some w → 1 ≤ fin.len t
+some_there t k w some = (let one = count-remove (λ (p : IdRecord). true) t k w some in let few = count_len (λ (p : IdRecord). true) t in omega (arith, one, few))
 
 -- what is taken out is one less
-removed : (t : Places) (k : ℕ) (w : Place) → fin.get t k ≡ Some w → fin.len (fin.remove t k) + 1 ≤ fin.len t
+removed : (t : IdRecords) (k : ℕ) (w : IdRecord) → fin.get t k ≡ Some w → fin.len (fin.remove t k) + 1 ≤ fin.len t
 removed t k w some = rw (fin.len-remove nat_cmp_total t k, some) (one_less (fin.len t) (some_there t k w some))
   where
     one_less : (n : ℕ) → 1 ≤ n → n - 1 + 1 ≤ n
     one_less n le = omega (arith, le)
 
-polled_by : (old : Core) (t : ℕ) (y : Reply) (f : Option Fault) (p : Option Place) → at old t ≡ p → reply_in p ≡ Some y
+polled_by : (old : Core) (t : ℕ) (y : Reply) (f : Option Fault) (p : Option IdRecord) → at old t ≡ p → reply_in p ≡ Some y
     → (kept (poll_leaves old t f p) ≤ kept old) × (brings y ≡ None → kept (poll_leaves old t f p) + 1 ≤ kept old)
 polled_by old t y f (Some (Answered e r)) here is = (
   by_brought (brings r) refl,
@@ -109,13 +109,13 @@ kept_sent old = (let same = len_sent old.table in omega (arith, same))
 pub kept_taken : (old : Core) (id : ℕ) (r : Reply) → kept (take_leaves old id r (at old id)) ≤ kept old
 kept_taken old id r = by_place (at old id) refl
   where
-    by_wanted : (e : Expected) (wanted : Bool) (p : Place) → at old id ≡ Some p → kept (answered old id r e wanted) ≤ kept old
+    by_wanted : (e : Expected) (wanted : Bool) (p : IdRecord) → at old id ≡ Some p → kept (answered old id r e wanted) ≤ kept old
     by_wanted e true p is = (let same = len_same old.table id (Answered e r) p is in omega (arith, same))
     by_wanted e false p is = kept_dropped old id (brings r) p is
 
-    by_place : (p : Option Place) → at old id ≡ p → kept (take_leaves old id r (at old id)) ≤ kept old
-    by_place None is = subst (λ (x : Option Place). kept (take_leaves old id r x) ≤ kept old) (sym is) (omega arith)
-    by_place (Some (Waiting e sent wanted)) is = subst (λ (x : Option Place). kept (take_leaves old id r x) ≤ kept old)
+    by_place : (p : Option IdRecord) → at old id ≡ p → kept (take_leaves old id r (at old id)) ≤ kept old
+    by_place None is = subst (λ (x : Option IdRecord). kept (take_leaves old id r x) ≤ kept old) (sym is) (omega arith)
+    by_place (Some (Waiting e sent wanted)) is = subst (λ (x : Option IdRecord). kept (take_leaves old id r x) ≤ kept old)
         (sym is) (by_wanted e wanted (Waiting e sent wanted) is)
-    by_place (Some (Answered e other)) is = subst (λ (x : Option Place). kept (take_leaves old id r x) ≤ kept old) (sym is) (omega arith)
-    by_place (Some (Granted handle users)) is = subst (λ (x : Option Place). kept (take_leaves old id r x) ≤ kept old) (sym is) (omega arith)
+    by_place (Some (Answered e other)) is = subst (λ (x : Option IdRecord). kept (take_leaves old id r x) ≤ kept old) (sym is) (omega arith)
+    by_place (Some (Granted handle users)) is = subst (λ (x : Option IdRecord). kept (take_leaves old id r x) ≤ kept old) (sym is) (omega arith)

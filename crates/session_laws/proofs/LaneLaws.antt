@@ -43,7 +43,7 @@ use Rattle.session_laws.proofs.OrderLaws.{of_below}
 use Rattle.session_laws.proofs.HoldLaws.{of_in, ticket_at, ticket_index}
 use Rattle.session_laws.proofs.RunningLaws.{waits}
 use Rattle.sftp_model.specs.declared.outcome.Outcome.{Outcome}
-use Rattle.sftp_core.specs.declared.place.Place.TheVariants.{Granted}
+use Rattle.sftp_core.specs.declared.id_record.IdRecord.TheVariants.{Granted}
 use Rattle.plan_runner.specs.declared.next.Next.{Next}
 use Rattle.plan_runner.specs.Runners.{after, awaited, bytes_of, idle}
 use Rattle.plan_runner.specs.Cancelling.{left_after}

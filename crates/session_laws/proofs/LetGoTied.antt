@@ -8,7 +8,7 @@ use Rattle.sftp_model.specs.declared.slot.Slot.{Slot}
 use Rattle.sftp_model.specs.declared.slot.Site.{Site}
 use Rattle.sftp_model.specs.Slots.{grant_of, has_grant, slot_has}
 use Rattle.sftp_core.specs.Core.{Core, at}
-use Rattle.sftp_core.specs.declared.place.Place.TheVariants.{Waiting}
+use Rattle.sftp_core.specs.declared.id_record.IdRecord.TheVariants.{Waiting}
 use Rattle.plan_model.specs.Moves.{handle_of}
 use Rattle.plan_runner.specs.declared.next.Running.{Running}
 use Rattle.session_model.specs.declared.entry.Entry.{Entry}

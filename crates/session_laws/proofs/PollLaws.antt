@@ -4,8 +4,8 @@ use Rattle.std.specs.Prelude.{slice_get}
 use Rattle.std.proofs.lemmas.Bool.Decides.{eqb_tells}
 use Rattle.sftp_model.specs.declared.answers.Expected.{Expected}
 use Rattle.sftp_model.specs.declared.reply.Reply.{Reply}
-use Rattle.sftp_core.specs.declared.place.Place.{Place}
-use Rattle.sftp_core.specs.declared.place.Place.TheVariants.{Granted}
+use Rattle.sftp_core.specs.declared.id_record.IdRecord.{IdRecord}
+use Rattle.sftp_core.specs.declared.id_record.IdRecord.TheVariants.{Granted}
 use Rattle.sftp_core.specs.Core.{reply_in, is_ticket}
 use Rattle.session_model.specs.declared.event.Owner.{Owner}
 use Rattle.session_model.specs.declared.entry.Entry.{Entry}
@@ -34,7 +34,7 @@ gave false true e (reply.Extended content) y h = absurd cc
 gave false false e r y h = absurd cc
 
 -- a reply that the core has for the ticket of a place
-pub came_answer : (past : List Entry) (w g : ℕ → Bool) (table : ℕ → Option Place) (id p : ℕ) (y : Reply)
+pub came_answer : (past : List Entry) (w g : ℕ → Bool) (table : ℕ → Option IdRecord) (id p : ℕ) (y : Reply)
     → Tabled past w g table → place_of (id_state past id) ≡ Some p → reply_in (table id) ≡ Some y
     → (a : AskedRequest) × ((id_state past id ≡ Replied p a y) × (answer past p ≡ Some y))
 came_answer past w g table id p y t at has = by_state (id_state past id) (reads past id) at (ap reply_in (sym (t id)) ∙ has)
@@ -49,7 +49,7 @@ came_answer past w g table id p y t at has = by_state (id_state past id) (reads 
         (a, ((λ i. Replied (same i) a (is i)), ap (answer past) (sym same) ∙ (r.1 ∙ ap (λ (x : Reply). Some x) is))))
 
 -- a wanted reply that the core does not have was not taken
-pub missing_answer : (past : List Entry) (w g : ℕ → Bool) (table : ℕ → Option Place) (id p : ℕ) → Tabled past w g table
+pub missing_answer : (past : List Entry) (w g : ℕ → Bool) (table : ℕ → Option IdRecord) (id p : ℕ) → Tabled past w g table
     → place_of (id_state past id) ≡ Some p → w p ≡ true → reply_in (table id) ≡ None → answer past p ≡ None
 missing_answer past w g table id p t at wanted none = by_state (id_state past id) (reads past id) at (ap reply_in (sym (t id)) ∙ none)
   where
@@ -62,7 +62,7 @@ missing_answer past w g table id p t at wanted none = by_state (id_state past id
         let clash : ◌≡◌ {A = Option Reply} (Some z) None = rw here at none in absurd cc)
 
 -- a ticket that a lane has is one that the core counts
-pub ticket_counts : (past : List Entry) (w g : ℕ → Bool) (table : ℕ → Option Place) (id p : ℕ) → Tabled past w g table
+pub ticket_counts : (past : List Entry) (w g : ℕ → Bool) (table : ℕ → Option IdRecord) (id p : ℕ) → Tabled past w g table
     → place_of (id_state past id) ≡ Some p → w p ≡ true → is_ticket (table id) ≡ true
 ticket_counts past w g table id p t at wanted = ap is_ticket (t id) ∙ by_state (id_state past id) at
   where
@@ -72,7 +72,7 @@ ticket_counts past w g table id p t at wanted = ap is_ticket (t id) ∙ by_state
     by_state (Replied q a z) at = (let same : q ≡ p = cc in let here : w q ≡ true = ap w same ∙ wanted in rw here refl)
 
 -- and a grant alike
-pub grant_counts : (past : List Entry) (w g : ℕ → Bool) (table : ℕ → Option Place) (id p : ℕ) (a : AskedRequest)
+pub grant_counts : (past : List Entry) (w g : ℕ → Bool) (table : ℕ → Option IdRecord) (id p : ℕ) (a : AskedRequest)
     (handle : List ℕ) → Tabled past w g table → id_state past id ≡ Replied p a (reply.Handle handle) → w p ≡ false → g p
     ≡ true → table id ≡ Some (Granted handle 1)
 grant_counts past w g table id p a handle t at none some = t id ∙ ap (stand w g) at ∙ polled_handle w g p a handle none some
@@ -118,7 +118,7 @@ now_places places lane now = elim (eqb_tells lane lane) [ inl t ↦ rw t.0 refl 
 
 -- A reply that brings no handle was polled, or a ticket was dropped: the ticket at index k is gone.
 pub spent_tabled : (past : List Entry) (tickets grants : ℕ → List ℕ) (lane k id p : ℕ) (a : AskedRequest)
-    (table now : ℕ → Option Place) → asked_at past p ≡ Some a → is_of a.by lane ≡ true → IsRising (tickets lane)
+    (table now : ℕ → Option IdRecord) → asked_at past p ≡ Some a → is_of a.by lane ≡ true → IsRising (tickets lane)
     → slice_get (tickets lane) k ≡ Some p
     → place_of (id_state past id) ≡ Some p
     → now id ≡ stand (λ q. among past (with_places tickets lane (without k (tickets lane))) q)
@@ -141,7 +141,7 @@ spent_unwanted past tickets lane k p a at mine rising here =
 
 -- A HANDLE was polled: the ticket is gone, and its place has a grant.
 pub granted_tabled : (past : List Entry) (tickets grants : ℕ → List ℕ) (lane k id p : ℕ) (a b : AskedRequest) (handle : List ℕ)
-    (table now : ℕ → Option Place) → asked_at past p ≡ Some a → is_of a.by lane ≡ true → IsRising (tickets lane)
+    (table now : ℕ → Option IdRecord) → asked_at past p ≡ Some a → is_of a.by lane ≡ true → IsRising (tickets lane)
     → slice_get (tickets lane) k ≡ Some p
     → id_state past id ≡ Replied p b (reply.Handle handle) → now id ≡ Some (Granted handle 1) → ((i : ℕ) → i ≢ id → now i ≡ table i)
     → Tabled past (among past tickets) (among past grants) table

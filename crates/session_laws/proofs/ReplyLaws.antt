@@ -4,8 +4,8 @@ use Rattle.sftp_model.specs.declared.answers.Expected.{Expected}
 use Rattle.sftp_model.specs.declared.request.Request.{Request}
 use Rattle.sftp_model.specs.declared.reply.Reply.{Reply}
 use Rattle.sftp_model.specs.Answers.{expected_of, is_handle}
-use Rattle.sftp_core.specs.declared.place.Place.TheVariants.{Waiting, Answered}
-use Rattle.sftp_core.specs.Core.{Core, at, queued_last, with_place, without as removed, abandoned, released}
+use Rattle.sftp_core.specs.declared.id_record.IdRecord.TheVariants.{Waiting, Answered}
+use Rattle.sftp_core.specs.Core.{Core, at, queued_last, with_record, without as removed, abandoned, released}
 use Rattle.sftp_core.specs.Take.{take_leaves}
 use Rattle.sftp_core.proofs.Elsewhere.{gone_elsewhere, gone_here, put_elsewhere, put_here}
 use Rattle.plan_model.specs.Moves.{handle_of}
@@ -80,7 +80,7 @@ taken_keeps s past c lanes id p a b r h j is wanted = by_wanted (among past (tic
     by_wanted true w =
         subst (λ (x : Core). SessionTied s now x lanes []) (sym (ap (take_leaves c id r)
         (waiting_is s past c lanes [] id p a b h is ∙ ap (λ (x : Bool). Some (Waiting e b x)) w)))
-        (take_tied s past c (with_place c id (Answered e r)) lanes [] id p a b r j is h
+        (take_tied s past c (with_record c id (Answered e r)) lanes [] id p a b r j is h
         (core_placed s now c id (Answered e r) (core_on s past now c refl h.work))
         (put_here c.table id (Answered e r) ∙ sym (rw w refl)) (λ i ne. put_elsewhere c.table id (Answered e r) i ne))
     by_wanted false w =

@@ -2,7 +2,7 @@
 use Rattle.std.proofs.Common.{◌≡◌, ℕ, List, ◌∷◌, refl, ap}
 use Rattle.std.specs.Option.{option_map}
 use Rattle.sftp_core.specs.Core.{Core, at}
-use Rattle.sftp_core.specs.Table.{sent_place}
+use Rattle.sftp_core.specs.Table.{sent_record}
 use Rattle.session_model.specs.declared.event.Event.TheVariants.{Send}
 use Rattle.session_model.specs.declared.entry.Entry.{Entry}
 use Rattle.session_model.specs.Calls.{Setting}
@@ -36,7 +36,7 @@ send_same s past w =
 
 -- What was queued is sent.
 pub send_tied : (s : Setting) (past : List Entry) (core now : Core) (lanes : ℕ → LaneValue) (dues : List ℕ)
-    → CoreTied s (entry.Event Send ∷ past) now → ((id : ℕ) → at now id ≡ option_map sent_place (at core id))
+    → CoreTied s (entry.Event Send ∷ past) now → ((id : ℕ) → at now id ≡ option_map sent_record (at core id))
     → SessionTied s past core lanes dues → SessionTied s (entry.Event Send ∷ past) now lanes dues
 send_tied s past core now lanes dues work sends h =
     same_tied s past (entry.Event Send ∷ past) core now lanes dues work

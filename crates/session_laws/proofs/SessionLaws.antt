@@ -7,7 +7,7 @@ use Rattle.sftp_model.specs.declared.outcome.Outcome.{Outcome}
 use Rattle.sftp_model.specs.declared.slot.Site.{Site}
 use Rattle.sftp_model.specs.Slots.{has_grant}
 use Rattle.sftp_core.specs.Core.{Core, at}
-use Rattle.sftp_core.specs.declared.place.Place.{Place}
+use Rattle.sftp_core.specs.declared.id_record.IdRecord.{IdRecord}
 use Rattle.plan_model.specs.Moves.{Own}
 use Rattle.plan_model.specs.declared.call.Call.{Call}
 use Rattle.session_model.specs.declared.event.Event.TheVariants.{Cancel, End}
@@ -53,7 +53,7 @@ same_places places lane now e w = elim (eqb_tells lane w) [ inl t ↦ rw t.0 (ap
 
 -- the table, by the lanes' own lists
 pub table_with : (past : List Entry) (lanes : ℕ → LaneValue) (lane : ℕ) (v : LaneValue) (tickets grants : List ℕ)
-    (table : ℕ → Option Place) → tickets ≡ ticket_places v.tickets → grants ≡ grant_places v.grants
+    (table : ℕ → Option IdRecord) → tickets ≡ ticket_places v.tickets → grants ≡ grant_places v.grants
     → Tabled past (among past (with_places (tickets_of lanes) lane tickets)) (among past (with_places (grants_of lanes) lane grants)) table
     → Tabled past (among past (tickets_of (with_lane lanes lane v))) (among past (grants_of (with_lane lanes lane v))) table
 table_with past lanes lane v tickets grants table et eg t =
@@ -66,7 +66,7 @@ table_with past lanes lane v tickets grants table et eg t =
     (subst (λ (g : ℕ → List ℕ). Tabled past (among past (with_places (tickets_of lanes) lane tickets)) (among past g) table) fg t)
 
 -- a lane changes, but none of its lists
-pub table_kept : (past : List Entry) (lanes : ℕ → LaneValue) (lane : ℕ) (v : LaneValue) (table : ℕ → Option Place)
+pub table_kept : (past : List Entry) (lanes : ℕ → LaneValue) (lane : ℕ) (v : LaneValue) (table : ℕ → Option IdRecord)
     → ticket_places v.tickets ≡ tickets_of lanes lane → grant_places v.grants ≡ grants_of lanes lane
     → Tabled past (among past (tickets_of lanes)) (among past (grants_of lanes)) table
     → Tabled past (among past (tickets_of (with_lane lanes lane v)))

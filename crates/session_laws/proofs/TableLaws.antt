@@ -6,9 +6,9 @@ use Rattle.sftp_model.specs.Answers.{expected_of}
 use Rattle.sftp_model.specs.declared.answers.Expected.{Expected}
 use Rattle.sftp_model.specs.declared.request.Request.{Request}
 use Rattle.sftp_model.specs.declared.reply.Reply.{Reply}
-use Rattle.sftp_core.specs.declared.place.Place.{Place}
-use Rattle.sftp_core.specs.declared.place.Place.TheVariants.{Waiting, Granted}
-use Rattle.sftp_core.specs.Table.{sent_place}
+use Rattle.sftp_core.specs.declared.id_record.IdRecord.{IdRecord}
+use Rattle.sftp_core.specs.declared.id_record.IdRecord.TheVariants.{Waiting, Granted}
+use Rattle.sftp_core.specs.Table.{sent_record}
 use Rattle.session_model.specs.declared.event.Owner.{Owner}
 use Rattle.session_model.specs.declared.event.Event.TheVariants.{Submit, Send, Take}
 use Rattle.session_model.specs.declared.entry.Entry.{Entry}
@@ -37,7 +37,7 @@ place_borne past id p e = borne past id p (id_state past id) (reads past id) e
 
 -- ---- a request: a ticket for its place, or none; where a grant's CLOSE stands in the grant's place, the grant is gone
 
-pub ask_tabled : (past : List Entry) (w v g h : ℕ → Bool) (table now : ℕ → Option Place) (by : Owner) (id : ℕ) (r : Request)
+pub ask_tabled : (past : List Entry) (w v g h : ℕ → Bool) (table now : ℕ → Option IdRecord) (by : Owner) (id : ℕ) (r : Request)
     → now id ≡ Some (Waiting (expected_of r) false (v (asked past))) → ((i : ℕ) → i ≢ id → now i ≡ table i)
     → ((p : ℕ) → p < asked past → bearer past id ≢ Some p → (w p ≡ v p) × (g p ≡ h p)) → Tabled past w g table
     → Tabled (entry.Event (Submit by id r) ∷ past) v h now
@@ -50,7 +50,7 @@ ask_tabled past w v g h table now by id r here elsewhere same t i = elim (eqb_te
 
 -- ---- a reply
 
-pub take_tabled : (past : List Entry) (w g : ℕ → Bool) (table now : ℕ → Option Place) (id p : ℕ) (a : AskedRequest) (b : Bool) (r : Reply)
+pub take_tabled : (past : List Entry) (w g : ℕ → Bool) (table now : ℕ → Option IdRecord) (id p : ℕ) (a : AskedRequest) (b : Bool) (r : Reply)
     → id_state past id ≡ Pending p a b → now id ≡ replied (w p) (g p) (expected_of a.request) r → ((i : ℕ) → i ≢ id → now i ≡ table i)
     → Tabled past w g table → Tabled (entry.Event (Take id r) ∷ past) w g now
 take_tabled past w g table now id p a b r is here elsewhere t i = elim (eqb_tells id i) [
@@ -60,7 +60,7 @@ take_tabled past w g table now id p a b r is here elsewhere t i = elim (eqb_tell
 
 -- ---- a ticket is spent, without an event: its reply was polled, or it was dropped
 
-pub spend_tabled : (past : List Entry) (w v g h : ℕ → Bool) (table now : ℕ → Option Place) (id p : ℕ) → place_of (id_state past id) ≡ Some p
+pub spend_tabled : (past : List Entry) (w v g h : ℕ → Bool) (table now : ℕ → Option IdRecord) (id p : ℕ) → place_of (id_state past id) ≡ Some p
     → now id ≡ stand v h (id_state past id) → ((i : ℕ) → i ≢ id → now i ≡ table i)
     → ((q : ℕ) → q ≢ p → (w q ≡ v q) × (g q ≡ h q)) → Tabled past w g table → Tabled past v h now
 spend_tabled past w v g h table now id p at here elsewhere same t i = elim (eqb_tells id i) [
@@ -83,7 +83,7 @@ dropped_waits v h p a b none = rw none refl
 
 -- ---- a hand-out
 
-sent_replied : (w g : Bool) (e : Expected) (r : Reply) → option_map sent_place (replied w g e r) ≡ replied w g e r
+sent_replied : (w g : Bool) (e : Expected) (r : Reply) → option_map sent_record (replied w g e r) ≡ replied w g e r
 sent_replied true g e r = refl
 sent_replied false true e (reply.Handle handle) = refl
 sent_replied false true e (reply.Version version extensions) = refl
@@ -94,12 +94,12 @@ sent_replied false true e (reply.Attrs attrs) = refl
 sent_replied false true e (reply.Extended content) = refl
 sent_replied false false e r = refl
 
-sent_stand : (w g : ℕ → Bool) (x : IdState) → option_map sent_place (stand w g x) ≡ stand w g (now_sent x)
+sent_stand : (w g : ℕ → Bool) (x : IdState) → option_map sent_record (stand w g x) ≡ stand w g (now_sent x)
 sent_stand w g Free = refl
 sent_stand w g (Pending p a b) = refl
 sent_stand w g (Replied p a r) = sent_replied (w p) (g p) (expected_of a.request) r
 
-pub send_tabled : (past : List Entry) (w g : ℕ → Bool) (table now : ℕ → Option Place)
-    → ((id : ℕ) → now id ≡ option_map sent_place (table id)) → Tabled past w g table
+pub send_tabled : (past : List Entry) (w g : ℕ → Bool) (table now : ℕ → Option IdRecord)
+    → ((id : ℕ) → now id ≡ option_map sent_record (table id)) → Tabled past w g table
     → Tabled (entry.Event Send ∷ past) w g now
-send_tabled past w g table now sends t id = sends id ∙ ap (option_map sent_place) (t id) ∙ sent_stand w g (id_state past id)
+send_tabled past w g table now sends t id = sends id ∙ ap (option_map sent_record) (t id) ∙ sent_stand w g (id_state past id)

@@ -7,8 +7,8 @@ use Rattle.sftp_model.specs.declared.request.Request.{Request}
 use Rattle.sftp_model.specs.declared.reply.Reply.{Reply}
 use Rattle.sftp_model.specs.Answers.{expected_of, is_handle}
 use Rattle.sftp_model.specs.declared.slot.Site.{Site}
-use Rattle.sftp_core.specs.declared.place.Place.{Place}
-use Rattle.sftp_core.specs.declared.place.Place.TheVariants.{Waiting, Answered, Granted}
+use Rattle.sftp_core.specs.declared.id_record.IdRecord.{IdRecord}
+use Rattle.sftp_core.specs.declared.id_record.IdRecord.TheVariants.{Waiting, Answered, Granted}
 use Rattle.sftp_core.specs.Core.{
   Core,
   abandon_leaves,
@@ -23,7 +23,7 @@ use Rattle.sftp_core.specs.Core.{
   released,
   reply_in,
   users_of,
-  with_place,
+  with_record,
   without as removed,
 }
 use Rattle.sftp_core.specs.Grant.{GrantValue}
@@ -77,7 +77,7 @@ use Rattle.session_model.specs.declared.entry.Entry.TheVariants as entry
 
 -- ---- what stands under a ticket or a grant
 
-answered_is : (x : Option Place) (y : Reply) → reply_in x ≡ Some y → (e : Expected) × (x ≡ Some (Answered e y))
+answered_is : (x : Option IdRecord) (y : Reply) → reply_in x ≡ Some y → (e : Expected) × (x ≡ Some (Answered e y))
 answered_is None y came = absurd cc
 answered_is (Some (Waiting e b w)) y came = absurd cc
 answered_is (Some (Answered e z)) y came = (e, ap (λ (r : Reply). Some (Answered e r)) (let same : z ≡ y = cc in same))
@@ -159,7 +159,7 @@ handle_keeps s past c lanes dues lane k t handle running site h there at_k came 
     (reply.Handle handle) h.table (ticket_at past old.tickets k t l.holds.tied at_k) came in
     subst (λ (x : Core). SessionTied s past x (with_lane lanes lane (granted_lane old k t handle running site)) dues)
     (sym (polled_is c t.ticket (reply.Handle handle) came))
-    (granted_tied s past c (with_place c t.ticket (Granted handle 1)) lanes dues lane k t handle running site h there at_k
+    (granted_tied s past c (with_record c t.ticket (Granted handle 1)) lanes dues lane k t handle running site h there at_k
     (record { asked = got.0; came = got.1.0; got = got.1.1; unclosed = unclosed; holder = holder; newer = newer })
     (core_placed s past c t.ticket (Granted handle 1) h.work)
     (put_here c.table t.ticket (Granted handle 1)) (λ i ne. put_elsewhere c.table t.ticket (Granted handle 1) i ne)
@@ -253,7 +253,7 @@ dropped_keeps s past c lanes dues lane k t running site h there at_k plain done 
         ∙ ap (stand (among past (tickets_of lanes)) grants) is in
         subst (λ (x : Core). SessionTied s past x (with_lane lanes lane (spent_lane (lanes lane) k running site)) dues)
         (sym (ap (abandon_leaves c t.ticket) stands))
-        (spent (with_place c t.ticket (Waiting e b false)) (core_placed s past c t.ticket (Waiting e b false) h.work)
+        (spent (with_record c t.ticket (Waiting e b false)) (core_placed s past c t.ticket (Waiting e b false) h.work)
         (put_here c.table t.ticket (Waiting e b false) ∙ sym (ap (stand wants grants) is
         ∙ dropped_waits wants grants p a b (ap wants same ∙ away.0)))
         (λ i ne. put_elsewhere c.table t.ticket (Waiting e b false) i ne))
@@ -327,7 +327,7 @@ close_request_keeps s past c lanes lane g k grant running site h there j is got 
 
 -- the session's own CLOSE: queued, and its ticket dropped at once
 abbrev pub closing_core : Core → ℕ → List ℕ → Core
-closing_core c id handle = with_place (queued_last c id (request.Close handle) true) id (Waiting (expected_of (request.Close handle)) false false)
+closing_core c id handle = with_record (queued_last c id (request.Close handle) true) id (Waiting (expected_of (request.Close handle)) false false)
 
 pub closing_is : (s : Setting) (past : List Entry) (c : Core) (lanes : ℕ → LaneValue) (dues : List ℕ) (lane g k : ℕ)
     (grant : GrantValue) → SessionTied s past c lanes dues → lane < length s.lanes → slice_get (lanes lane).grants k

@@ -3,26 +3,26 @@ use Rattle.std.specs.Prelude.{◌≡◌, ℕ, Bool, true, false, List, Option, S
 use Rattle.sftp_model.specs.Answers.{expected_of}
 use Rattle.sftp_model.specs.declared.answers.Expected.{Expected}
 use Rattle.sftp_model.specs.declared.reply.Reply.{Reply}
-use Rattle.sftp_core.specs.declared.place.Place.{Place}
-use Rattle.sftp_core.specs.declared.place.Place.TheVariants.{Waiting, Answered, Granted}
+use Rattle.sftp_core.specs.declared.id_record.IdRecord.{IdRecord}
+use Rattle.sftp_core.specs.declared.id_record.IdRecord.TheVariants.{Waiting, Answered, Granted}
 use Rattle.session_model.specs.declared.entry.Entry.{Entry}
 use Rattle.session_model.specs.Ids.{IdState, Free, Pending, Replied, id_state}
 use Rattle.sftp_model.specs.declared.reply.Reply.TheVariants as reply
 
 -- A reply that a lane has a ticket for is kept for it. A handle that a lane has as a grant is a grant with one user.
-abbrev pub replied : Bool → Bool → Expected → Reply → Option Place
+abbrev pub replied : Bool → Bool → Expected → Reply → Option IdRecord
 replied true granted expected r = Some (Answered expected r)
 replied false true expected (reply.Handle handle) = Some (Granted handle 1)
 replied false true expected other = None
 replied false false expected r = None
 
 -- what stands under an id, by its last request
-abbrev pub stand : (ℕ → Bool) → (ℕ → Bool) → IdState → Option Place
+abbrev pub stand : (ℕ → Bool) → (ℕ → Bool) → IdState → Option IdRecord
 stand wanted granted Free = None
 stand wanted granted (Pending place a was_sent) = Some (Waiting (expected_of a.request) was_sent (wanted place))
 stand wanted granted (Replied place a r) = replied (wanted place) (granted place) (expected_of a.request) r
 
-abbrev pub Tabled : List Entry → (ℕ → Bool) → (ℕ → Bool) → (ℕ → Option Place) → Type 0
+abbrev pub Tabled : List Entry → (ℕ → Bool) → (ℕ → Bool) → (ℕ → Option IdRecord) → Type 0
 Tabled past wanted granted table = (id : ℕ) → table id ≡ stand wanted granted (id_state past id)
 
 -- ---- the place of an id

@@ -43,8 +43,8 @@ use Rattle.sftp_core.specs.declared.errors.TakeError.{TakeError}
 use Rattle.sftp_core.specs.declared.info.Info.{Info}
 use Rattle.sftp_core.specs.declared.handshake.Handshake.{Handshake}
 use Rattle.sftp_core.specs.declared.handshake.Handshake.TheVariants as phase
-use Rattle.sftp_core.specs.declared.place.Place.{Place}
-use Rattle.sftp_core.specs.declared.place.Place.TheVariants.{Answered, Granted, Waiting}
+use Rattle.sftp_core.specs.declared.id_record.IdRecord.{IdRecord}
+use Rattle.sftp_core.specs.declared.id_record.IdRecord.TheVariants.{Answered, Granted, Waiting}
 use Rattle.sftp_core.specs.declared.tokens.Taken.{Taken}
 use Rattle.sftp_core.specs.declared.tokens.Taken.TheVariants as taken_of
 use Rattle.session_model.specs.declared.event.Owner.TheVariants as owner
@@ -158,7 +158,7 @@ allowed_by false e h = absurd cc
 awaited_by : (old : Core) (id : ℕ) (r : Reply) → wrong_at id r (at old id) ≡ None → IsAwaited old id r
 awaited_by old id r none = by_place (at old id) refl none
   where
-    by_place : (p : Option Place) → at old id ≡ p → wrong_at id r p ≡ None → IsAwaited old id r
+    by_place : (p : Option IdRecord) → at old id ≡ p → wrong_at id r p ≡ None → IsAwaited old id r
     by_place (Some (Waiting kind true wanted)) is h = record { kind = kind; wanted = wanted; here = is; allowed = allowed_by (allows kind r) _ h }
     by_place (Some (Waiting kind false wanted)) is h = absurd cc
     by_place (Some (Answered kind other)) is h = absurd cc
@@ -263,7 +263,7 @@ take_noted s c id r before old mid now closed w x count past_is mid_is none clos
     kept : (x.wanted ≡ true) ⊎ (brings r ≡ None) → To (reverse now) (counted_by closed c.asked)
     kept how =
         let queue : (take_leaves c.core id r (at c.core id)).queue ≡ c.core.queue =
-        ap (λ (p : Option Place). (take_leaves c.core id r p).queue) x.here
+        ap (λ (p : Option IdRecord). (take_leaves c.core id r p).queue) x.here
         ∙ kept_queue c.core id r x.kind x.wanted how in
         let nothing = none (ap length queue ∙ count) in
         let same : reverse now ≡ entry.Event (Take id r) ∷ c.past = ap reverse nothing.1 ∙ entered in
@@ -288,7 +288,7 @@ take_noted s c id r before old mid now closed w x count past_is mid_is none clos
     brought : (h : List ℕ) → x.wanted ≡ false → brings r ≡ Some h → To (reverse now) (counted_by closed c.asked)
     brought h unwanted some =
         let queue : (take_leaves c.core id r (at c.core id)).queue ≡ c.core.queue ++ (id, request.Close h) ∷ [] =
-        ap (λ (p : Option Place). (take_leaves c.core id r p).queue) x.here
+        ap (λ (p : Option IdRecord). (take_leaves c.core id r p).queue) x.here
         ∙ ap (λ (b : Bool). (answered c.core id r x.kind b).queue) unwanted
         ∙ ap (λ (b : Option (List ℕ)). (dropped c.core id b).queue) some in
         let closes : Entry = entry.Event (Submit owner.Close id (request.Close h)) in

@@ -33,7 +33,7 @@ use Rattle.session_lane.specs.declared.lane.Moved.TheVariants as moved
 use Rattle.session_lane.proofs.Holding.{with_again}
 use Rattle.session_work.specs.Closing.{Closing, IsClosed}
 use Rattle.session_work.specs.Noting.{HasCall, OthersRun, Turning, with_begun, asked_in, call_by, call_in, ended_in, turned_in}
-use Rattle.session_work.specs.Working.{LanesValue, Stands, StepsIn, Unnoted, Works, lane_in, lanes_left, stage_in}
+use Rattle.session_work.specs.Working.{LanesValue, Stands, StepsIn, Unnoted, Works, lane_in, lanes_left, progress_in}
 use Rattle.session_work.proofs.BegunLaws.{begun_ends, begun_runs, others_kept}
 use Rattle.session_work.proofs.CallsLaws.{call_within, calls_few, current_is}
 use Rattle.session_work.proofs.ClosingLaws.{counted_in}
@@ -104,7 +104,7 @@ waits_in s lane old c t =
     let x : LaneWaits s old.past old.core t.new (with_lane (lane_in old.states) lane t.now) old.begun lane = t.leaves in
     let made : LanesValue = record old { core = t.new; states = slice_set old.states lane t.now; begun = begun_with old.begun lane } in
     subst (λ (y : LanesValue). StepsIn s lane old (record y { begun = begun_with y.begun lane }) stepped.Nothing) (sym t.is) (record {
-      steps = subst (λ (m : Option Move). StepsTo s lane (stage_in old) (stage_in made) m stepped.Nothing) (sym x.move) (refl, refl);
+      steps = subst (λ (m : Option Move). StepsTo s lane (progress_in old) (progress_in made) m stepped.Nothing) (sym x.move) (refl, refl);
       later = later_self s old.past;
       working = record {
         stands = record {
@@ -140,7 +140,7 @@ asked_step s lane id r old c t =
     t.works.rest.between.good.run (current_at s old lane t.call t.works a) x.move) in
     let left = asked_left old.facts old.past old.calls lane id r a.calls t.call a.lane_is (call_here s old lane t.call t.works a) fewer in
     subst (λ (y : LanesValue). StepsIn s lane old (asked_in y lane (ended old.past lane) id r) stepped.Submitted) (sym t.is) (record {
-      steps = subst (λ (m : Option Move). StepsTo s lane (stage_in old) (stage_in made) m stepped.Submitted)
+      steps = subst (λ (m : Option Move). StepsTo s lane (progress_in old) (progress_in made) m stepped.Submitted)
           (sym x.move) (refl, refl, (id, (x.free, (inl refl, x.rest.settled))));
       later = inr (x.next, later_self s old.past);
       working = record {
@@ -220,7 +220,7 @@ ended_step s lane o old c new t closed =
     (call_here s old lane t.call t.works a) (own_fresh s old.past lane (ended old.past lane + 1)
     t.works.rest.between.good.run (omega arith)) in
     record {
-      steps = subst (λ (m : Option Move). StepsTo s lane (stage_in old) (stage_in new) m stepped.Ended) (sym x.move)
+      steps = subst (λ (m : Option Move). StepsTo s lane (progress_in old) (progress_in new) m stepped.Ended) (sym x.move)
           (refl, y.begun, (y.closes, y.works.rest.settled));
       later = later_on s old.past now new.past (inr (x.next, later_self s old.past)) y.later;
       working = y.works;

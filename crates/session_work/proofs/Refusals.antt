@@ -13,8 +13,8 @@ use Rattle.sftp_core.specs.Take.{First, IsFirst, IsTakeError, Read, Refused, fau
 use Rattle.sftp_core.specs.declared.errors.TakeError.{TakeError}
 use Rattle.sftp_core.specs.declared.errors.TakeError.TheVariants as take
 use Rattle.sftp_core.specs.declared.handshake.Handshake.{Handshake}
-use Rattle.sftp_core.specs.declared.place.Place.{Place}
-use Rattle.sftp_core.specs.declared.place.Place.TheVariants.{Waiting}
+use Rattle.sftp_core.specs.declared.id_record.IdRecord.{IdRecord}
+use Rattle.sftp_core.specs.declared.id_record.IdRecord.TheVariants.{Waiting}
 use Rattle.session_model.specs.declared.entry.Entry.{Entry}
 use Rattle.session_model.specs.Readings.{AskedRequest, asked_at, awaiting, sent}
 use Rattle.session_model.specs.Calls.{Setting}
@@ -73,7 +73,7 @@ pending_wrong past id p a was_sent live r awaits sent_is there plain =
         ∙ (λ i. refuses_reply id r (if is i then asked_at past p else None))
     by_sent false is = λ i. refuses_reply id r (if is i then asked_at past p else None)
 
-wrong_is : (s : Setting) (past : List Entry) (w g : ℕ → Bool) (table : ℕ → Option Place) (id : ℕ) (r : Reply)
+wrong_is : (s : Setting) (past : List Entry) (w g : ℕ → Bool) (table : ℕ → Option IdRecord) (id : ℕ) (r : Reply)
     → IsJournal s past → opened s past ≡ true → Tabled past w g table → wrong_at id r (table id)
     ≡ refuses_reply id r (awaited_at past id)
 wrong_is s past w g table id r run ready t = ap (wrong_at id r) (t id) ∙ by_state (id_state past id) refl

@@ -85,11 +85,11 @@ contents_of w =
 abbrev pub past_of : Lanes → List Entry
 past_of w = reverse w.journal.items
 
-abbrev pub stage_in : LanesValue → RunProgress
-stage_in c = record { past = c.past; begun = c.begun }
+abbrev pub progress_in : LanesValue → RunProgress
+progress_in c = record { past = c.past; begun = c.begun }
 
-abbrev pub stage_of : Lanes → RunProgress
-stage_of w = stage_in (contents_of w)
+abbrev pub progress_of : Lanes → RunProgress
+progress_of w = progress_in (contents_of w)
 
 -- ---- what is left to do
 
@@ -154,7 +154,7 @@ pub record Unnoted (s : Setting) (old new : LanesValue) : Type 0 where
 -- ---- calls
 
 pub record StepsIn (s : Setting) (lane : ℕ) (old new : LanesValue) (event : Stepped) : Type 0 where
-  pub steps : StepsTo s lane (stage_in old) (stage_in new) (move_of s old.past lane) event
+  pub steps : StepsTo s lane (progress_in old) (progress_in new) (move_of s old.past lane) event
   pub later : IsLater s old.past new.past
   pub working : Works s new
   pub less : LessBy (is_event event) (work_in old) (work_in new)
@@ -164,7 +164,7 @@ abbrev pub StepsLane : Setting → ℕ → Lanes → Lanes → Stepped → Type 
 StepsLane s lane old new event = StepsIn s lane (contents_of old) (contents_of new) event
 
 pub record CancelsIn (s : Setting) (lane : ℕ) (old new : LanesValue) (event : Bool) : Type 0 where
-  pub cancels : CancelsCall s lane (stage_in old) (stage_in new) event
+  pub cancels : CancelsCall s lane (progress_in old) (progress_in new) event
   pub later : IsLater s old.past new.past
   pub working : Works s new
 
@@ -172,7 +172,7 @@ abbrev pub CancelsLane : Setting → ℕ → Lanes → Lanes → Bool → Type 0
 CancelsLane s lane old new event = CancelsIn s lane (contents_of old) (contents_of new) event
 
 pub record LetsGoIn (s : Setting) (lane : ℕ) (old new : LanesValue) : Type 0 where
-  pub lets_go : LetsGo s lane (stage_in old) (stage_in new)
+  pub lets_go : LetsGo s lane (progress_in old) (progress_in new)
   pub later : IsLater s old.past new.past
   pub working : Works s new
 
@@ -180,7 +180,7 @@ abbrev pub LetsLaneGo : Setting → ℕ → Lanes → Lanes → Type 0
 LetsLaneGo s lane old new = LetsGoIn s lane (contents_of old) (contents_of new)
 
 pub record HandsIn (s : Setting) (old new : LanesValue) (bytes : Option (List ℕ)) : Type 0 where
-  pub hands : HandsOut s (stage_in old) bytes (stage_in new)
+  pub hands : HandsOut s (progress_in old) bytes (progress_in new)
   pub work : work_in new ≡ work_in old
   pub working : Works s new
 
@@ -189,7 +189,7 @@ HandsAll s old new bytes = HandsIn s (contents_of old) (contents_of new) bytes
 
 pub record TakesIn (s : Setting) (body_reads : Result (Option ℕ × Reply) FrameError) (old new : LanesValue) : Type 0
   where
-    pub takes : TakesAndSettles s body_reads (stage_in old) (stage_in new)
+    pub takes : TakesAndSettles s body_reads (progress_in old) (progress_in new)
     pub later : IsLater s old.past new.past
     pub working : Works s new
     pub less : work_in new < work_in old

@@ -38,8 +38,8 @@ use Rattle.sftp_model.specs.declared.slot.Move.TheVariants.{Wait}
 use Rattle.sftp_model.specs.declared.slot.Site.{Site}
 use Rattle.plan_model.specs.Moves.{Answers, on_status, once_answered, refuses}
 use Rattle.plan_model.specs.BufferPlans.{flush_next, is_good, unflushed, with_deferred}
-use Rattle.sftp_core.specs.declared.place.Place.{Place}
-use Rattle.sftp_core.specs.declared.place.Place.TheVariants.{Waiting, Answered, Granted}
+use Rattle.sftp_core.specs.declared.id_record.IdRecord.{IdRecord}
+use Rattle.sftp_core.specs.declared.id_record.IdRecord.TheVariants.{Waiting, Answered, Granted}
 use Rattle.sftp_core.specs.Core.{Core, after_poll, at, given_leaves, poll_leaves, reply_in}
 use Rattle.sftp_core.specs.Table.{brings}
 use Rattle.sftp_core.proofs.Elsewhere.{poll_elsewhere}
@@ -80,7 +80,7 @@ given_fault : (core : Core) (t : ℕ) (b : Option (List ℕ)) → (given_leaves 
 given_fault core t (Some handle) = refl
 given_fault core t None = refl
 
-poll_fault : (core : Core) (t : ℕ) (f : Option Fault) (p : Option Place) → (poll_leaves core t f p).fault ≡ core.fault
+poll_fault : (core : Core) (t : ℕ) (f : Option Fault) (p : Option IdRecord) → (poll_leaves core t f p).fault ≡ core.fault
 poll_fault core t f (Some (Answered e r)) = given_fault core t (brings r)
 poll_fault core t (Some f) (Some (Waiting e s w)) = refl
 poll_fault core t None (Some (Waiting e s w)) = refl

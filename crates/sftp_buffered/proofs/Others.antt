@@ -31,8 +31,8 @@ use Rattle.sftp_model.specs.declared.error.Error.TheVariants as error
 use Rattle.sftp_model.specs.declared.error.Fault.{Fault}
 use Rattle.sftp_model.specs.declared.error.IoKind.TheVariants as kind
 use Rattle.plan_model.specs.BufferPlans.{is_good}
-use Rattle.sftp_core.specs.declared.place.Place.{Place}
-use Rattle.sftp_core.specs.declared.place.Place.TheVariants.{Waiting, Answered, Granted}
+use Rattle.sftp_core.specs.declared.id_record.IdRecord.{IdRecord}
+use Rattle.sftp_core.specs.declared.id_record.IdRecord.TheVariants.{Waiting, Answered, Granted}
 use Rattle.sftp_core.specs.Core.{Core, abandon_leaves, abandoned, after_poll, at, dropped, given_leaves, is_ticket, poll_leaves}
 use Rattle.sftp_core.specs.Table.{brings}
 use Rattle.sftp_core.proofs.Elsewhere.{abandon_phase, poll_phase}
@@ -56,7 +56,7 @@ given_options : (core : Core) (t : ℕ) (b : Option (List ℕ)) → (given_leave
 given_options core t (Some handle) = refl
 given_options core t None = refl
 
-poll_options : (core : Core) (t : ℕ) (f : Option Fault) (p : Option Place) → (poll_leaves core t f p).options ≡ core.options
+poll_options : (core : Core) (t : ℕ) (f : Option Fault) (p : Option IdRecord) → (poll_leaves core t f p).options ≡ core.options
 poll_options core t f (Some (Answered e r)) = given_options core t (brings r)
 poll_options core t (Some f) (Some (Waiting e s w)) = refl
 poll_options core t None (Some (Waiting e s w)) = refl
@@ -67,7 +67,7 @@ dropped_options : (core : Core) (t : ℕ) (b : Option (List ℕ)) → (dropped c
 dropped_options core t (Some handle) = refl
 dropped_options core t None = refl
 
-abandon_options : (core : Core) (t : ℕ) (p : Option Place) → (abandon_leaves core t p).options ≡ core.options
+abandon_options : (core : Core) (t : ℕ) (p : Option IdRecord) → (abandon_leaves core t p).options ≡ core.options
 abandon_options core t (Some (Waiting e s w)) = refl
 abandon_options core t (Some (Answered e r)) = dropped_options core t (brings r)
 abandon_options core t (Some (Granted handle users)) = refl

@@ -14,8 +14,8 @@ use Rattle.sftp_core.specs.Table.{all_sent, asks_handle, brings, count, is_owing
 use Rattle.sftp_core.specs.Take.{Read, TakenFrom, answered, take_leaves, take_refusal, taken_in, wrong_at, wrong_in}
 use Rattle.sftp_core.specs.declared.handshake.Handshake.{Handshake}
 use Rattle.sftp_core.specs.declared.handshake.Handshake.TheVariants.{Greeting, Asking, Open}
-use Rattle.sftp_core.specs.declared.place.Place.{Place}
-use Rattle.sftp_core.specs.declared.place.Place.TheVariants.{Waiting, Answered, Granted}
+use Rattle.sftp_core.specs.declared.id_record.IdRecord.{IdRecord}
+use Rattle.sftp_core.specs.declared.id_record.IdRecord.TheVariants.{Waiting, Answered, Granted}
 use Rattle.sftp_core.specs.declared.tokens.Taken.{Taken}
 use Rattle.sftp_core.proofs.Counts.{count_owing_sent, count_unsent_sent, count_waiting_sent, waiting_split}
 use Rattle.sftp_core.proofs.Tables.{count-insert_old, count-remove}
@@ -63,7 +63,7 @@ drops_lower core id r e None is may brings_it =
     let o = count-remove is_owing core.table id (Waiting e true false) is in omega (arith, w, o)
 
 -- a reply that may answer lowers it
-answer_lowers : (core : Core) (id : ℕ) (r : Reply) (p : Option Place) → at core id ≡ p → wrong_at id r p ≡ None
+answer_lowers : (core : Core) (id : ℕ) (r : Reply) (p : Option IdRecord) → at core id ≡ p → wrong_at id r p ≡ None
     → still_due (take_leaves core id r p) < still_due core
 answer_lowers core id r (Some (Waiting e true true)) is right = keeps_lower core id r e is
 answer_lowers core id r (Some (Waiting e true false)) is right = drops_lower core id r e (brings r) is (allowed right) refl
@@ -102,7 +102,7 @@ stays_in core (Some id) r (Open info) is opened = leaves (at core id)
     kept e false (Some h) is = rw is refl
     kept e false None is = rw is refl
 
-    leaves : (p : Option Place) → (take_leaves core id r p).phase ≡ core.phase
+    leaves : (p : Option IdRecord) → (take_leaves core id r p).phase ≡ core.phase
     leaves (Some (Waiting e sent wanted)) = kept e wanted (brings r) refl
     leaves (Some (Answered e other)) = refl
     leaves (Some (Granted handle users)) = refl

@@ -34,8 +34,8 @@ use Rattle.sftp_core.specs.Take.{
 }
 use Rattle.sftp_core.specs.declared.handshake.Handshake.{Handshake}
 use Rattle.sftp_core.specs.declared.handshake.Handshake.TheVariants.{Greeting, Asking, Open}
-use Rattle.sftp_core.specs.declared.place.Place.{Place}
-use Rattle.sftp_core.specs.declared.place.Place.TheVariants.{Waiting, Answered, Granted}
+use Rattle.sftp_core.specs.declared.id_record.IdRecord.{IdRecord}
+use Rattle.sftp_core.specs.declared.id_record.IdRecord.TheVariants.{Waiting, Answered, Granted}
 use Rattle.sftp_core.specs.declared.tokens.Taken.{Taken}
 use Rattle.session_exchange.specs.Causes.{Caused}
 use Rattle.session_exchange.proofs.Getting.{sent_both}
@@ -101,7 +101,7 @@ exchanged state old mid new u (Err e) sends stops = inr (mid, (sends, stops))
 
 -- ---- what a frame leaves
 
-leaves_fault : (core : Core) (id : ℕ) (r : Reply) (p : Option Place) → (take_leaves core id r p).fault ≡ core.fault
+leaves_fault : (core : Core) (id : ℕ) (r : Reply) (p : Option IdRecord) → (take_leaves core id r p).fault ≡ core.fault
 leaves_fault core id r (Some (Waiting e sent wanted)) = kept e wanted (brings r) refl
   where
     kept : (e : Expected) (wanted : Bool) (b : Option (List ℕ)) → brings r ≡ b → (answered core id r e wanted).fault ≡ core.fault

@@ -18,8 +18,8 @@ use Rattle.call_state.specs.declared.stage.Stage.TheVariants.{Ended, Ready, Unse
 use Rattle.call_state.specs.declared.poll.Poll.TheVariants as poll
 use Rattle.call_state.proofs.Keeping.{grants_both, keeps_both, keeps_failed, keeps_handed_out, keeps_same, keeps_taken, keeps_unchanged, still_under_way}
 use Rattle.sftp_core.specs.Table.{asks_handle, count, is_waiting}
-use Rattle.sftp_core.specs.declared.place.Place.{Place}
-use Rattle.sftp_core.specs.declared.place.Place.TheVariants.{Answered, Granted, Waiting}
+use Rattle.sftp_core.specs.declared.id_record.IdRecord.{IdRecord}
+use Rattle.sftp_core.specs.declared.id_record.IdRecord.TheVariants.{Answered, Granted, Waiting}
 use Rattle.sftp_core.proofs.Tables.{count-remove}
 use Rattle.sftp_client.proofs.Lowering.{all_awaited}
 use Rattle.sftp_file.proofs.Steps.{cancelled_keeps}
@@ -144,7 +144,7 @@ pub record AwaitsOne (core : Core) : Type 0 where
   pub counted : IsTrue (is_ticket (at core ticket))
   pub missing : reply_in (at core ticket) ≡ None
 
-waiting_here : (core : Core) (ticket : ℕ) (p : Option Place) → at core ticket ≡ p → IsTrue (is_ticket p) → reply_in p ≡ None
+waiting_here : (core : Core) (ticket : ℕ) (p : Option IdRecord) → at core ticket ≡ p → IsTrue (is_ticket p) → reply_in p ≡ None
     → 0 < count is_waiting core.table
 waiting_here core ticket (Some (Waiting kind sent wanted)) here counted none =
     let w = count-remove is_waiting core.table ticket (Waiting kind sent wanted) here in omega (arith, w)

@@ -10,12 +10,12 @@ use Rattle.sftp_model.specs.declared.error.Fault.{Fault}
 use Rattle.sftp_model.specs.declared.request.Request.{Request}
 use Rattle.sftp_model.specs.declared.request.Request.TheVariants.{Close}
 use Rattle.sftp_model.specs.declared.reply.Reply.{Reply}
-use Rattle.sftp_core.specs.declared.place.Place.{Place}
-use Rattle.sftp_core.specs.declared.place.Place.TheVariants.{Waiting, Answered, Granted}
+use Rattle.sftp_core.specs.declared.id_record.IdRecord.{IdRecord}
+use Rattle.sftp_core.specs.declared.id_record.IdRecord.TheVariants.{Waiting, Answered, Granted}
 use Rattle.sftp_core.specs.Grant.{GrantValue}
-use Rattle.sftp_core.specs.Table.{Places, brings, sent_place}
+use Rattle.sftp_core.specs.Table.{IdRecords, brings, sent_record}
 use Rattle.sftp_core.proofs.Sent.{get_sent}
-use Rattle.sftp_core.specs.Core.{Core, at, poll_leaves, given_leaves, abandon_leaves, dropped, release_leaves, retained, queued_last, with_place, handed_out}
+use Rattle.sftp_core.specs.Core.{Core, at, poll_leaves, given_leaves, abandon_leaves, dropped, release_leaves, retained, queued_last, with_record, handed_out}
 use Rattle.sftp_core.specs.Take.{take_leaves}
 
 apart : (q k : ℕ) → q ≢ k → eq_by_cmp nat_cmp q k ≡ false
@@ -26,16 +26,16 @@ alike k = grind (arith, nat_tests)
 
 -- ---- a table
 
-pub put_here : (t : Places) (k : ℕ) (v : Place) → fin.get (fin.insert t k v) k ≡ Some v
+pub put_here : (t : IdRecords) (k : ℕ) (v : IdRecord) → fin.get (fin.insert t k v) k ≡ Some v
 put_here t k v = fin.get-insert nat_cmp_total t k v k ∙ ap (λ b. cond b (Some v) (fin.get t k)) (alike k)
 
-pub gone_here : (t : Places) (k : ℕ) → fin.get (fin.remove t k) k ≡ None
+pub gone_here : (t : IdRecords) (k : ℕ) → fin.get (fin.remove t k) k ≡ None
 gone_here t k = fin.get-remove nat_cmp_total t k k ∙ ap (λ b. cond b None (fin.get t k)) (alike k)
 
-pub put_elsewhere : (t : Places) (k : ℕ) (v : Place) (q : ℕ) → q ≢ k → fin.get (fin.insert t k v) q ≡ fin.get t q
+pub put_elsewhere : (t : IdRecords) (k : ℕ) (v : IdRecord) (q : ℕ) → q ≢ k → fin.get (fin.insert t k v) q ≡ fin.get t q
 put_elsewhere t k v q h = fin.get-insert nat_cmp_total t k v q ∙ ap (λ b. cond b (Some v) (fin.get t q)) (apart q k h)
 
-pub gone_elsewhere : (t : Places) (k q : ℕ) → q ≢ k → fin.get (fin.remove t k) q ≡ fin.get t q
+pub gone_elsewhere : (t : IdRecords) (k q : ℕ) → q ≢ k → fin.get (fin.remove t k) q ≡ fin.get t q
 gone_elsewhere t k q h = fin.get-remove nat_cmp_total t k q ∙ ap (λ b. cond b None (fin.get t q)) (apart q k h)
 
 -- ---- each call
@@ -43,8 +43,8 @@ gone_elsewhere t k q h = fin.get-remove nat_cmp_total t k q ∙ ap (λ b. cond b
 pub submit_elsewhere : (core : Core) (k : ℕ) (request : Request) (wanted : Bool) (q : ℕ) → q ≢ k → at (queued_last core k request wanted) q ≡ at core q
 submit_elsewhere core k request wanted q h = put_elsewhere core.table k _ q h
 
--- under a free id, a request changes no place that is there
-pub other_place : (core : Core) (k : ℕ) (request : Request) (wanted : Bool) (other : ℕ) (here : Place) → at core k ≡ None → at core other ≡ Some here
+-- under a free id, a request changes no record that is there
+pub other_place : (core : Core) (k : ℕ) (request : Request) (wanted : Bool) (other : ℕ) (here : IdRecord) → at core k ≡ None → at core other ≡ Some here
     → at (queued_last core k request wanted) other ≡ Some here
 other_place core k request wanted other here free there =
     submit_elsewhere core k request wanted other (λ same. let clash : Some here ≡ None = sym there ∙ ap (at core) same ∙ free in cc) ∙ there
@@ -57,20 +57,20 @@ give_elsewhere : (core : Core) (k : ℕ) (brought : Option (List ℕ)) (q : ℕ)
 give_elsewhere core k (Some handle) q h = put_elsewhere core.table k _ q h
 give_elsewhere core k None q h = gone_elsewhere core.table k q h
 
-pub poll_elsewhere : (core : Core) (k : ℕ) (f : Option Fault) (p : Option Place) (q : ℕ) → q ≢ k → at (poll_leaves core k f p) q ≡ at core q
+pub poll_elsewhere : (core : Core) (k : ℕ) (f : Option Fault) (p : Option IdRecord) (q : ℕ) → q ≢ k → at (poll_leaves core k f p) q ≡ at core q
 poll_elsewhere core k f (Some (Answered e r)) q h = give_elsewhere core k (brings r) q h
 poll_elsewhere core k (Some f) (Some (Waiting e s w)) q h = put_elsewhere core.table k _ q h
 poll_elsewhere core k None (Some (Waiting e s w)) q h = refl
 poll_elsewhere core k f (Some (Granted handle users)) q h = refl
 poll_elsewhere core k f None q h = refl
 
-pub abandon_elsewhere : (core : Core) (k : ℕ) (p : Option Place) (q : ℕ) → q ≢ k → at (abandon_leaves core k p) q ≡ at core q
+pub abandon_elsewhere : (core : Core) (k : ℕ) (p : Option IdRecord) (q : ℕ) → q ≢ k → at (abandon_leaves core k p) q ≡ at core q
 abandon_elsewhere core k (Some (Waiting e s w)) q h = put_elsewhere core.table k _ q h
 abandon_elsewhere core k (Some (Answered e r)) q h = drop_elsewhere core k (brings r) q h
 abandon_elsewhere core k (Some (Granted handle users)) q h = refl
 abandon_elsewhere core k None q h = refl
 
-pub take_elsewhere : (core : Core) (k : ℕ) (r : Reply) (p : Option Place) (q : ℕ) → q ≢ k → at (take_leaves core k r p) q ≡ at core q
+pub take_elsewhere : (core : Core) (k : ℕ) (r : Reply) (p : Option IdRecord) (q : ℕ) → q ≢ k → at (take_leaves core k r p) q ≡ at core q
 take_elsewhere core k r (Some (Waiting e s true)) q h = put_elsewhere core.table k _ q h
 take_elsewhere core k r (Some (Waiting e s false)) q h = drop_elsewhere core k (brings r) q h
 take_elsewhere core k r (Some (Answered e other)) q h = refl
@@ -84,12 +84,12 @@ pub release_elsewhere : (core : Core) (grant : GrantValue) (users q : ℕ) → q
 release_elsewhere core grant users q h = by_test (users == 1)
   where
     by_test : (b : Bool) → at (cond b (queued_last core grant.id (Close grant.handle) true)
-        (with_place core grant.id (Granted grant.handle (users - 1)))) q ≡ at core q
+        (with_record core grant.id (Granted grant.handle (users - 1)))) q ≡ at core q
     by_test true = put_elsewhere core.table grant.id _ q h
     by_test false = put_elsewhere core.table grant.id _ q h
 
--- a hand-out changes no place but that its request counts as sent
-pub hand_out_each : (core : Core) (q : ℕ) → at (handed_out core) q ≡ option_map sent_place (at core q)
+-- a hand-out changes no record but that its request counts as sent
+pub hand_out_each : (core : Core) (q : ℕ) → at (handed_out core) q ≡ option_map sent_record (at core q)
 hand_out_each core q = get_sent core.table q
 
 -- ---- only a frame that is taken changes how far the greeting has come
@@ -102,20 +102,20 @@ give_phase : (core : Core) (k : ℕ) (brought : Option (List ℕ)) → (given_le
 give_phase core k (Some handle) = refl
 give_phase core k None = refl
 
-pub poll_phase : (core : Core) (k : ℕ) (f : Option Fault) (p : Option Place) → (poll_leaves core k f p).phase ≡ core.phase
+pub poll_phase : (core : Core) (k : ℕ) (f : Option Fault) (p : Option IdRecord) → (poll_leaves core k f p).phase ≡ core.phase
 poll_phase core k f (Some (Answered e r)) = give_phase core k (brings r)
 poll_phase core k (Some f) (Some (Waiting e s w)) = refl
 poll_phase core k None (Some (Waiting e s w)) = refl
 poll_phase core k f (Some (Granted handle users)) = refl
 poll_phase core k f None = refl
 
-pub abandon_phase : (core : Core) (k : ℕ) (p : Option Place) → (abandon_leaves core k p).phase ≡ core.phase
+pub abandon_phase : (core : Core) (k : ℕ) (p : Option IdRecord) → (abandon_leaves core k p).phase ≡ core.phase
 abandon_phase core k (Some (Waiting e s w)) = refl
 abandon_phase core k (Some (Answered e r)) = drop_phase core k (brings r)
 abandon_phase core k (Some (Granted handle users)) = refl
 abandon_phase core k None = refl
 
-pub take_phase : (core : Core) (k : ℕ) (r : Reply) (p : Option Place) → (take_leaves core k r p).phase ≡ core.phase
+pub take_phase : (core : Core) (k : ℕ) (r : Reply) (p : Option IdRecord) → (take_leaves core k r p).phase ≡ core.phase
 take_phase core k r (Some (Waiting e s true)) = refl
 take_phase core k r (Some (Waiting e s false)) = drop_phase core k (brings r)
 take_phase core k r (Some (Answered e other)) = refl
@@ -126,6 +126,6 @@ pub release_phase : (core : Core) (grant : GrantValue) (users : ℕ) → (releas
 release_phase core grant users = by_test (users == 1)
   where
     by_test : (b : Bool) → (cond b (queued_last core grant.id (Close grant.handle) true)
-        (with_place core grant.id (Granted grant.handle (users - 1)))).phase ≡ core.phase
+        (with_record core grant.id (Granted grant.handle (users - 1)))).phase ≡ core.phase
     by_test true = refl
     by_test false = refl

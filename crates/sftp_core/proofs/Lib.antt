@@ -5,7 +5,7 @@ pub mod Cuts
 pub mod Counts
 pub mod Tallies
 pub mod Sounds
-pub mod Places
+pub mod Records
 pub mod Turning
 pub mod Elsewhere
 pub mod Sent

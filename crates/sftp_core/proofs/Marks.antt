@@ -7,9 +7,9 @@ use Rattle.std.specs.Cmp.{nat_cmp_total}
 use Rattle.std.specs.FinMap as fin
 use Rattle.std.specs.FinMap.{nat_cmp-IsAntisymmetric}
 use Rattle.std.proofs.lemmas.Bool.{cases_eq}
-use Rattle.sftp_core.specs.declared.place.Place.{Place}
-use Rattle.sftp_core.specs.declared.place.Place.TheVariants.{Waiting, Answered, Granted}
-use Rattle.sftp_core.specs.Table.{Places, sent_place, all_sent, is_unsent, is_unsent_at, stands, AllListed, marked, marked_here, marked_all}
+use Rattle.sftp_core.specs.declared.id_record.IdRecord.{IdRecord}
+use Rattle.sftp_core.specs.declared.id_record.IdRecord.TheVariants.{Waiting, Answered, Granted}
+use Rattle.sftp_core.specs.Table.{IdRecords, sent_record, all_sent, is_unsent, is_unsent_at, stands, AllListed, marked, marked_here, marked_all}
 use Rattle.sftp_core.proofs.Sent.{get_sent}
 use Rattle.sftp_core.proofs.Slots.{apart, alike}
 
@@ -48,7 +48,7 @@ module _ {X : Type 0} where
       absurd cc
 
 -- ---- each change keeps that each unsent request is listed
-pub listed-insert : {X : Type 0} (queue later : List (ℕ × X)) (t : Places) (k : ℕ) (v : Place) → AllListed queue t
+pub listed-insert : {X : Type 0} (queue later : List (ℕ × X)) (t : IdRecords) (k : ℕ) (v : IdRecord) → AllListed queue t
     → ((id : ℕ) → stands id later ≡ false → stands id queue ≡ false) → (stands k later ≡ false → is_unsent v ≡ false)
     → AllListed later (fin.insert t k v)
 listed-insert queue later t k v all less one id out =
@@ -63,7 +63,7 @@ listed-insert queue later t k v all less one id out =
           ap is_unsent_at there ∙ all id (less id out)
     ]
 
-pub listed-remove : {X : Type 0} (queue : List (ℕ × X)) (t : Places) (k : ℕ) → AllListed queue t → AllListed queue (fin.remove t k)
+pub listed-remove : {X : Type 0} (queue : List (ℕ × X)) (t : IdRecords) (k : ℕ) → AllListed queue t → AllListed queue (fin.remove t k)
 listed-remove queue t k all id out =
     ap is_unsent_at (fin.get-remove nat_cmp_total t k id) ∙ by_test (eq_by_cmp nat_cmp id k)
   where
@@ -71,21 +71,21 @@ listed-remove queue t k all id out =
     by_test true = refl
     by_test false = all id out
 
-pub listed-sent : {X : Type 0} (queue : List (ℕ × X)) (t : Places) → AllListed queue (all_sent t)
+pub listed-sent : {X : Type 0} (queue : List (ℕ × X)) (t : IdRecords) → AllListed queue (all_sent t)
 listed-sent queue t id out = ap is_unsent_at (get_sent t id) ∙ each (fin.get t id)
   where
-    each : (o : Option Place) → is_unsent_at (option_map sent_place o) ≡ false
+    each : (o : Option IdRecord) → is_unsent_at (option_map sent_record o) ≡ false
     each None = refl
     each (Some (Waiting expected sent wanted)) = refl
     each (Some (Answered expected r)) = refl
     each (Some (Granted handle users)) = refl
 
 -- ---- marks
-get-mark : (t : Places) (k q : ℕ) → fin.get (marked t k) q ≡ cond (eq_by_cmp nat_cmp q k) (option_map sent_place (fin.get t q)) (fin.get t q)
+get-mark : (t : IdRecords) (k q : ℕ) → fin.get (marked t k) q ≡ cond (eq_by_cmp nat_cmp q k) (option_map sent_record (fin.get t q)) (fin.get t q)
 get-mark t k q = by_place (fin.get t k) refl
   where
-    by_place : (o : Option Place) → fin.get t k ≡ o → fin.get (marked_here t k o) q
-        ≡ cond (eq_by_cmp nat_cmp q k) (option_map sent_place (fin.get t q)) (fin.get t q)
+    by_place : (o : Option IdRecord) → fin.get t k ≡ o → fin.get (marked_here t k o) q
+        ≡ cond (eq_by_cmp nat_cmp q k) (option_map sent_record (fin.get t q)) (fin.get t q)
     by_place None is =
         elim (cases_eq q k) [
           | inl same ↦
@@ -99,43 +99,43 @@ get-mark t k q = by_place (fin.get t k) refl
           | inl same ↦
               let there : fin.get t q ≡ Some p = ap (fin.get t) same ∙ is in
               let here : eq_by_cmp nat_cmp q k ≡ true = ap (λ x. eq_by_cmp nat_cmp x k) same ∙ alike k in
-              fin.get-insert nat_cmp_total t k (sent_place p) q ∙ rw (here, there) refl
-          | inr differs ↦ fin.get-insert nat_cmp_total t k (sent_place p) q ∙ rw (apart q k differs) refl
+              fin.get-insert nat_cmp_total t k (sent_record p) q ∙ rw (here, there) refl
+          | inr differs ↦ fin.get-insert nat_cmp_total t k (sent_record p) q ∙ rw (apart q k differs) refl
         ]
 
-sent_twice : (o : Option Place) → option_map sent_place (option_map sent_place o) ≡ option_map sent_place o
+sent_twice : (o : Option IdRecord) → option_map sent_record (option_map sent_record o) ≡ option_map sent_record o
 sent_twice None = refl
 sent_twice (Some (Waiting expected sent wanted)) = refl
 sent_twice (Some (Answered expected r)) = refl
 sent_twice (Some (Granted handle users)) = refl
 
-get-marks : {X : Type 0} (t : Places) (queue : List (ℕ × X)) (q : ℕ) → fin.get (marked_all t queue) q
-    ≡ cond (stands q queue) (option_map sent_place (fin.get t q)) (fin.get t q)
+get-marks : {X : Type 0} (t : IdRecords) (queue : List (ℕ × X)) (q : ℕ) → fin.get (marked_all t queue) q
+    ≡ cond (stands q queue) (option_map sent_record (fin.get t q)) (fin.get t q)
 get-marks t [] q = refl
 get-marks t (e ∷ queue) q =
     get-marks (marked t e.0) queue q
-    ∙ ap (λ o. cond (stands q queue) (option_map sent_place o) o) (get-mark t e.0 q)
+    ∙ ap (λ o. cond (stands q queue) (option_map sent_record o) o) (get-mark t e.0 q)
     ∙ join (eq_by_cmp nat_cmp q e.0) (stands q queue) (fin.get t q)
   where
-    join : (a b : Bool) (o : Option Place) → cond b (option_map sent_place (cond a (option_map sent_place o) o))
-        (cond a (option_map sent_place o) o) ≡ cond (a || b) (option_map sent_place o) o
+    join : (a b : Bool) (o : Option IdRecord) → cond b (option_map sent_record (cond a (option_map sent_record o) o))
+        (cond a (option_map sent_record o) o) ≡ cond (a || b) (option_map sent_record o) o
     join true true o = sent_twice o
     join true false o = refl
     join false true o = refl
     join false false o = refl
 
 -- to mark each listed request is to mark them all
-pub marks_all : {X : Type 0} (queue : List (ℕ × X)) (t : Places) → AllListed queue t → marked_all t queue ≡ all_sent t
+pub marks_all : {X : Type 0} (queue : List (ℕ × X)) (t : IdRecords) → AllListed queue t → marked_all t queue ≡ all_sent t
 marks_all queue t all =
     fin.same_map nat_cmp_total nat_cmp-IsAntisymmetric _ _ (λ q. get-marks t queue q ∙ each q (stands q queue) refl ∙ sym (get_sent t q))
   where
-    same : (o : Option Place) → is_unsent_at o ≡ false → o ≡ option_map sent_place o
+    same : (o : Option IdRecord) → is_unsent_at o ≡ false → o ≡ option_map sent_record o
     same None h = refl
     same (Some (Waiting expected true wanted)) h = refl
     same (Some (Waiting expected false wanted)) h = absurd cc
     same (Some (Answered expected r)) h = refl
     same (Some (Granted handle users)) h = refl
 
-    each : (q : ℕ) (b : Bool) → stands q queue ≡ b → cond b (option_map sent_place (fin.get t q)) (fin.get t q) ≡ option_map sent_place (fin.get t q)
+    each : (q : ℕ) (b : Bool) → stands q queue ≡ b → cond b (option_map sent_record (fin.get t q)) (fin.get t q) ≡ option_map sent_record (fin.get t q)
     each q true is = refl
     each q false is = same (fin.get t q) (all q is)

@@ -1,4 +1,4 @@
--- Each change of one place keeps what a core keeps true of its fields.
+-- Each change of one record keeps what a core keeps true of its fields.
 use Rattle.std.proofs.Common.{
   ◌≡◌,
   ℕ,
@@ -38,15 +38,15 @@ use Rattle.sftp_model.specs.declared.request.Request.{Request}
 use Rattle.sftp_model.specs.declared.request.Request.TheVariants as request
 use Rattle.sftp_core.specs.declared.handshake.Handshake.{Handshake}
 use Rattle.sftp_core.specs.declared.handshake.Handshake.TheVariants.{Greeting, Asking, Open}
-use Rattle.sftp_core.specs.declared.place.Place.{Place}
-use Rattle.sftp_core.specs.declared.place.Place.TheVariants.{Waiting, Answered, Granted}
+use Rattle.sftp_core.specs.declared.id_record.IdRecord.{IdRecord}
+use Rattle.sftp_core.specs.declared.id_record.IdRecord.TheVariants.{Waiting, Answered, Granted}
 use Rattle.sftp_core.specs.Info.{most_ids, hello_of, info_of, IsRanged}
 use Rattle.sftp_core.specs.Core.{MayFree}
 use Rattle.sftp_wire.specs.Body.{Measures}
 use Rattle.std.specs.Prelude.{IsSome, is_some}
 use Rattle.sftp_core.specs.Frames.{IsShort}
 use Rattle.sftp_core.specs.Table.{
-  Places,
+  IdRecords,
   count,
   tally,
   is_waiting,
@@ -54,7 +54,7 @@ use Rattle.sftp_core.specs.Table.{
   is_unsent,
   is_owing,
   all_sent,
-  sent_place,
+  sent_record,
   IsAllowed,
   is_unsent_at,
   stands,
@@ -68,7 +68,7 @@ use Rattle.sftp_core.proofs.Counts.{len_more, len_same, len_less, len_sent, coun
 
 -- ---- allowed answers
 
-pub allowed-insert : (t : Places) (k : ℕ) (v : Place) → ((id : ℕ) → IsAllowed (fin.get t id)) → IsAllowed (Some v)
+pub allowed-insert : (t : IdRecords) (k : ℕ) (v : IdRecord) → ((id : ℕ) → IsAllowed (fin.get t id)) → IsAllowed (Some v)
     → (id : ℕ) → IsAllowed (fin.get (fin.insert t k v) id)
 allowed-insert t k v all one id = subst IsAllowed (sym (fin.get-insert nat_cmp_total t k v id)) (by_test (eq_by_cmp nat_cmp id k))
   where
@@ -76,17 +76,17 @@ allowed-insert t k v all one id = subst IsAllowed (sym (fin.get-insert nat_cmp_t
     by_test true = one
     by_test false = all id
 
-pub allowed-remove : (t : Places) (k : ℕ) → ((id : ℕ) → IsAllowed (fin.get t id)) → (id : ℕ) → IsAllowed (fin.get (fin.remove t k) id)
+pub allowed-remove : (t : IdRecords) (k : ℕ) → ((id : ℕ) → IsAllowed (fin.get t id)) → (id : ℕ) → IsAllowed (fin.get (fin.remove t k) id)
 allowed-remove t k all id = subst IsAllowed (sym (fin.get-remove nat_cmp_total t k id)) (by_test (eq_by_cmp nat_cmp id k))
   where
     by_test : (b : Bool) → IsAllowed (cond b None (fin.get t id))
     by_test true = tt
     by_test false = all id
 
-pub allowed-sent : (t : Places) → ((id : ℕ) → IsAllowed (fin.get t id)) → (id : ℕ) → IsAllowed (fin.get (all_sent t) id)
+pub allowed-sent : (t : IdRecords) → ((id : ℕ) → IsAllowed (fin.get t id)) → (id : ℕ) → IsAllowed (fin.get (all_sent t) id)
 allowed-sent t all id = subst IsAllowed (sym (get_sent t id)) (each (fin.get t id) (all id))
   where
-    each : (p : Option Place) → IsAllowed p → IsAllowed (option_map sent_place p)
+    each : (p : Option IdRecord) → IsAllowed p → IsAllowed (option_map sent_record p)
     each None h = tt
     each (Some (Waiting expected sent wanted)) h = tt
     each (Some (Answered expected r)) h = h
@@ -118,10 +118,10 @@ short-measured None asked copy id measures some same = absurd cc
 -- ---- a phase
 
 -- nothing is kept before the greeting
-pub none_kept : (p : Handshake) (t : Places) → fin.len t ≤ most_ids p → p ≡ Greeting → fin.len t ≡ 0
+pub none_kept : (p : Handshake) (t : IdRecords) → fin.len t ≤ most_ids p → p ≡ Greeting → fin.len t ≡ 0
 none_kept p t few is = let most : fin.len t ≤ 0 = rw is at few in omega (arith, most)
 
-pub none_here : (p : Handshake) (t : Places) → fin.len t ≤ most_ids p → p ≡ Greeting → (id : ℕ) → fin.get t id ≡ None
+pub none_here : (p : Handshake) (t : IdRecords) → fin.len t ≤ most_ids p → p ≡ Greeting → (id : ℕ) → fin.get t id ≡ None
 none_here p t few is id = rw (fin.empty_of_len t (none_kept p t few is), fin.get-empty nat_cmp id) refl
 
 pub most_open : (p : Handshake) → IsSome (info_of p) → most_ids p ≡ 2147483648
@@ -132,8 +132,8 @@ most_open (Open info) h = refl
 -- ---- a change
 
 -- another in the place of what stood there
-pub sound-replace : (h : Bool) (p : Handshake) (qs qs' : List (ℕ × Request)) (q r q' r' : ℕ) (t : Places) (id : ℕ)
-    (v w : Place) → IsSound h p qs q r t → Some w ≡ fin.get t id
+pub sound-replace : (h : Bool) (p : Handshake) (qs qs' : List (ℕ × Request)) (q r q' r' : ℕ) (t : IdRecords) (id : ℕ)
+    (v w : IdRecord) → IsSound h p qs q r t → Some w ≡ fin.get t id
     → q' + tally is_unsent w ≡ q + tally is_unsent v → q' + tally is_owing v ≤ q + tally is_owing w → r ≤ r' → All IsShort qs' → IsAllowed (Some v)
     → ((k : ℕ) → stands k qs' ≡ false → stands k qs ≡ false) → (stands id qs' ≡ false → is_unsent v ≡ false) → IsSound h p qs' q' r' (fin.insert t id v)
 sound-replace h p qs qs' q r q' r' t id v w s some eq eo room short one less here =
@@ -153,14 +153,14 @@ sound-replace h p qs qs' q r q' r' t id v w s some eq eo room short one less her
     }
 
 -- of the same kinds
-pub sound-same : (h : Bool) (p : Handshake) (qs : List (ℕ × Request)) (q r : ℕ) (t : Places) (id : ℕ) (v w : Place) → IsSound h p qs q r t → Some w ≡ fin.get t id
+pub sound-same : (h : Bool) (p : Handshake) (qs : List (ℕ × Request)) (q r : ℕ) (t : IdRecords) (id : ℕ) (v w : IdRecord) → IsSound h p qs q r t → Some w ≡ fin.get t id
     → is_unsent v ≡ is_unsent w → is_owing v ≡ is_owing w → IsAllowed (Some v) → IsSound h p qs q r (fin.insert t id v)
 sound-same h p qs q r t id v w s some eq eo one =
     sound-replace h p qs qs q r q r t id v w s some (ap (λ b. q + cond b 1 0) (sym eq)) (rw eo (omega arith)) (omega arith) s.short one (λ k out. out)
     (λ out. eq ∙ ap is_unsent_at some ∙ s.listed id out)
 
 -- nothing in the place of what is not queued
-pub sound-gone : (h : Bool) (p : Handshake) (qs : List (ℕ × Request)) (q r : ℕ) (t : Places) (id : ℕ) (w : Place)
+pub sound-gone : (h : Bool) (p : Handshake) (qs : List (ℕ × Request)) (q r : ℕ) (t : IdRecords) (id : ℕ) (w : IdRecord)
     → IsSound h p qs q r t → Some w ≡ fin.get t id → is_unsent w ≡ false → IsSound h p qs q r (fin.remove t id)
 sound-gone h p qs q r t id w s some eq =
     let x = count-remove is_unsent t id w (sym some) in
@@ -179,16 +179,16 @@ sound-gone h p qs q r t id w s some eq =
       range = s.range;
     }
 
-pub sound-freed : (h : Bool) (p : Handshake) (qs : List (ℕ × Request)) (q r : ℕ) (t : Places) (id : ℕ)
+pub sound-freed : (h : Bool) (p : Handshake) (qs : List (ℕ × Request)) (q r : ℕ) (t : IdRecords) (id : ℕ)
     → IsSound h p qs q r t → MayFree (fin.get t id) → IsSound h p qs q r (fin.remove t id)
 sound-freed h p qs q r t id s may = by_place (fin.get t id) refl may
   where
-    by_place : (o : Option Place) → fin.get t id ≡ o → MayFree o → IsSound h p qs q r (fin.remove t id)
+    by_place : (o : Option IdRecord) → fin.get t id ≡ o → MayFree o → IsSound h p qs q r (fin.remove t id)
     by_place None is may = absurd may
     by_place (Some w) is free = sound-gone h p qs q r t id w s (sym is) free
 
 -- there is room for a CLOSE that is owed
-pub room_for_close : (h : Bool) (p : Handshake) (qs : List (ℕ × Request)) (q r : ℕ) (t : Places) (id : ℕ) (w : Place)
+pub room_for_close : (h : Bool) (p : Handshake) (qs : List (ℕ × Request)) (q r : ℕ) (t : IdRecords) (id : ℕ) (w : IdRecord)
     → IsSound h p qs q r t → Some w ≡ fin.get t id → is_owing w ≡ true → q < r
 room_for_close h p qs q r t id w s some owes =
     let z = count-remove is_owing t id w (sym some) in
@@ -196,8 +196,8 @@ room_for_close h p qs q r t id w s some owes =
     let so = s.reserved in omega (arith, z, one, so)
 
 -- it is queued in the place of what owed it
-pub sound-close : (h : Bool) (p : Handshake) (qs qs' : List (ℕ × Request)) (q r q' r' : ℕ) (t : Places) (id : ℕ)
-    (handle : List ℕ) (wanted : Bool) (w : Place) → IsSound h p qs q r t → Some w ≡ fin.get t id
+pub sound-close : (h : Bool) (p : Handshake) (qs qs' : List (ℕ × Request)) (q r q' r' : ℕ) (t : IdRecords) (id : ℕ)
+    (handle : List ℕ) (wanted : Bool) (w : IdRecord) → IsSound h p qs q r t → Some w ≡ fin.get t id
     → is_owing w ≡ true → is_unsent w ≡ false → length handle ≤ 256 → qs' ≡ qs ++ (id, request.Close handle) ∷ [] → q'
     ≡ q + 1 → r ≤ r' → IsSound h p qs' q' r' (fin.insert t id
     (Waiting (expected_of (request.Close handle)) false wanted))
@@ -208,13 +208,13 @@ sound-close h p qs qs' q r q' r' t id handle wanted w s some owes unsent small i
     (λ k out. not_before k id (request.Close handle) qs qs' is out) (λ out. is_last id (request.Close handle) qs qs' is out)
 
 -- a new request stands last in the queue
-pub sound-last : (h : Bool) (p p' : Handshake) (qs qs' : List (ℕ × Request)) (q r q' r' : ℕ) (t t' : Places) (id : ℕ)
+pub sound-last : (h : Bool) (p p' : Handshake) (qs qs' : List (ℕ × Request)) (q r q' r' : ℕ) (t t' : IdRecords) (id : ℕ)
     (asked : Request) (wanted : Bool) → IsSound h p qs q r t → fin.get t id ≡ None
     → fin.len t < most_ids p' → IsRanged p' → IsShort (id, asked) → qs' ≡ qs ++ (id, asked) ∷ [] → q' ≡ q + 1 → t'
     ≡ fin.insert t id (Waiting (expected_of asked) false wanted)
     → q' + count is_owing t' ≤ r' → IsSound h p' qs' q' r' t'
 sound-last h p p' qs qs' q r q' r' t t' id asked wanted s none few range one is eq put room =
-    let v : Place = Waiting (expected_of asked) false wanted in
+    let v : IdRecord = Waiting (expected_of asked) false wanted in
     let u = count-insert_new is_unsent t id v none in
     let l = len_more t id v in
     let su = s.unsent in
@@ -229,7 +229,7 @@ sound-last h p p' qs qs' q r q' r' t t' id asked wanted s none few range one is 
     }
 
 -- more room, and a later phase
-pub sound-later : (h : Bool) (p p' : Handshake) (qs : List (ℕ × Request)) (q r r' : ℕ) (t : Places) → IsSound h p qs q r t
+pub sound-later : (h : Bool) (p p' : Handshake) (qs : List (ℕ × Request)) (q r r' : ℕ) (t : IdRecords) → IsSound h p qs q r t
     → most_ids p ≤ most_ids p' → IsRanged p' → r ≤ r' → IsSound h p' qs q r' t
 sound-later h p p' qs q r r' t s most range room =
     let so = s.reserved in let sf = s.few in
@@ -244,7 +244,7 @@ sound-later h p p' qs q r r' t s most range room =
     }
 
 -- the queue is emptied and keeps its room
-pub sound-sent : (h : Bool) (p : Handshake) (qs qs' : List (ℕ × Request)) (q r q' r' : ℕ) (t t' : Places)
+pub sound-sent : (h : Bool) (p : Handshake) (qs qs' : List (ℕ × Request)) (q r q' r' : ℕ) (t t' : IdRecords)
     → IsSound h p qs q r t → qs' ≡ [] → q' ≡ 0 → r' ≡ r → t' ≡ marked_all t qs → IsSound true p qs' q' r' t'
 sound-sent h p qs qs' q r q' r' t t' s is none room marks =
     let sent : t' ≡ all_sent t = marks ∙ marks_all qs t s.listed in
@@ -263,10 +263,10 @@ sound-sent h p qs qs' q r q' r' t t' s is none room marks =
     }
 
 -- the hello alone
-pub sound-fresh : (qs : List (ℕ × Request)) (q r : ℕ) (t : Places) → t ≡ fin.empty → qs ≡ (0, request.Init 3) ∷ [] → q
+pub sound-fresh : (qs : List (ℕ × Request)) (q r : ℕ) (t : IdRecords) → t ≡ fin.empty → qs ≡ (0, request.Init 3) ∷ [] → q
     ≡ 1 → 1 ≤ r → IsSound false Greeting qs q r t
 sound-fresh qs q r t e is one room =
-    let l : fin.len t ≡ 0 = ap fin.len e ∙ fin.len-empty nat_cmp Place in
+    let l : fin.len t ≡ 0 = ap fin.len e ∙ fin.len-empty nat_cmp IdRecord in
     let x = count_len is_unsent t in let y = count_len is_owing t in
     record {
       unsent = omega (arith, x, l, one);
@@ -279,7 +279,7 @@ sound-fresh qs q r t e is one room =
     }
 
 -- the numbers that are told fit
-pub record AreFew (h : Bool) (queued : ℕ) (table : Places) : Type 0 where
+pub record AreFew (h : Bool) (queued : ℕ) (table : IdRecords) : Type 0 where
   pub queue : queued ≤ count is_waiting table + hello_queued h
   pub small : queued ≤ 2147483649
   pub sent : count is_waiting table + hello_queued h ≡ count is_sent table + queued
@@ -298,7 +298,7 @@ queued_small false = lit≤ tt
 pub hello_small : (p : Handshake) → hello_of p ≤ 1
 hello_small p = elim p as (λ x. hello_of x ≤ 1) [ Greeting ↦ lit≤ tt | Asking extensions ↦ lit≤ tt | Open info ↦ lit≤ tt ]
 
-pub few : (h : Bool) (p : Handshake) (qs : List (ℕ × Request)) (q r : ℕ) (t : Places) → IsSound h p qs q r t → AreFew h q t
+pub few : (h : Bool) (p : Handshake) (qs : List (ℕ × Request)) (q r : ℕ) (t : IdRecords) → IsSound h p qs q r t → AreFew h q t
 few h p qs q r t s =
     let x = unsent_waiting t in let w = waiting_split t in let y = count_len is_waiting t in let z = count_len is_owing t in
     let m = most_few p in let one = queued_small h in

@@ -13,18 +13,18 @@ use Rattle.sftp_model.specs.declared.request.Request.TheVariants.{Close, LimitsQ
 use Rattle.sftp_model.specs.declared.options.SftpOptions.{SftpOptions}
 use Rattle.sftp_core.specs.declared.handshake.Handshake.{Handshake}
 use Rattle.sftp_core.specs.declared.handshake.Handshake.TheVariants.{Greeting, Asking, Open}
-use Rattle.sftp_core.specs.declared.place.Place.{Place}
-use Rattle.sftp_core.specs.declared.place.Place.TheVariants.{Waiting, Answered, Granted}
+use Rattle.sftp_core.specs.declared.id_record.IdRecord.{IdRecord}
+use Rattle.sftp_core.specs.declared.id_record.IdRecord.TheVariants.{Waiting, Answered, Granted}
 use Rattle.sftp_core.specs.Grant.{GrantValue}
 use Rattle.sftp_core.specs.Info.{info_of}
 use Rattle.sftp_model.specs.Lengths.{offers_limits}
-use Rattle.sftp_core.specs.Table.{Places, is_waiting, sent_place, all_sent, brings}
+use Rattle.sftp_core.specs.Table.{IdRecords, is_waiting, sent_record, all_sent, brings}
 use Rattle.sftp_core.proofs.Sent.{get_sent}
 use Rattle.sftp_core.specs.Core.{
   Core,
   at,
   fresh,
-  with_place,
+  with_record,
   queued_last,
   dropped,
   given_leaves,
@@ -70,9 +70,9 @@ waits_after id b [] = b
 waits_after id b (Asked other ∷ rest) = waits_after id (cond (id == other) true b) rest
 waits_after id b (Replied other ∷ rest) = waits_after id (cond (id == other) false b) rest
 
-abbrev waits : Option Place → Bool
+abbrev waits : Option IdRecord → Bool
 waits None = false
-waits (Some place) = is_waiting place
+waits (Some held) = is_waiting held
 
 same_test : (q k : ℕ) → eq_by_cmp nat_cmp q k ≡ (q == k)
 same_test q k = grind (arith, nat_tests)
@@ -85,9 +85,9 @@ turns_append id [] ys b h k = k
 turns_append id (Asked other ∷ xs) ys b h k = (h.0, turns_append id xs ys _ h.1 k)
 turns_append id (Replied other ∷ xs) ys b h k = (h.0, turns_append id xs ys _ h.1 k)
 
--- ---- one place changes
+-- ---- one record changes
 
-put_waits : (t : Places) (k : ℕ) (v : Place) (id : ℕ) → waits (fin.get (fin.insert t k v) id) ≡ cond (id == k) (is_waiting v) (waits (fin.get t id))
+put_waits : (t : IdRecords) (k : ℕ) (v : IdRecord) (id : ℕ) → waits (fin.get (fin.insert t k v) id) ≡ cond (id == k) (is_waiting v) (waits (fin.get t id))
 put_waits t k v id =
     ap waits (fin.get-insert nat_cmp_total t k v id ∙ ap (λ b. cond b (Some v) (fin.get t id)) (same_test id k)) ∙ push (id == k)
   where
@@ -95,7 +95,7 @@ put_waits t k v id =
     push true = refl
     push false = refl
 
-gone_waits : (t : Places) (k : ℕ) (id : ℕ) → waits (fin.get (fin.remove t k) id) ≡ cond (id == k) false (waits (fin.get t id))
+gone_waits : (t : IdRecords) (k : ℕ) (id : ℕ) → waits (fin.get (fin.remove t k) id) ≡ cond (id == k) false (waits (fin.get t id))
 gone_waits t k id =
     ap waits (fin.get-remove nat_cmp_total t k id ∙ ap (λ b. cond b None (fin.get t id)) (same_test id k)) ∙ push (id == k)
   where
@@ -103,15 +103,15 @@ gone_waits t k id =
     push true = refl
     push false = refl
 
--- a place that waited before and after, or neither
-kept_waits : (t : Places) (k : ℕ) (v : Place) (id : ℕ) → waits (fin.get t k) ≡ is_waiting v → waits (fin.get (fin.insert t k v) id) ≡ waits (fin.get t id)
+-- a record that waited before and after, or neither
+kept_waits : (t : IdRecords) (k : ℕ) (v : IdRecord) (id : ℕ) → waits (fin.get t k) ≡ is_waiting v → waits (fin.get (fin.insert t k v) id) ≡ waits (fin.get t id)
 kept_waits t k v id same = put_waits t k v id ∙ by_test (id == k) refl
   where
     by_test : (b : Bool) → (id == k) ≡ b → cond b (is_waiting v) (waits (fin.get t id)) ≡ waits (fin.get t id)
     by_test true e = sym same ∙ ap (λ q. waits (fin.get t q)) (sym (test_same id k e))
     by_test false e = refl
 
-gone_same : (t : Places) (k : ℕ) (id : ℕ) → waits (fin.get t k) ≡ false → waits (fin.get (fin.remove t k) id) ≡ waits (fin.get t id)
+gone_same : (t : IdRecords) (k : ℕ) (id : ℕ) → waits (fin.get t k) ≡ false → waits (fin.get (fin.remove t k) id) ≡ waits (fin.get t id)
 gone_same t k id same = gone_waits t k id ∙ by_test (id == k) refl
   where
     by_test : (b : Bool) → (id == k) ≡ b → cond b false (waits (fin.get t id)) ≡ waits (fin.get t id)
@@ -122,10 +122,10 @@ twice : (b x : Bool) → cond b true (cond b false x) ≡ cond b true x
 twice true x = refl
 twice false x = refl
 
-sent_same : (t : Places) (id : ℕ) → waits (fin.get (all_sent t) id) ≡ waits (fin.get t id)
+sent_same : (t : IdRecords) (id : ℕ) → waits (fin.get (all_sent t) id) ≡ waits (fin.get t id)
 sent_same t id = ap waits (get_sent t id) ∙ each (fin.get t id)
   where
-    each : (p : Option Place) → waits (option_map sent_place p) ≡ waits p
+    each : (p : Option IdRecord) → waits (option_map sent_record p) ≡ waits p
     each None = refl
     each (Some (Waiting e s w)) = refl
     each (Some (Answered e r)) = refl
@@ -137,7 +137,7 @@ record Shown (core new : Core) (id : ℕ) (shows : List Sign) : Type 0 where
   turns : TakeTurns id (waits (at core id)) shows
   ends : waits_after id (waits (at core id)) shows ≡ waits (at new id)
 
-here : (core : Core) (k id : ℕ) (p : Option Place) (b : Bool) → at core k ≡ p → waits p ≡ b → id ≡ k → waits (at core id) ≡ b
+here : (core : Core) (k id : ℕ) (p : Option IdRecord) (b : Bool) → at core k ≡ p → waits p ≡ b → id ≡ k → waits (at core id) ≡ b
 here core k id p b is w e = ap (λ q. waits (at core q)) e ∙ ap waits is ∙ w
 
 tests : (a b : ℕ) → a ≡ b → (a == b) ≡ true
@@ -153,7 +153,7 @@ drop_shown core k id (Some handle) waited =
     record { turns = (waited, ((λ same. answered_first (id == k) _ (tests id k same)), tt)); ends = twice (id == k) _ ∙ sym (put_waits core.table k _ id) }
 drop_shown core k id None waited = record { turns = (waited, tt); ends = sym (gone_waits core.table k id) }
 
-answer_shown : (core : Core) (k : ℕ) (r : Reply) (id : ℕ) (p : Option Place) → at core k ≡ p → Shown core (take_leaves core k r p) id (answer_signs k p r)
+answer_shown : (core : Core) (k : ℕ) (r : Reply) (id : ℕ) (p : Option IdRecord) → at core k ≡ p → Shown core (take_leaves core k r p) id (answer_signs k p r)
 answer_shown core k r id (Some (Waiting e s true)) is = record
     { turns = (here core k id _ true is refl, tt); ends = sym (put_waits core.table k (Answered e r) id) }
 answer_shown core k r id (Some (Waiting e s false)) is = drop_shown core k id (brings r) (here core k id _ true is refl)
@@ -162,7 +162,7 @@ answer_shown core k r id (Some (Granted handle users)) is = record { turns = tt;
 answer_shown core k r id None is = record { turns = tt; ends = refl }
 
 -- no id is in use before the greeting
-abbrev IsBlank : Handshake → Places → Type 0
+abbrev IsBlank : Handshake → IdRecords → Type 0
 IsBlank Greeting t = (id : ℕ) → fin.get t id ≡ None
 IsBlank (Asking extensions) t = Unit {0}
 IsBlank (Open info) t = Unit {0}
@@ -188,7 +188,7 @@ close_shown : (core : Core) (k id : ℕ) (brought : Option (List ℕ)) → (id �
 close_shown core k id (Some handle) none at_k = record { turns = (none, tt); ends = sym (put_waits core.table k _ id) }
 close_shown core k id None none at_k = record { turns = tt; ends = sym (gone_same core.table k id at_k) }
 
-abandon_shown : (core : Core) (k id : ℕ) (p : Option Place) → at core k ≡ p → Shown core (abandon_leaves core k p) id (abandon_signs k p)
+abandon_shown : (core : Core) (k id : ℕ) (p : Option IdRecord) → at core k ≡ p → Shown core (abandon_leaves core k p) id (abandon_signs k p)
 abandon_shown core k id (Some (Waiting e s w)) is = record { turns = tt; ends = sym (kept_waits core.table k _ id (ap waits is)) }
 abandon_shown core k id (Some (Answered e r)) is = close_shown core k id (brings r) (here core k id _ false is refl) (ap waits is)
 abandon_shown core k id (Some (Granted handle users)) is = record { turns = tt; ends = refl }
@@ -199,7 +199,7 @@ release_shown : (core : Core) (grant : GrantValue) (id users : ℕ) → waits (a
 release_shown core grant id users none = by_test (users == 1)
   where
     by_test : (b : Bool) → Shown core (cond b (queued_last core grant.id (Close grant.handle) true)
-        (with_place core grant.id (Granted grant.handle (users - 1)))) id (cond b (Asked grant.id ∷ []) [])
+        (with_record core grant.id (Granted grant.handle (users - 1)))) id (cond b (Asked grant.id ∷ []) [])
     by_test true = record { turns = ((λ e. ap (λ q. waits (at core q)) e ∙ none), tt); ends = sym (put_waits core.table grant.id _ id) }
     by_test false = record { turns = tt; ends = sym (kept_waits core.table grant.id _ id none) }
 
@@ -208,7 +208,7 @@ give_same : (core : Core) (k : ℕ) (brought : Option (List ℕ)) (id : ℕ) →
 give_same core k (Some handle) id none = kept_waits core.table k _ id none
 give_same core k None id none = gone_same core.table k id none
 
-poll_same : (core : Core) (k : ℕ) (f : Option Fault) (p : Option Place) (id : ℕ) → at core k ≡ p → waits (at (poll_leaves core k f p) id) ≡ waits (at core id)
+poll_same : (core : Core) (k : ℕ) (f : Option Fault) (p : Option IdRecord) (id : ℕ) → at core k ≡ p → waits (at (poll_leaves core k f p) id) ≡ waits (at core id)
 poll_same core k f (Some (Answered e r)) id is = give_same core k (brings r) id (ap waits is)
 poll_same core k (Some f) (Some (Waiting e s w)) id is = kept_waits core.table k _ id (ap waits is)
 poll_same core k None (Some (Waiting e s w)) id is = refl
@@ -229,21 +229,21 @@ shown core (Fail f) id blank may = record { turns = tt; ends = refl }
 
 -- ---- no call before the greeting takes an id
 
--- a call that no table without places allows
-blank_by : (p p' : Handshake) (t t' : Places) → p' ≡ p → (((id : ℕ) → fin.get t id ≡ None) → (id : ℕ) → fin.get t' id ≡ None) → IsBlank p t → IsBlank p' t'
+-- a call that no table without records allows
+blank_by : (p p' : Handshake) (t t' : IdRecords) → p' ≡ p → (((id : ℕ) → fin.get t id ≡ None) → (id : ℕ) → fin.get t' id ≡ None) → IsBlank p t → IsBlank p' t'
 blank_by Greeting p' t t' same step blank = subst (λ x. IsBlank x t') (sym same) (step blank)
 blank_by (Asking extensions) p' t t' same step blank = subst (λ x. IsBlank x t') (sym same) tt
 blank_by (Open info) p' t t' same step blank = subst (λ x. IsBlank x t') (sym same) tt
 
-blank_open : (p : Handshake) (t : Places) → IsSome (info_of p) → IsBlank p t
+blank_open : (p : Handshake) (t : IdRecords) → IsSome (info_of p) → IsBlank p t
 blank_open Greeting t h = absurd cc
 blank_open (Asking extensions) t h = tt
 blank_open (Open info) t h = tt
 
-no_ticket : (o : Option Place) → IsTrue (is_ticket o) → o ≡ None → ⊥
-no_ticket o may none = let P : Option Place → Type 0 = λ p. IsTrue (is_ticket p) in let no = subst P none may in cc
+no_ticket : (o : Option IdRecord) → IsTrue (is_ticket o) → o ≡ None → ⊥
+no_ticket o may none = let P : Option IdRecord → Type 0 = λ p. IsTrue (is_ticket p) in let no = subst P none may in cc
 
-no_place : (o : Option Place) (w : Place) → o ≡ Some w → o ≡ None → ⊥
+no_place : (o : Option IdRecord) (w : IdRecord) → o ≡ Some w → o ≡ None → ⊥
 no_place o w is none = let clash : Some w ≡ None = sym is ∙ none in cc
 
 blank_greeted : (core : Core) (told : Option Extensions) → IsBlank core.phase core.table → IsBlank (greeted_by core told).phase (greeted_by core told).table
@@ -279,7 +279,7 @@ blank_kept core (Retain grant) blank may =
     blank_by core.phase _ core.table _ refl (λ none id. absurd (no_place (at core grant.id) _ may.kept (none grant.id))) blank
 blank_kept core (Poll k) blank may =
     blank_by core.phase _ core.table _ (poll_phase core k core.fault (at core k)) (λ none id. absurd (no_ticket (at core k) may (none k))) blank
-blank_kept core HandOut blank may = blank_by core.phase _ core.table _ refl (λ none id. get_sent core.table id ∙ ap (option_map sent_place) (none id)) blank
+blank_kept core HandOut blank may = blank_by core.phase _ core.table _ refl (λ none id. get_sent core.table id ∙ ap (option_map sent_record) (none id)) blank
 blank_kept core (Fail f) blank may = blank
 
 -- ---- the law

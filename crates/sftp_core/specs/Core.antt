@@ -40,14 +40,14 @@ use Rattle.sftp_core.specs.declared.errors.SubmitError.{SubmitError}
 use Rattle.sftp_core.specs.declared.errors.SubmitError.TheVariants as submit
 use Rattle.sftp_core.specs.declared.tokens.Polled.{Polled}
 use Rattle.sftp_core.specs.declared.tokens.Polled.TheVariants as polled
-use Rattle.sftp_core.specs.declared.place.Place.{Place}
-use Rattle.sftp_core.specs.declared.place.Place.TheVariants.{Waiting, Answered, Granted}
+use Rattle.sftp_core.specs.declared.id_record.IdRecord.{IdRecord}
+use Rattle.sftp_core.specs.declared.id_record.IdRecord.TheVariants.{Waiting, Answered, Granted}
 use Rattle.sftp_core.specs.Grant.{GrantValue}
 use Rattle.sftp_model.specs.Pieces.{joined}
 use Rattle.sftp_wire.specs.Heads.{request_head}
 use Rattle.sftp_core.specs.Pieces.{whole, filled_of}
 use Rattle.sftp_core.specs.Info.{hello_of}
-use Rattle.sftp_core.specs.Table.{Places, count, all_sent, is_waiting, is_sent, is_owing, is_unsent, brings}
+use Rattle.sftp_core.specs.Table.{IdRecords, count, all_sent, is_waiting, is_sent, is_owing, is_unsent, brings}
 
 -- the options, whether the hello was handed out, how far the greeting has come, the queue in order, the pieces of its
 -- frames in order, what is kept under each id, and the fault
@@ -57,16 +57,16 @@ pub record Core : Type 0 where
   pub phase : Handshake
   pub queue : List (ℕ × Request)
   pub pieces : List (List ℕ)
-  pub table : Places
+  pub table : IdRecords
   pub fault : Option Fault
 
 -- what is kept under an id
-abbrev pub at : Core → ℕ → Option Place
+abbrev pub at : Core → ℕ → Option IdRecord
 at core id = fin.get core.table id
 
--- another place stands under an id
-abbrev pub with_place : Core → ℕ → Place → Core
-with_place core id place = record core { table = fin.insert core.table id place }
+-- another record stands under an id
+abbrev pub with_record : Core → ℕ → IdRecord → Core
+with_record core id held = record core { table = fin.insert core.table id held }
 
 -- nothing stands under an id
 abbrev pub without : Core → ℕ → Core
@@ -130,21 +130,21 @@ kept_of core = fin.len core.table + hello_of core.phase
 -- ---- tickets and grants
 
 -- a reply that was taken for a ticket
-abbrev pub reply_in : Option Place → Option Reply
+abbrev pub reply_in : Option IdRecord → Option Reply
 reply_in None = None
 reply_in (Some (Waiting expected sent wanted)) = None
 reply_in (Some (Answered expected r)) = Some r
 reply_in (Some (Granted handle users)) = None
 
 -- the core gave a ticket with this number, and still counts it
-abbrev pub is_ticket : Option Place → Bool
+abbrev pub is_ticket : Option IdRecord → Bool
 is_ticket None = false
 is_ticket (Some (Waiting expected sent wanted)) = wanted
 is_ticket (Some (Answered expected r)) = true
 is_ticket (Some (Granted handle users)) = false
 
 -- the users of a grant, 0 where none stands here
-abbrev pub users_of : Option Place → ℕ
+abbrev pub users_of : Option IdRecord → ℕ
 users_of None = 0
 users_of (Some (Waiting expected sent wanted)) = 0
 users_of (Some (Answered expected r)) = 0
@@ -155,20 +155,20 @@ pub record IsGrant (core : Core) (grant : GrantValue) : Type 0 where
   pub kept : at core grant.id ≡ Some (Granted grant.handle (users_of (at core grant.id)))
   pub used : 0 < users_of (at core grant.id)
 
--- a CLOSE is owed here, and no request of this place stands in the queue
-abbrev pub MayClose : Option Place → Type 0
+-- a CLOSE is owed here, and no request of this record stands in the queue
+abbrev pub MayClose : Option IdRecord → Type 0
 MayClose None = ⊥
-MayClose (Some place) = (is_owing place ≡ true) × (is_unsent place ≡ false)
+MayClose (Some held) = (is_owing held ≡ true) × (is_unsent held ≡ false)
 
--- a place may be freed unless its request stands in the queue
-abbrev pub MayFree : Option Place → Type 0
+-- a record may be freed unless its request stands in the queue
+abbrev pub MayFree : Option IdRecord → Type 0
 MayFree None = ⊥
-MayFree (Some place) = is_unsent place ≡ false
+MayFree (Some held) = is_unsent held ≡ false
 
 -- a reply that brought this handle, or none, may be dropped
-abbrev pub MayDrop : Option (List ℕ) → Option Place → Type 0
-MayDrop (Some handle) place = MayClose place
-MayDrop None place = MayFree place
+abbrev pub MayDrop : Option (List ℕ) → Option IdRecord → Type 0
+MayDrop (Some handle) held = MayClose held
+MayDrop None held = MayFree held
 
 -- ---- submit
 
@@ -224,7 +224,7 @@ given ticket r (Some handle) = polled.Granted (record { id = ticket; handle = ha
 given ticket r None = polled.Reply r
 
 -- a taken reply comes before a fault, and the ticket comes back where there is neither
-abbrev pub poll_gives : ℕ → Option Fault → Option Place → Result Polled ℕ
+abbrev pub poll_gives : ℕ → Option Fault → Option IdRecord → Result Polled ℕ
 poll_gives ticket fault (Some (Answered expected r)) = Ok (given ticket r (brings r))
 poll_gives ticket (Some fault) (Some (Waiting expected sent wanted)) = Ok (polled.Failed fault)
 poll_gives ticket None (Some (Waiting expected sent wanted)) = Err ticket
@@ -233,14 +233,14 @@ poll_gives ticket fault None = Err ticket
 
 -- a grant with one user stands where its handle came
 abbrev pub given_leaves : Core → ℕ → Option (List ℕ) → Core
-given_leaves core ticket (Some handle) = with_place core ticket (Granted handle 1)
+given_leaves core ticket (Some handle) = with_record core ticket (Granted handle 1)
 given_leaves core ticket None = without core ticket
 
 -- after a fault the ticket is no longer counted, and the request stays until its reply
-abbrev pub poll_leaves : Core → ℕ → Option Fault → Option Place → Core
+abbrev pub poll_leaves : Core → ℕ → Option Fault → Option IdRecord → Core
 poll_leaves core ticket fault (Some (Answered expected r)) = given_leaves core ticket (brings r)
 poll_leaves core ticket (Some fault) (Some (Waiting expected sent wanted)) =
-    with_place core ticket (Waiting expected sent false)
+    with_record core ticket (Waiting expected sent false)
 poll_leaves core ticket None (Some (Waiting expected sent wanted)) = core
 poll_leaves core ticket fault (Some (Granted handle users)) = core
 poll_leaves core ticket fault None = core
@@ -261,8 +261,8 @@ dropped core id (Some handle) = queued_last core id (request.Close handle) false
 dropped core id None = without core id
 
 -- a request stays until its reply, and a reply that was taken is dropped
-abbrev pub abandon_leaves : Core → ℕ → Option Place → Core
-abandon_leaves core ticket (Some (Waiting expected sent wanted)) = with_place core ticket (Waiting expected sent false)
+abbrev pub abandon_leaves : Core → ℕ → Option IdRecord → Core
+abandon_leaves core ticket (Some (Waiting expected sent wanted)) = with_record core ticket (Waiting expected sent false)
 abandon_leaves core ticket (Some (Answered expected r)) = dropped core ticket (brings r)
 abandon_leaves core ticket (Some (Granted handle users)) = core
 abandon_leaves core ticket None = core
@@ -275,7 +275,7 @@ abandoned core ticket = abandon_leaves core ticket (at core ticket)
 
 -- a grant has one user more
 abbrev pub retained : Core → GrantValue → Core
-retained core grant = with_place core grant.id (Granted grant.handle (users_of (at core grant.id) + 1))
+retained core grant = with_record core grant.id (Granted grant.handle (users_of (at core grant.id) + 1))
 
 -- the last user's release gives the ticket of the CLOSE
 abbrev pub release_gives : GrantValue → ℕ → Option ℕ
@@ -285,7 +285,7 @@ release_gives grant users = if users == 1 then Some grant.id else None
 abbrev pub release_leaves : Core → GrantValue → ℕ → Core
 release_leaves core grant users =
     if users == 1 then queued_last core grant.id (request.Close grant.handle) true else
-    with_place core grant.id (Granted grant.handle (users - 1))
+    with_record core grant.id (Granted grant.handle (users - 1))
 
 -- the core after a release
 abbrev pub released : Core → GrantValue → Core

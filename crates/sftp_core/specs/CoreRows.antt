@@ -9,7 +9,7 @@ use Rattle.sftp_model.specs.declared.flags.Extensions.{Extensions}
 use Rattle.sftp_model.specs.declared.reply.Reply.TheVariants as reply
 use Rattle.sftp_core.specs.declared.errors.SubmitError.TheVariants as submit
 use Rattle.sftp_core.specs.declared.errors.TakeError.TheVariants as take
-use Rattle.sftp_core.specs.declared.place.Place.TheVariants.{Waiting, Answered}
+use Rattle.sftp_core.specs.declared.id_record.IdRecord.TheVariants.{Waiting, Answered}
 use Rattle.sftp_core.specs.declared.tokens.Polled.TheVariants as polled
 use Rattle.sftp_model.specs.Options.{default_options}
 use Rattle.sftp_core.specs.Info.{lengths_of}

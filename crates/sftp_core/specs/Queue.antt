@@ -1,4 +1,4 @@
--- A request that is put last into a queue, and its place in the table.
+-- A request that is put last into a queue, and its record in the table.
 use Rattle.std.specs.Prelude.{
   ◌≡◌,
   ℕ,
@@ -21,13 +21,13 @@ use Rattle.sftp_model.specs.Answers.{expected_of}
 use Rattle.sftp_model.specs.declared.request.Request.{Request}
 use Rattle.sftp_wire.specs.Heads.{request_head}
 use Rattle.sftp_core.specs.Pieces.{Frame, asked_of, pieces_of}
-use Rattle.sftp_core.specs.Table.{Places, count, is_owing}
-use Rattle.sftp_core.specs.declared.place.Place.TheVariants.{Waiting}
+use Rattle.sftp_core.specs.Table.{IdRecords, count, is_owing}
+use Rattle.sftp_core.specs.declared.id_record.IdRecord.TheVariants.{Waiting}
 
 -- The request stands last in the queue, with the pieces of its content, and waits in the table under an id that was
 -- free, which is 0 where none was in use. The queue has capacity for each CLOSE that may come.
 pub record IsPutLast {Z : Type 0} (request : Request) (parts : List (List ℕ)) (wanted : Bool) (id : ℕ)
-    (before now : Vec Frame Z) (was is : Places) : Type 0 where
+    (before now : Vec Frame Z) (was is : IdRecords) : Type 0 where
   pub free : fin.get was id ≡ None
   pub first : fin.len was ≡ 0 → id ≡ 0
   pub queued : map asked_of now.items ≡ map asked_of before.items ++ (id, request) ∷ []
@@ -37,7 +37,7 @@ pub record IsPutLast {Z : Type 0} (request : Request) (parts : List (List ℕ)) 
   pub capacity : vec_len now + count is_owing is ≤ vec_capacity now
 
 -- nothing has changed but the capacity
-pub record IsUnput {Z : Type 0} (before now : Vec Frame Z) (was is : Places) : Type 0 where
+pub record IsUnput {Z : Type 0} (before now : Vec Frame Z) (was is : IdRecords) : Type 0 where
   pub items : now.items ≡ before.items
   pub len : vec_len now ≡ vec_len before
   pub kept : is ≡ was

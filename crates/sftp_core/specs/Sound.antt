@@ -6,7 +6,7 @@ use Rattle.sftp_model.specs.declared.request.Request.{Request}
 use Rattle.sftp_core.specs.declared.handshake.Handshake.{Handshake}
 use Rattle.sftp_core.specs.Info.{IsRanged, most_ids}
 use Rattle.sftp_core.specs.Frames.{IsShort}
-use Rattle.sftp_core.specs.Table.{Places, count, is_unsent, is_owing, IsAllowed, AllListed}
+use Rattle.sftp_core.specs.Table.{IdRecords, count, is_unsent, is_owing, IsAllowed, AllListed}
 
 -- 1 for the hello while it stands in the queue
 abbrev pub hello_queued : Bool → ℕ
@@ -16,7 +16,7 @@ hello_queued sent = if sent then 0 else 1
 -- in it, and each CLOSE that may come fits. No id is in use before the greeting, each kept answer is allowed, each
 -- queued frame is within the limit, and an open session has lengths from 1 to 1048275.
 pub record IsSound (hello_sent : Bool) (phase : Handshake) (queue : List (ℕ × Request)) (queued capacity : ℕ)
-    (table : Places) : Type 0 where
+    (table : IdRecords) : Type 0 where
   pub unsent : queued ≡ count is_unsent table + hello_queued hello_sent
   pub listed : AllListed queue table
   pub reserved : queued + count is_owing table ≤ capacity

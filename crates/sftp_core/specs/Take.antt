@@ -17,14 +17,14 @@ use Rattle.sftp_core.specs.declared.errors.TakeError.{TakeError}
 use Rattle.sftp_core.specs.declared.errors.TakeError.TheVariants as take
 use Rattle.sftp_core.specs.declared.handshake.Handshake.{Handshake}
 use Rattle.sftp_core.specs.declared.handshake.Handshake.TheVariants.{Greeting, Asking, Open}
-use Rattle.sftp_core.specs.declared.place.Place.{Place}
-use Rattle.sftp_core.specs.declared.place.Place.TheVariants.{Waiting, Answered, Granted}
+use Rattle.sftp_core.specs.declared.id_record.IdRecord.{IdRecord}
+use Rattle.sftp_core.specs.declared.id_record.IdRecord.TheVariants.{Waiting, Answered, Granted}
 use Rattle.sftp_core.specs.declared.tokens.Taken.{Taken}
 use Rattle.sftp_core.specs.declared.tokens.Taken.TheVariants as taken_of
 use Rattle.sftp_core.specs.Info.{info_with}
 use Rattle.sftp_model.specs.Lengths.{offers_limits}
 use Rattle.sftp_core.specs.Table.{brings}
-use Rattle.sftp_core.specs.Core.{Core, at, with_place, queued_last, dropped, failed_with}
+use Rattle.sftp_core.specs.Core.{Core, at, with_record, queued_last, dropped, failed_with}
 
 -- an id, where there is one, and a reply
 abbrev pub Read : Type 0
@@ -44,7 +44,7 @@ wrong_version (reply.Version version extensions) = if version == 3 then None els
 wrong_version other = Some (take.InvalidResponse None)
 
 -- first the id, then whether the reply may answer the request that bears it
-abbrev pub wrong_at : ℕ → Reply → Option Place → Option TakeError
+abbrev pub wrong_at : ℕ → Reply → Option IdRecord → Option TakeError
 wrong_at id r (Some (Waiting expected true wanted)) = if allows expected r then None else
     Some (take.InvalidResponse (Some id))
 wrong_at id r (Some (Waiting expected false wanted)) = Some (take.InvalidResponseId id)
@@ -112,11 +112,11 @@ IsFirst e refusal = First e (fault_of e) refusal
 
 -- a wanted answer is kept, and any other dropped
 abbrev pub answered : Core → ℕ → Reply → Expected → Bool → Core
-answered core id r expected true = with_place core id (Answered expected r)
+answered core id r expected true = with_record core id (Answered expected r)
 answered core id r expected false = dropped core id (brings r)
 
 -- an answer stands in the place of its request
-abbrev pub take_leaves : Core → ℕ → Reply → Option Place → Core
+abbrev pub take_leaves : Core → ℕ → Reply → Option IdRecord → Core
 take_leaves core id r (Some (Waiting expected sent wanted)) = answered core id r expected wanted
 take_leaves core id r (Some (Answered expected other)) = core
 take_leaves core id r (Some (Granted handle users)) = core

@@ -24,8 +24,8 @@ use Rattle.sftp_model.specs.declared.reply.Reply.{Reply}
 use Rattle.sftp_model.specs.declared.request.Request.{Request}
 use Rattle.sftp_core.specs.declared.handshake.Handshake.{Handshake}
 use Rattle.sftp_core.specs.declared.handshake.Handshake.TheVariants.{Greeting, Asking, Open}
-use Rattle.sftp_core.specs.declared.place.Place.{Place}
-use Rattle.sftp_core.specs.declared.place.Place.TheVariants.{Waiting, Answered, Granted}
+use Rattle.sftp_core.specs.declared.id_record.IdRecord.{IdRecord}
+use Rattle.sftp_core.specs.declared.id_record.IdRecord.TheVariants.{Waiting, Answered, Granted}
 use Rattle.sftp_core.specs.Grant.{GrantValue}
 use Rattle.sftp_core.specs.Info.{info_of}
 use Rattle.sftp_model.specs.Lengths.{offers_limits}
@@ -107,7 +107,7 @@ close_signs id (Some handle) = Asked id ∷ []
 close_signs id None = []
 
 -- an answer, and the CLOSE of a handle that nobody wants
-abbrev pub answer_signs : ℕ → Option Place → Reply → List Sign
+abbrev pub answer_signs : ℕ → Option IdRecord → Reply → List Sign
 answer_signs id (Some (Waiting expected sent true)) r = Replied id ∷ []
 answer_signs id (Some (Waiting expected sent false)) r = Replied id ∷ close_signs id (brings r)
 answer_signs id (Some (Answered expected other)) r = []
@@ -128,7 +128,7 @@ take_signs core (Open info) None r = []
 take_signs core (Open info) (Some id) r = answer_signs id (at core id) r
 
 -- the CLOSE of a handle that came before
-abbrev pub abandon_signs : ℕ → Option Place → List Sign
+abbrev pub abandon_signs : ℕ → Option IdRecord → List Sign
 abandon_signs id (Some (Waiting expected sent wanted)) = []
 abandon_signs id (Some (Answered expected r)) = close_signs id (brings r)
 abandon_signs id (Some (Granted handle users)) = []

@@ -9,8 +9,8 @@ ghost use Rattle.sftp_core.specs.Queue.{IsPutLast, IsUnput};
 
 use crate::errors::SubmitError;
 use crate::handshake::Handshake;
+use crate::id_record::IdRecord;
 use crate::info::Info;
-use crate::place::Place;
 use crate::queued::Queued;
 use crate::table::Table;
 use bytes::Bytes;
@@ -184,14 +184,14 @@ fn put_last(
     ensures err { OnErr result (IsUnput queue.old queue.new table.old table.new) }
     ensures grows { vec_capacity queue.old ≤ vec_capacity queue.new }
 {
-    let place = Place::Waiting {
+    let held = IdRecord::Waiting {
         expected: Expected::of(&request),
         sent: false,
         wanted,
     };
-    let more = table.owing() + place.owing() + 1;
+    let more = table.owing() + held.owing() + 1;
     queue.reserve(more)?;
-    let id = table.insert(place)?;
+    let id = table.insert(held)?;
     push_reserved(queue, id, request, parts);
     Ok(id)
 }

@@ -13,8 +13,8 @@ use Rattle.sftp_model.specs.declared.slot.Slot.TheVariants as slots
 use Rattle.sftp_model.specs.Slots.{has_grant, with_slot}
 use Rattle.plan_model.specs.FilePlans.{close_next, close_slot_next}
 use Rattle.plan_model.specs.Moves.{Answers, handle_of}
-use Rattle.sftp_core.specs.declared.place.Place.TheVariants.{Granted, Waiting}
-use Rattle.sftp_core.specs.Core.{Core, at, queued_last, release_gives, release_leaves, released, users_of, with_place}
+use Rattle.sftp_core.specs.declared.id_record.IdRecord.TheVariants.{Granted, Waiting}
+use Rattle.sftp_core.specs.Core.{Core, at, queued_last, release_gives, release_leaves, released, users_of, with_record}
 use Rattle.sftp_core.specs.Grant.{GrantValue}
 use Rattle.sftp_core.proofs.Elsewhere.{put_here}
 use Rattle.call_state.specs.declared.asking.Asking.TheVariants.{Whole}
@@ -85,7 +85,7 @@ closes_with false f old new call is stage same = (
 released_by : (b : Bool) (old new : Core) (g : GrantValue) (users : ℕ) → (users == 1) ≡ b → new ≡ release_leaves old g users
     → new ≡ (if b then queued_last old g.id (request.Close g.handle) true else new)
 released_by true old new g users is after = after ∙ ap (λ (b : Bool). if b then
-    queued_last old g.id (request.Close g.handle) true else with_place old g.id (Granted g.handle (users - 1))) is
+    queued_last old g.id (request.Close g.handle) true else with_record old g.id (Granted g.handle (users - 1))) is
 released_by false old new g users is after = refl
 
 pub closes_by : (f : FileValue) (old new : Core) (call : CallValue Settling) (given : Option ℕ) → given ≡ release_gives f.grant (users_of (at old f.grant.id))

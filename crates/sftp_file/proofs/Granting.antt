@@ -1,9 +1,9 @@
 -- Grants that files share.
 use Rattle.std.proofs.Common.{◌≡◌, ◌+◌, ◌-◌, ◌<◌, ◌==◌, arith, false, ap, Option}
 use Rattle.std.proofs.lemmas.Bool.Decides.{nat_tests}
-use Rattle.sftp_core.specs.declared.place.Place.{Place}
-use Rattle.sftp_core.specs.declared.place.Place.TheVariants.{Granted}
-use Rattle.sftp_core.specs.Core.{Core, at, released, retained, users_of, with_place, IsGrant}
+use Rattle.sftp_core.specs.declared.id_record.IdRecord.{IdRecord}
+use Rattle.sftp_core.specs.declared.id_record.IdRecord.TheVariants.{Granted}
+use Rattle.sftp_core.specs.Core.{Core, at, released, retained, users_of, with_record, IsGrant}
 use Rattle.sftp_core.specs.Grant.{GrantValue}
 use Rattle.sftp_core.proofs.Elsewhere.{put_here}
 use Rattle.call_state.proofs.Keeping.{grant_at}
@@ -16,11 +16,11 @@ retained_grant core grant =
 
 -- with one user more
 pub retained_users : (core : Core) (grant : GrantValue) → users_of (at (retained core grant) grant.id) ≡ users_of (at core grant.id) + 1
-retained_users core grant = ap (λ (p : Option Place). users_of p) (put_here core.table grant.id (Granted grant.handle (users_of (at core grant.id) + 1)))
+retained_users core grant = ap (λ (p : Option IdRecord). users_of p) (put_here core.table grant.id (Granted grant.handle (users_of (at core grant.id) + 1)))
 
 -- a grant that has another user is counted after a release
 pub released_grant : (core : Core) (grant : GrantValue) → 1 < users_of (at core grant.id) → IsGrant (released core grant) grant
 released_grant core grant many =
     let other : (users_of (at core grant.id) == 1) ≡ false = grind (arith, nat_tests) in
-    rw other (grant_at (with_place core grant.id (Granted grant.handle (users_of (at core grant.id) - 1))) grant (users_of (at core grant.id) - 1)
+    rw other (grant_at (with_record core grant.id (Granted grant.handle (users_of (at core grant.id) - 1))) grant (users_of (at core grant.id) - 1)
     (put_here core.table grant.id (Granted grant.handle (users_of (at core grant.id) - 1))) (omega arith))

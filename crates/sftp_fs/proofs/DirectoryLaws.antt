@@ -6,9 +6,9 @@ use Rattle.sftp_model.specs.declared.error.Error.{Error}
 use Rattle.sftp_model.specs.declared.request.Request.TheVariants as request
 use Rattle.sftp_model.specs.declared.slot.Site.{Site}
 use Rattle.plan_model.specs.Moves.{Answers, ask_path}
-use Rattle.sftp_core.specs.Core.{Core, at, queued_last, release_gives, release_leaves, released, users_of, with_place}
+use Rattle.sftp_core.specs.Core.{Core, at, queued_last, release_gives, release_leaves, released, users_of, with_record}
 use Rattle.sftp_core.specs.Grant.{GrantValue}
-use Rattle.sftp_core.specs.declared.place.Place.TheVariants.{Granted, Waiting}
+use Rattle.sftp_core.specs.declared.id_record.IdRecord.TheVariants.{Granted, Waiting}
 use Rattle.sftp_core.proofs.Elsewhere.{put_here}
 use Rattle.call_state.specs.declared.stage.Stage.{Stage}
 use Rattle.call_state.specs.Calls.{CallValue, IsHeldAt, IsUnderWay}
@@ -65,7 +65,7 @@ closes_with false dir old new call is stage same = (
 released_by : (b : Bool) (old new : Core) (g : GrantValue) (users : ℕ) → (users == 1) ≡ b → new ≡ release_leaves old g users
     → new ≡ (if b then queued_last old g.id (request.Close g.handle) true else new)
 released_by true old new g users is after = after ∙ ap (λ (b : Bool). if b then
-    queued_last old g.id (request.Close g.handle) true else with_place old g.id (Granted g.handle (users - 1))) is
+    queued_last old g.id (request.Close g.handle) true else with_record old g.id (Granted g.handle (users - 1))) is
 released_by false old new g users is after = refl
 
 pub closes_by : (dir : GrantValue) (old new : Core) (call : CallValue Settling) (given : Option ℕ)

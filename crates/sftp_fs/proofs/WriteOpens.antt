@@ -37,8 +37,8 @@ use Rattle.plan_model.specs.Moves.{Answers, Own, Plan, handle_of, on_handle, onc
 use Rattle.sftp_core.specs.Core.{Core, at, poll_leaves, reply_in}
 use Rattle.sftp_core.specs.Info.{info_of}
 use Rattle.sftp_core.specs.declared.handshake.Handshake.{Handshake}
-use Rattle.sftp_core.specs.declared.place.Place.{Place}
-use Rattle.sftp_core.specs.declared.place.Place.TheVariants.{Answered, Granted, Waiting}
+use Rattle.sftp_core.specs.declared.id_record.IdRecord.{IdRecord}
+use Rattle.sftp_core.specs.declared.id_record.IdRecord.TheVariants.{Answered, Granted, Waiting}
 use Rattle.call_state.proofs.Keeping.{still_under_way}
 use Rattle.call_state.proofs.Grants.{ended_brings}
 use Rattle.call_state.proofs.Sparing.{
@@ -362,7 +362,7 @@ opened_on facts old new grant content q result h =
 
 -- ---- a core behind the poll of an OPEN
 
-phase_left : (core : Core) (ticket : ℕ) (fault : Option Fault) (p : Option Place) → (poll_leaves core ticket fault p).phase ≡ core.phase
+phase_left : (core : Core) (ticket : ℕ) (fault : Option Fault) (p : Option IdRecord) → (poll_leaves core ticket fault p).phase ≡ core.phase
 phase_left core ticket fault (Some (Answered expected (reply.Handle handle))) = refl
 phase_left core ticket fault (Some (Answered expected (reply.Version version extensions))) = refl
 phase_left core ticket fault (Some (Answered expected (reply.Status code message language))) = refl

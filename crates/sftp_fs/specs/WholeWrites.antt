@@ -11,7 +11,7 @@ use Rattle.plan_model.specs.Moves.{Answers, Own, Plan, handle_of}
 use Rattle.plan_model.specs.WholePlans.{fs_write_next}
 use Rattle.sftp_core.specs.Core.{Core, abandoned, at, released}
 use Rattle.sftp_core.specs.Grant.{GrantValue}
-use Rattle.sftp_core.specs.declared.place.Place.TheVariants.{Granted}
+use Rattle.sftp_core.specs.declared.id_record.IdRecord.TheVariants.{Granted}
 use Rattle.call_state.specs.Asked.{IsReady}
 use Rattle.call_state.specs.Calls.{
   AsksAndAwaits,

@@ -3,7 +3,7 @@ ghost use Rattle.std.specs.Prelude.{◌≡◌, ◌≤◌, true, false, Some, IfO
 ghost use Rattle.plan_model.specs.FilePlans.{open_request};
 ghost use Rattle.plan_model.specs.WholePlans.{to_replace};
 ghost use Rattle.sftp_core.specs.Core.{at};
-ghost use Rattle.sftp_core.specs.declared.place.Place.TheVariants.{Granted};
+ghost use Rattle.sftp_core.specs.declared.id_record.IdRecord.TheVariants.{Granted};
 ghost use Rattle.sftp_model.specs.Numbers.{MAX_TRANSFER_LEN};
 ghost use Rattle.sftp_model.specs.declared.slot.Facts.{Facts as FactsValue};
 ghost use Rattle.call_state.specs.Asked.{IsReady};

@@ -1,9 +1,9 @@
 -- Parts under way, over what a core does.
 use Rattle.std.proofs.Common.{◌≡◌, ◌≢◌, ◌<◌, ℕ, ◌+◌, true, false, List, [], ◌∷◌, ◌++◌, length, refl, sym, ap, ◌∙◌, subst, arith, Option, Some, None}
 use Rattle.std.specs.Prelude.{IsTrue}
-use Rattle.sftp_core.specs.declared.place.Place.{Place}
+use Rattle.sftp_core.specs.declared.id_record.IdRecord.{IdRecord}
 use Rattle.sftp_model.specs.declared.error.Fault.{Fault}
-use Rattle.sftp_core.specs.declared.place.Place.TheVariants.{Waiting, Answered, Granted}
+use Rattle.sftp_core.specs.declared.id_record.IdRecord.TheVariants.{Waiting, Answered, Granted}
 use Rattle.sftp_core.specs.Table.{brings}
 use Rattle.sftp_core.specs.Core.{Core, abandon_leaves, abandoned, after_poll, at, dropped, given_leaves, is_ticket, poll_leaves}
 use Rattle.sftp_core.proofs.Elsewhere.{abandon_phase, poll_phase}
@@ -30,7 +30,7 @@ others_awaited kind core t (part ∷ later) (ne, apart) (h, some, own, held) =
 
 -- ---- a ticket more
 
-not_none : (p : Option Place) → IsTrue (is_ticket p) → p ≡ None → ⊥
+not_none : (p : Option IdRecord) → IsTrue (is_ticket p) → p ≡ None → ⊥
 not_none p y e = (let bad : false ≡ true = subst (λ x. IsTrue (is_ticket x)) e y in cc)
 
 pub apart_from : (kind : KindOf) (core : Core) (t : ℕ) (parts : List Part) → at core t ≡ None → AreAwaited kind core parts → IsApart t parts
@@ -100,7 +100,7 @@ given_fault : (core : Core) (k : ℕ) (brought : Option (List ℕ)) → (given_l
 given_fault core k (Some handle) = refl
 given_fault core k None = refl
 
-pub poll_fault : (core : Core) (k : ℕ) (f : Option Fault) (p : Option Place) → (poll_leaves core k f p).fault ≡ core.fault
+pub poll_fault : (core : Core) (k : ℕ) (f : Option Fault) (p : Option IdRecord) → (poll_leaves core k f p).fault ≡ core.fault
 poll_fault core k f (Some (Answered e r)) = given_fault core k (brings r)
 poll_fault core k (Some f) (Some (Waiting e s w)) = refl
 poll_fault core k None (Some (Waiting e s w)) = refl
@@ -111,7 +111,7 @@ dropped_fault : (core : Core) (k : ℕ) (brought : Option (List ℕ)) → (dropp
 dropped_fault core k (Some handle) = refl
 dropped_fault core k None = refl
 
-pub abandon_fault : (core : Core) (k : ℕ) (p : Option Place) → (abandon_leaves core k p).fault ≡ core.fault
+pub abandon_fault : (core : Core) (k : ℕ) (p : Option IdRecord) → (abandon_leaves core k p).fault ≡ core.fault
 abandon_fault core k (Some (Waiting e s w)) = refl
 abandon_fault core k (Some (Answered e r)) = dropped_fault core k (brings r)
 abandon_fault core k (Some (Granted handle users)) = refl

@@ -85,7 +85,7 @@ module _ {S : Type 0} where
       record {
         idle = so_far.idle;
         may = may_first (op_by now.block now.cache.capacity o now.cache.kept) (after_op old later answers)
-            (subst (λ (f : Doing Viewed). MayDo f (seen_of now.session).stage.past) (next_is o rest later answers old now is so_far.block so_far.capacity)
+            (subst (λ (f : Doing Viewed). MayDo f (seen_of now.session).progress.past) (next_is o rest later answers old now is so_far.block so_far.capacity)
             (may_on may.may so_far.runs));
         some = subst (λ (n : ℕ). 1 ≤ n) (sym so_far.block) may.some;
         short = subst (λ (n : ℕ). n ≤ 65536) (sym so_far.block) may.short;

@@ -91,11 +91,11 @@ module _ {S : Type 0} where
   reads_first block bytes a none idle = subst (λ (w : List ℕ). ReadsSoFar block 0 w a a) (sym none) (begins block a idle)
 
   pub may_read : (block k : ℕ) (bytes : List ℕ) (call : Call) {a now : At S} → call ≡ reading (block - length bytes) → k < block
-      → MayDo (read_on block block []) a.seen.stage.past → ReadsSoFar block k bytes a now → MayDo (makes call) now.seen.stage.past
+      → MayDo (read_on block block []) a.seen.progress.past → ReadsSoFar block k bytes a now → MayDo (makes call) now.seen.progress.past
   may_read block k bytes call {a = a} {now = now} is lt may so_far =
-      subst (λ (c : Call). MayDo (makes c) now.seen.stage.past) (sym is)
+      subst (λ (c : Call). MayDo (makes c) now.seen.progress.past) (sym is)
       (may_first (makes (reading (block - length bytes))) (after_read block (block - (k + 1)) bytes)
-      (subst (λ (n : ℕ). MayDo (read_on block n bytes) now.seen.stage.past) (one_left block k lt) (may_on may so_far.runs)))
+      (subst (λ (n : ℕ). MayDo (read_on block n bytes) now.seen.progress.past) (one_left block k lt) (may_on may so_far.runs)))
 
   read_one : (block k : ℕ) (bytes : List ℕ) (call : Call) {a now b : At S} {found : Found} → call ≡ reading (block - length bytes) → k < block
       → ReadsSoFar block k bytes a now → DoesBySession (makes call) pure now b (Ok found)
@@ -204,8 +204,8 @@ module _ {S : Type 0} where
     idle = run.idle;
   }
 
-  pub may_read_block : (block n : ℕ) {a b : At S} → MayDo (read_at block n) a.seen.stage.past → IsSought block n a b
-      → MayDo (read_on block block []) b.seen.stage.past
+  pub may_read_block : (block n : ℕ) {a b : At S} → MayDo (read_at block n) a.seen.progress.past → IsSought block n a b
+      → MayDo (read_on block block []) b.seen.progress.past
   may_read_block block n may s = may_first (read_on block block []) after_found (may_on may s.runs)
 
   pub sought_stopped : (block n : ℕ) {a b c : At S} {e : Error} → IsSought block n a b → DoesBySession (read_on block block []) pure b c (Err e)
@@ -221,10 +221,10 @@ module _ {S : Type 0} where
       → IsFound block n found a c
   found_all block n s run = record { runs = then_on s.runs (bound {k = after_found} run); idle = run.idle }
 
-  pub may_close : (block n : ℕ) (call : Call) {a b : At S} {found : Found} → call ≡ closing → MayDo (read_at block n) a.seen.stage.past
-      → IsFound block n found a b → MayDo (makes call) b.seen.stage.past
+  pub may_close : (block n : ℕ) (call : Call) {a b : At S} {found : Found} → call ≡ closing → MayDo (read_at block n) a.seen.progress.past
+      → IsFound block n found a b → MayDo (makes call) b.seen.progress.past
   may_close block n call {b = b} {found = found} is may f = may_make (read_at block n) closing call
-      (λ closed. pure found) b.seen.stage.past is (may_on may f.runs)
+      (λ closed. pure found) b.seen.progress.past is (may_on may f.runs)
 
   pub closed_stopped : (block n : ℕ) (call : Call) {a b c : At S} {found : Found} {e : Error} → IsFound block n found a b → DoesBySession (makes call) pure b c (Err e)
       → DoesBySession (read_at block n) pure a c (Err e)
@@ -247,7 +247,7 @@ module _ {S : Type 0} where
       gives tt (bound {k = after_open block n} (made (opening reads_only path) call is run)) (ap (after_open block n) granted)
 
   pub may_read_at : (block n : ℕ) (path bytes : List ℕ) (call : Call) {a b : At S} {found : Found} → call ≡ opening reads_only path → found ≡ Ok bytes
-      → MayDo (fetched block path n) a.seen.stage.past → DoesBySession (makes call) pure a b (Ok found) → MayDo (read_at block n) b.seen.stage.past
+      → MayDo (fetched block path n) a.seen.progress.past → DoesBySession (makes call) pure a b (Ok found) → MayDo (read_at block n) b.seen.progress.past
   may_read_at block n path bytes call is granted may run = may_on may (open_granted block n path bytes call is granted run)
 
   pub open_read : (block n : ℕ) (path bytes : List ℕ) (call : Call) {a b c : At S} {found : Found}

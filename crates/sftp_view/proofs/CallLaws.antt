@@ -58,22 +58,22 @@ module _ {S : Type 0} where
   stepped : {T : Type 0} (f : Doing T) (old mid : SessionValue) (link : LinkView S) → IsIdle (at (seen_of old) link) → StepsIdly old mid
       → DoesBySession f (λ (u : Unit {0}). f) (at (seen_of old) link) (at (seen_of mid) link) (Ok tt)
   stepped f old mid link idle s =
-      let past : (seen_of mid).stage.past ≡ (seen_of old).stage.past = ap (λ (x : RunProgress). x.past) s.same in
+      let past : (seen_of mid).progress.past ≡ (seen_of old).progress.past = ap (λ (x : RunProgress). x.past) s.same in
       runs_still f (at (seen_of old) link) (at (seen_of mid) link)
       (quiet going_on (seen_of old) (seen_of mid) link tt tt
       (record {
         stays = s.stays;
-        later = subst (λ (p : List Entry). IsLater (seen_of old).setting (seen_of old).stage.past p) (sym past)
-            (later_self (seen_of old).setting (seen_of old).stage.past);
+        later = subst (λ (p : List Entry). IsLater (seen_of old).setting (seen_of old).progress.past p) (sym past)
+            (later_self (seen_of old).setting (seen_of old).progress.past);
       })
-      (λ log. subst (λ (p : List Entry). KeepsTrace (seen_of old).stage.past p log log) (sym past) (λ hello first shown. shown)) idle.ready)
+      (λ log. subst (λ (p : List Entry). KeepsTrace (seen_of old).progress.past p log log) (sym past) (λ hello first shown. shown)) idle.ready)
       (idle_still old mid link idle s) past
 
-  pub call_ok : (c : Call) (old mid : SessionValue) (link : LinkView S) → IsIdle (at (seen_of old) link) → MayDo (makes c) (seen_of old).stage.past
+  pub call_ok : (c : Call) (old mid : SessionValue) (link : LinkView S) → IsIdle (at (seen_of old) link) → MayDo (makes c) (seen_of old).progress.past
       → StepsIdly old mid → are_ok (with_call mid.work.calls 0 c) ≡ true
   call_ok c old mid link idle may s =
       let lanes : mid.lanes ≡ one_lane = (idle_still old mid link idle s).lanes in
-      let past : past_of mid.work ≡ (seen_of old).stage.past = ap (λ (x : RunProgress). x.past) s.same in
+      let past : past_of mid.work ≡ (seen_of old).progress.past = ap (λ (x : RunProgress). x.past) s.same in
       may_add mid.work.calls (past_of mid.work) c (subst (λ (p : List Entry). MayDo (makes c) p) (sym past) may)
       (s.count ∙ ap length lanes)
       (λ lane. s.each lane ∙ ap (λ (l : List Lane). calls_of (slice_get l lane) ++ added (past_of mid.work) lane) lanes)
@@ -84,12 +84,12 @@ module _ {S : Type 0} where
 
   pub call_done : (c : Call) (old mid : SessionValue) (link : LinkView S) {b : At S} → IsIdle (at (seen_of old) link) → StepsIdly old mid
       → Ongoing (call_of 0 c) (at (seen_of mid) link) b (Ok tt) → (os : List Outcome) (p : Outcome) (found : Found)
-      → os ≡ outcomes_of b.seen.stage.past 0 → Some p ≡ slice_get os (length os - 1) → found ≡ found_in p
+      → os ≡ outcomes_of b.seen.progress.past 0 → Some p ≡ slice_get os (length os - 1) → found ≡ found_in p
       → DoesBySession (makes c) pure (at (seen_of old) link) b (Ok found)
   call_done c old mid link idle s part os p found are there is =
       then_on (stepped (makes c) old mid link idle s)
       (call_runs c (idle_still old mid link idle s) part found
-      (λ o more. is ∙ ap found_in (newest os (outcomes_of (seen_of mid).stage.past 0) o p (are ∙ more) there)))
+      (λ o more. is ∙ ap found_in (newest os (outcomes_of (seen_of mid).progress.past 0) o p (are ∙ more) there)))
 
   -- what it brought was lost for want of memory
   pub call_lost : (c : Call) (old mid : SessionValue) (link : LinkView S) {b : At S} → IsIdle (at (seen_of old) link) → StepsIdly old mid
@@ -98,7 +98,7 @@ module _ {S : Type 0} where
 
   pub call_ended : (c : Call) (old mid : SessionValue) (link : LinkView S) {b : At S} → IsIdle (at (seen_of old) link) → StepsIdly old mid
       → Ongoing (call_of 0 c) (at (seen_of mid) link) b (Ok tt) → (os : List Outcome)
-      → os ≡ outcomes_of b.seen.stage.past 0 → None ≡ slice_get os (length os - 1) → ⊥
+      → os ≡ outcomes_of b.seen.progress.past 0 → None ≡ slice_get os (length os - 1) → ⊥
   call_ended c old mid link idle s part os are none =
       let once = went_once c (at (seen_of mid) link) _ (idle_still old mid link idle s) part.went in
-      some_newest os (outcomes_of (seen_of mid).stage.past 0) once.outcome (are ∙ once.outcomes) none
+      some_newest os (outcomes_of (seen_of mid).progress.past 0) once.outcome (are ∙ once.outcomes) none

@@ -51,19 +51,19 @@ only_lane s past one gone lane lt = (let first : lane ≡ 0 = omega (arith, one,
 
 module _ {S : Type 0} where
   -- the lane was let go
-  pub let_gone : (a b : At S) → IsIdle a → Ongoing lanes_go a b (Ok tt) → IsGone a.seen.setting a.seen.stage.past b.seen.stage.past
+  pub let_gone : (a b : At S) → IsIdle a → Ongoing lanes_go a b (Ok tt) → IsGone a.seen.setting a.seen.progress.past b.seen.progress.past
   let_gone a b idle part =
-      gone_by a.seen.setting (length a.seen.setting.lanes) a.seen.stage b.seen.stage (ap length idle.lanes) idle.done part.went.whole
+      gone_by a.seen.setting (length a.seen.setting.lanes) a.seen.progress b.seen.progress (ap length idle.lanes) idle.done part.went.whole
 
   -- and what was unanswered was taken
   pub drained : (a b c : At S) → IsIdle a → Ongoing lanes_go a b (Ok tt) → Ongoing draining b c (Ok tt)
-      → IsGone a.seen.setting a.seen.stage.past c.seen.stage.past
+      → IsGone a.seen.setting a.seen.progress.past c.seen.progress.past
   drained a b c idle gone part =
       let g = let_gone a b idle gone in
       let same : b.seen.setting ≡ a.seen.setting = setting_stays a.seen b.seen gone.went.stays in
-      let k : Keeps a.seen.setting b.seen.stage.past c.seen.stage.past =
-      subst (λ (s : Setting). Keeps s b.seen.stage.past c.seen.stage.past) same
-      (drains_keep b.seen.setting part.went.whole.drains b.seen.stage c.seen.stage part.went.whole.went) in
+      let k : Keeps a.seen.setting b.seen.progress.past c.seen.progress.past =
+      subst (λ (s : Setting). Keeps s b.seen.progress.past c.seen.progress.past) same
+      (drains_keep b.seen.setting part.went.whole.drains b.seen.progress c.seen.progress part.went.whole.went) in
       record {
         adds = k.adds 0 ∙ g.adds;
         ends = k.ends 0 ∙ g.ends;
@@ -91,10 +91,10 @@ module _ {S : Type 0} where
   }
 
   -- where the session stands before the last step
-  pub drained_done : (a b c : At S) → IsIdle a → Ongoing lanes_go a b (Ok tt) → Ongoing draining b c (Ok tt) → current c.seen.setting c.seen.stage.past 0 ≡ None
+  pub drained_done : (a b c : At S) → IsIdle a → Ongoing lanes_go a b (Ok tt) → Ongoing draining b c (Ok tt) → current c.seen.setting c.seen.progress.past 0 ≡ None
   drained_done a b c idle first second =
       let same : c.seen.setting ≡ a.seen.setting = setting_stays b.seen c.seen second.went.stays ∙ setting_stays a.seen b.seen first.went.stays in
-      ap (λ (s : Setting). current s c.seen.stage.past 0) same ∙ (drained a b c idle first second).done
+      ap (λ (s : Setting). current s c.seen.progress.past 0) same ∙ (drained a b c idle first second).done
 
   pub closed_by : (a b : At S) (old new : SessionValue) (link : LinkView S) → IsIdle a → Ongoing lanes_go a b (Ok tt)
       → Ongoing draining b (at (seen_of old) link) (Ok tt) → StepsIdly old new → ClosesOrStops a (at (seen_of new) link) (Ok tt)
@@ -102,25 +102,25 @@ module _ {S : Type 0} where
       let c : At S = at (seen_of old) link in
       let d : At S = at (seen_of new) link in
       let g = drained a b c idle first second in
-      let past : d.seen.stage.past ≡ c.seen.stage.past = ap (λ (x : RunProgress). x.past) s.same in
+      let past : d.seen.progress.past ≡ c.seen.progress.past = ap (λ (x : RunProgress). x.past) s.same in
       let stays : d.seen.setting ≡ c.seen.setting = setting_stays c.seen d.seen s.stays in
       let same : c.seen.setting ≡ a.seen.setting = setting_stays b.seen c.seen second.went.stays ∙ setting_stays a.seen b.seen first.went.stays in
       let still : Ongoing going_on c d (Ok tt) = quiet going_on c.seen d.seen link tt tt
       (record {
         stays = s.stays;
-        later = subst (λ (p : List Entry). IsLater c.seen.setting c.seen.stage.past p) (sym past) (later_self c.seen.setting c.seen.stage.past);
+        later = subst (λ (p : List Entry). IsLater c.seen.setting c.seen.progress.past p) (sym past) (later_self c.seen.setting c.seen.progress.past);
       })
-      (λ log. subst (λ (p : List Entry). LogKeeps c.seen.stage.past p log log) (sym past) (λ hello first shown. shown)) second.went.ready in
+      (λ log. subst (λ (p : List Entry). LogKeeps c.seen.progress.past p log log) (sym past) (λ hello first shown. shown)) second.went.ready in
       let all : Ongoing going_on a d (Ok tt) = join {r = going_on} (λ u v. tt) (λ u past v. tt) (joined a b c first second) still in
       record {
         ongoing = all;
         closed = record {
-          run = subst (λ (x : Setting). IsJournal x d.seen.stage.past) (sym (stays ∙ same))
-              (later_journal a.seen.setting a.seen.stage.past d.seen.stage.past idle.run all.went.later);
+          run = subst (λ (x : Setting). IsJournal x d.seen.progress.past) (sym (stays ∙ same))
+              (later_journal a.seen.setting a.seen.progress.past d.seen.progress.past idle.run all.went.later);
           over = (
-            only_lane d.seen.setting d.seen.stage.past (ap (λ (x : Setting). length x.lanes) (stays ∙ same) ∙ ap length idle.lanes)
+            only_lane d.seen.setting d.seen.progress.past (ap (λ (x : Setting). length x.lanes) (stays ∙ same) ∙ ap length idle.lanes)
                 (ap (λ (p : List Entry). was_let_go p 0) past ∙ g.let_go),
-            ap (λ (x : Setting). next_due x d.seen.stage.past) stays ∙ s.settled,
+            ap (λ (x : Setting). next_due x d.seen.progress.past) stays ∙ s.settled,
             ap unanswered past ∙ second.went.whole.answered,
           );
           adds = ap (λ (p : List Entry). added p 0) past ∙ g.adds;

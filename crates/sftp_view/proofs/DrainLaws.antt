@@ -64,8 +64,8 @@ OfDrain turn.Flush = Unit {0}
 OfDrain turn.Take = Unit {0}
 OfDrain (turn.Cancel lane) = ⊥
 
-stage_same : (s : Setting) (before now : RunProgress) → now ≡ before → Keeps s before.past now.past
-stage_same s before now e = subst (λ (w : RunProgress). Keeps s before.past w.past) (sym e) (keeps_self s before.past)
+progress_same : (s : Setting) (before now : RunProgress) → now ≡ before → Keeps s before.past now.past
+progress_same s before now e = subst (λ (w : RunProgress). Keeps s before.past w.past) (sym e) (keeps_self s before.past)
 
 turn_keeps : (s : Setting) (t : Turn) (before now : RunProgress) → OfDrain t → TurnTo s t before now → Keeps s before.past now.past
 turn_keeps s (turn.Step lane) before now of to = absurd of
@@ -76,7 +76,7 @@ turn_keeps s turn.Flush before now of to = by_test (nat_lt (sent before.past) (a
     by_test true to =
         keeps_on s before.past (entry.Event Send ∷ before.past) now.past (send_keeps s before.past)
         (rules_keep s (entry.Event Send ∷ before.past) now.past to.1)
-    by_test false e = stage_same s before now e
+    by_test false e = progress_same s before now e
 turn_keeps s turn.Take before now of to = by_test (nat_lt 0 (awaited before.past)) to
   where
     by_test : (b : Bool) → MatchBool b ((now.begun ≡ before.begun)
@@ -86,11 +86,11 @@ turn_keeps s turn.Take before now of to = by_test (nat_lt 0 (awaited before.past
         keeps_on s before.past (entry.Event (Take to.1.0 to.1.1.0) ∷ before.past) now.past
         (record { adds = λ lane. refl; ends = λ lane. refl; holds = λ lane. refl; done = λ lane none. none; uncancelled = λ u. u })
         (rules_keep s (entry.Event (Take to.1.0 to.1.1.0) ∷ before.past) now.past to.1.1.1.1)
-    by_test false e = stage_same s before now e
+    by_test false e = progress_same s before now e
 turn_keeps s (turn.Cancel lane) before now of to = absurd of
 
 pub drains_keep : (s : Setting) (n : ℕ) (before now : RunProgress) → DrainsTo s n before now → Keeps s before.past now.past
-drains_keep s zero before now e = stage_same s before now e
+drains_keep s zero before now e = progress_same s before now e
 drains_keep s (suc n) before now to =
     keeps_on s before.past to.1.0.past now.past (one to.1.0 to.1.1.0) (drains_keep s n to.1.0 now to.1.1.1)
   where
@@ -98,7 +98,7 @@ drains_keep s (suc n) before now to =
     one mid (a, (flush, (b, (take, e)))) =
         keeps_on s before.past b.past mid.past
         (keeps_on s before.past a.past b.past (turn_keeps s turn.Flush before a tt flush) (turn_keeps s turn.Take a b tt take))
-        (stage_same s b mid e)
+        (progress_same s b mid e)
 
 -- ---- a lane is let go
 

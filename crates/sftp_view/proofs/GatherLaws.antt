@@ -95,11 +95,11 @@ module _ {S : Type 0} where
       DoesByView (block_of now.block now.cache path key) (λ found. pure (record { found = found; kept = next.cache.kept })) 1 now link_now next link_next result
 
   pub may_block : (path : List ℕ) (first count k : ℕ) (bytes : List ℕ) (key : BlockKey) (old now : View) (link link_now : LinkView S) → k < count
-      → MayDo (gathered old.block old.cache.capacity path first count [] old.cache.kept) (seen_of old.session).stage.past
-      → GathersSoFar path first count k bytes key old link now link_now → MayDo (block_of now.block now.cache path key) (seen_of now.session).stage.past
+      → MayDo (gathered old.block old.cache.capacity path first count [] old.cache.kept) (seen_of old.session).progress.past
+      → GathersSoFar path first count k bytes key old link now link_now → MayDo (block_of now.block now.cache path key) (seen_of now.session).progress.past
   may_block path first count k bytes key old now link link_now lt may so_far =
       may_first (block_of now.block now.cache path key) (after_block old path first count k bytes)
-      (subst (λ (f : Doing Gathered). MayDo f (seen_of now.session).stage.past)
+      (subst (λ (f : Doing Gathered). MayDo f (seen_of now.session).progress.past)
       (next_is path first count k bytes key old now lt so_far.name so_far.stays.block so_far.stays.capacity) (may_on may so_far.runs))
 
   one_more : (path : List ℕ) (first count k : ℕ) (bytes : List ℕ) (key : BlockKey) (old now next : View)

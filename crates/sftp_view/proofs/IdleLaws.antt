@@ -16,7 +16,7 @@ use Rattle.session_driver.specs.declared.session.Stepped.{Stepped}
 use Rattle.session_driver.specs.Ongoing.{at}
 use Rattle.session_driver.specs.Session.{StepsTo}
 use Rattle.session_driver.proofs.Joining.{phase_stays, setting_stays}
-use Rattle.session_work.specs.Working.{StepsLane, past_of, stage_of}
+use Rattle.session_work.specs.Working.{StepsLane, past_of, progress_of}
 use Rattle.sftp_lanes.specs.Events.{LanesDid, StepsIn}
 use Rattle.sftp_lanes.specs.Seen.{SessionValue, seen_of, setting_at}
 use Rattle.sftp_lanes.proofs.Shown.{stays}
@@ -37,7 +37,7 @@ steps_idly old new event opened none steps =
     let lanes : new.lanes ≡ old.lanes = ap (λ (s : SessionValue). s.lanes) g.rest in
     record {
       stays = stays (λ s before after. StepsLane s 0 before after event) old new g;
-      same = stays_put (setting_at old) (stage_of old.work) (stage_of new.work) (move_of (setting_at old) (past_of old.work) 0) event
+      same = stays_put (setting_at old) (progress_of old.work) (progress_of new.work) (move_of (setting_at old) (past_of old.work) 0) event
           (no_move (setting_at old) (past_of old.work) none) g.did.steps;
       count = g.did.working.stands.lanes ∙ ap length (sym lanes);
       each = λ lane. g.did.working.stands.calls lane
@@ -50,13 +50,13 @@ module _ {S : Type 0} where
   pub idle_still : (old new : SessionValue) (link : LinkView S) → IsIdle (at (seen_of old) link) → StepsIdly old new → IsIdle (at (seen_of new) link)
   idle_still old new link idle s =
       let setting : (seen_of new).setting ≡ (seen_of old).setting = setting_stays (seen_of old) (seen_of new) s.stays in
-      let past : (seen_of new).stage.past ≡ (seen_of old).stage.past = ap (λ (x : RunProgress). x.past) s.same in
+      let past : (seen_of new).progress.past ≡ (seen_of old).progress.past = ap (λ (x : RunProgress). x.past) s.same in
       record {
         ready = record { is_open = phase_stays (seen_of old) (seen_of new) s.stays idle.ready.is_open; count = idle.ready.count };
         lanes = ap (λ (x : Setting). x.lanes) setting ∙ idle.lanes;
-        run = subst (λ (x : Setting). IsJournal x (seen_of new).stage.past) (sym setting)
+        run = subst (λ (x : Setting). IsJournal x (seen_of new).progress.past) (sym setting)
             (subst (λ (p : List Entry). IsJournal (seen_of old).setting p) (sym past) idle.run);
-        done = ap (λ (x : Setting). current x (seen_of new).stage.past 0) setting
+        done = ap (λ (x : Setting). current x (seen_of new).progress.past 0) setting
             ∙ (ap (λ (p : List Entry). current (seen_of old).setting p 0) past ∙ idle.done);
         held = λ lane. ap (λ (p : List Entry). was_let_go p lane) past ∙ idle.held lane;
       }

@@ -24,10 +24,10 @@ later_journal s before (e ∷ past) j (inl same) = subst (λ (w : List Entry). I
 later_journal s before (e ∷ past) j (inr l) = (l.0, later_journal s before past j l.1)
 
 module _ {S : Type 0} where
-  pub went_once : (c : Call) (a b : At S) → IsIdle a → RunsToEnd (call_of 0 c) a b → HasEndedOnce 0 c a.seen.stage.past b.seen.stage.past
+  pub went_once : (c : Call) (a b : At S) → IsIdle a → RunsToEnd (call_of 0 c) a b → HasEndedOnce 0 c a.seen.progress.past b.seen.progress.past
   went_once c a b idle went =
-      ended_once a.seen.setting 0 went.whole.rounds c a.seen.stage.past (added_to a.seen.stage 0 c) b.seen.stage refl
-      (later_journal a.seen.setting a.seen.stage.past b.seen.stage.past idle.run went.later) idle.run idle.done went.whole.went went.whole.done
+      ended_once a.seen.setting 0 went.whole.rounds c a.seen.progress.past (added_to a.seen.progress 0 c) b.seen.progress refl
+      (later_journal a.seen.setting a.seen.progress.past b.seen.progress.past idle.run went.later) idle.run idle.done went.whole.went went.whole.done
 
   idle_again : (c : Call) (a b : At S) → IsIdle a → RunsToEnd (call_of 0 c) a b → IsIdle b
   idle_again c a b idle went =
@@ -35,15 +35,15 @@ module _ {S : Type 0} where
       record {
         ready = went.ready;
         lanes = ap (λ (s : Setting). s.lanes) same ∙ idle.lanes;
-        run = subst (λ (s : Setting). IsJournal s b.seen.stage.past) (sym same)
-            (later_journal a.seen.setting a.seen.stage.past b.seen.stage.past idle.run went.later);
-        done = subst (λ (s : Setting). current s b.seen.stage.past 0 ≡ None) (sym same) went.whole.done;
+        run = subst (λ (s : Setting). IsJournal s b.seen.progress.past) (sym same)
+            (later_journal a.seen.setting a.seen.progress.past b.seen.progress.past idle.run went.later);
+        done = subst (λ (s : Setting). current s b.seen.progress.past 0 ≡ None) (sym same) went.whole.done;
         held = λ lane. (went_once c a b idle went).held lane ∙ idle.held lane;
       }
 
   -- a call was made, and this is what it brought
   pub call_runs : (c : Call) {a b : At S} → IsIdle a → Ongoing (call_of 0 c) a b (Ok tt) → (found : Found)
-      → ((o : Outcome) → outcomes_of b.seen.stage.past 0 ≡ outcomes_of a.seen.stage.past 0 ++ o ∷ [] → found ≡ found_in o)
+      → ((o : Outcome) → outcomes_of b.seen.progress.past 0 ≡ outcomes_of a.seen.progress.past 0 ++ o ∷ [] → found ≡ found_in o)
       → DoesBySession (makes c) pure a b (Ok found)
   call_runs c {a = a} {b = b} idle part found brought =
       let once = went_once c a b idle part.went in

@@ -149,7 +149,7 @@ module _ {S : Type 0} where
   may_as : {T : Type 0} (f g : Doing T) (view : View) (link : LinkView S) → f ≡ g → MayWork f view link → MayWork g view link
   may_as f g view link same may = record {
     idle = may.idle;
-    may = subst (λ (h : Doing _). MayDo h (seen_of view.session).stage.past) same may.may;
+    may = subst (λ (h : Doing _). MayDo h (seen_of view.session).progress.past) same may.may;
     some = may.some;
     short = may.short;
     counts = may.counts;

@@ -57,9 +57,9 @@ module _ {S : Type 0} where
   sought offset content call is run = bound {k = after_seek content} (made (seeking offset) call is run)
 
   pub may_write : (offset : ℕ) (content : List ℕ) (call : Call) {a b : At S} {found : Found} → call ≡ writing content
-      → MayDo (put_at offset content) a.seen.stage.past
-      → DoesBySession (put_at offset content) (after_seek content) a b (Ok found) → MayDo (makes call) b.seen.stage.past
-  may_write offset content call {b = b} is may run = may_make (writing content) call after_write b.seen.stage.past is (may_on may run)
+      → MayDo (put_at offset content) a.seen.progress.past
+      → DoesBySession (put_at offset content) (after_seek content) a b (Ok found) → MayDo (makes call) b.seen.progress.past
+  may_write offset content call {b = b} is may run = may_make (writing content) call after_write b.seen.progress.past is (may_on may run)
 
   pub sought_stopped : (offset : ℕ) (content : List ℕ) (call : Call) {a b c : At S} {found : Found} {e : Error}
       → DoesBySession (put_at offset content) (after_seek content) a b (Ok found) → DoesBySession (makes call) pure b c (Err e) → DoesBySession (put_at offset content) pure a c (Err e)
@@ -70,9 +70,9 @@ module _ {S : Type 0} where
       → DoesBySession (put_at offset content) after_write a c (Ok wrote)
   wrote_all offset content call is run rest = then_on run (bound {k = after_write} (made (writing content) call is rest))
 
-  pub may_close : (offset : ℕ) (content : List ℕ) (call : Call) {a b : At S} {wrote : Found} → call ≡ closing → MayDo (put_at offset content) a.seen.stage.past
-      → DoesBySession (put_at offset content) after_write a b (Ok wrote) → MayDo (makes call) b.seen.stage.past
-  may_close offset content call {b = b} {wrote = wrote} is may run = may_make closing call (λ closed. pure (put_of wrote)) b.seen.stage.past is (may_on may run)
+  pub may_close : (offset : ℕ) (content : List ℕ) (call : Call) {a b : At S} {wrote : Found} → call ≡ closing → MayDo (put_at offset content) a.seen.progress.past
+      → DoesBySession (put_at offset content) after_write a b (Ok wrote) → MayDo (makes call) b.seen.progress.past
+  may_close offset content call {b = b} {wrote = wrote} is may run = may_make closing call (λ closed. pure (put_of wrote)) b.seen.progress.past is (may_on may run)
 
   pub wrote_stopped : (offset : ℕ) (content : List ℕ) (call : Call) {a b c : At S} {wrote : Found} {e : Error}
       → DoesBySession (put_at offset content) after_write a b (Ok wrote) → DoesBySession (makes call) pure b c (Err e) → DoesBySession (put_at offset content) pure a c (Err e)
@@ -98,8 +98,8 @@ module _ {S : Type 0} where
       gives tt (bound {k = after_open offset content} (made (opening makes_and_writes path) call is run)) (ap (after_open offset content) granted)
 
   pub may_put_at : (path : List ℕ) (offset : ℕ) (content bytes : List ℕ) (call : Call) {a b : At S} {found : Found} → call ≡ opening makes_and_writes path
-      → found ≡ Ok bytes → MayDo (written path offset content) a.seen.stage.past → DoesBySession (makes call) pure a b (Ok found)
-      → MayDo (put_at offset content) b.seen.stage.past
+      → found ≡ Ok bytes → MayDo (written path offset content) a.seen.progress.past → DoesBySession (makes call) pure a b (Ok found)
+      → MayDo (put_at offset content) b.seen.progress.past
   may_put_at path offset content bytes call is granted may run = may_on may (open_granted path offset content bytes call is granted run)
 
   pub open_put : (path : List ℕ) (offset : ℕ) (content bytes : List ℕ) (call : Call) {a b c : At S} {found : Found} {result : Result Answer Error}

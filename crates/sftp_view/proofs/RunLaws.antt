@@ -63,15 +63,15 @@ module _ {S : Type 0} where
 
   -- nothing was to be done
   pub runs_self : {T U : Type 0} (f : Doing T) (u : U) (a : At S) → IsIdle a → DoesBySession f (λ (w : U). f) a a (Ok u)
-  runs_self f u a here = record { ongoing = idle going_on a.seen a.link tt tt here.ready; idle = here; does = does_self f a.seen.stage.past }
+  runs_self f u a here = record { ongoing = idle going_on a.seen a.link tt tt here.ready; idle = here; does = does_self f a.seen.progress.past }
 
   -- nothing was done, and the journal is as it was
-  pub runs_still : {T : Type 0} (f : Doing T) (a b : At S) → Ongoing going_on a b (Ok tt) → IsIdle b → b.seen.stage.past ≡ a.seen.stage.past
+  pub runs_still : {T : Type 0} (f : Doing T) (a b : At S) → Ongoing going_on a b (Ok tt) → IsIdle b → b.seen.progress.past ≡ a.seen.progress.past
       → DoesBySession f (λ (u : Unit {0}). f) a b (Ok tt)
   runs_still f a b part here past = record {
     ongoing = part;
     idle = here;
-    does = subst (λ (p : List Entry). Does f f a.seen.stage.past p) (sym past) (does_self f a.seen.stage.past);
+    does = subst (λ (p : List Entry). Does f f a.seen.progress.past p) (sym past) (does_self f a.seen.progress.past);
   }
 
   -- one thing, and then another
@@ -80,7 +80,7 @@ module _ {S : Type 0} where
   then_on {f = f} {r = r} {q = q} {a = a} {b = b} {c = c} {u = u} {result = Ok v} first second = record {
     ongoing = join_any first.ongoing second.ongoing;
     idle = second.idle;
-    does = does_on f (r u) (q v) a.seen.stage.past b.seen.stage.past c.seen.stage.past first.does second.does;
+    does = does_on f (r u) (q v) a.seen.progress.past b.seen.progress.past c.seen.progress.past first.does second.does;
   }
   then_on {result = Err e} first second = record { ongoing = join_any first.ongoing second.ongoing; idle = tt; does = tt }
 
@@ -90,7 +90,7 @@ module _ {S : Type 0} where
   bound {m = m} {k = k} {a = a} {b = b} {result = Ok v} run = record {
     ongoing = run.ongoing;
     idle = run.idle;
-    does = does_bind m v k a.seen.stage.past b.seen.stage.past run.does;
+    does = does_bind m v k a.seen.progress.past b.seen.progress.past run.does;
   }
   bound {result = Err e} run = record { ongoing = run.ongoing; idle = tt; does = tt }
 
@@ -100,7 +100,7 @@ module _ {S : Type 0} where
   gives {T = T} {f = f} {a = a} {b = b} v run same = record {
     ongoing = run.ongoing;
     idle = run.idle;
-    does = subst (λ (w : Doing T). Does f w a.seen.stage.past b.seen.stage.past) same run.does;
+    does = subst (λ (w : Doing T). Does f w a.seen.progress.past b.seen.progress.past) same run.does;
   }
 
   -- it stopped, whatever was to come of it
@@ -142,6 +142,6 @@ may_go f g a b may d = record {
       (may.few (d.came ++ outcomes));
 }
 
-pub may_on : {S T U : Type 0} {f : Doing T} {r : U → Doing T} {a b : At S} {u : U} → MayDo f a.seen.stage.past → DoesBySession f r a b (Ok u)
-    → MayDo (r u) b.seen.stage.past
-may_on {f = f} {r = r} {a = a} {b = b} {u = u} may run = may_go f (r u) a.seen.stage.past b.seen.stage.past may run.does
+pub may_on : {S T U : Type 0} {f : Doing T} {r : U → Doing T} {a b : At S} {u : U} → MayDo f a.seen.progress.past → DoesBySession f r a b (Ok u)
+    → MayDo (r u) b.seen.progress.past
+may_on {f = f} {r = r} {a = a} {b = b} {u = u} may run = may_go f (r u) a.seen.progress.past b.seen.progress.past may run.does

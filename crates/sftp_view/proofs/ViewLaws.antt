@@ -112,8 +112,8 @@ no_calls s past true lanes to = subst (Begins s) (sym to.1.1.2)
 lanes_are : (given : Given) (now : Seen) → IsOpened given now → given.lanes ≡ one_lane → now.setting.lanes ≡ one_lane
 lanes_are given now opened one = ap (λ (s : Setting). s.lanes) opened.fixed.1.1 ∙ one
 
-begun_with : (given : Given) (now : Seen) → IsOpened given now → given.lanes ≡ one_lane → Begins now.setting now.stage.past
-begun_with given now opened one = no_calls now.setting now.stage.past now.setting.limits (lanes_are given now opened one) opened.opens
+begun_with : (given : Given) (now : Seen) → IsOpened given now → given.lanes ≡ one_lane → Begins now.setting now.progress.past
+begun_with given now opened one = no_calls now.setting now.progress.past now.setting.limits (lanes_are given now opened one) opened.opens
 
 module _ {S : Type 0} where
   opened_idle : (given : Given) (a : At S) (x : LinkView S) (u : Unit {0}) → x.faults < 2 ^ 64 - 1 → IsOpened given a.seen → given.lanes ≡ one_lane
@@ -121,9 +121,9 @@ module _ {S : Type 0} where
   opened_idle given a x u few opened one caused = record {
     ready = is_ready a x u given few opened caused;
     lanes = lanes_are given a.seen opened one;
-    run = later_journal a.seen.setting [] a.seen.stage.past tt opened.later;
+    run = later_journal a.seen.setting [] a.seen.progress.past tt opened.later;
     done = (begun_with given a.seen opened one).done;
-    held = opened_holds a.seen.setting.limits a.seen.stage.past opened.opens;
+    held = opened_holds a.seen.setting.limits a.seen.progress.past opened.opens;
   }
 
 -- ---- the operations may be done
@@ -167,7 +167,7 @@ module _ {S : Type 0} where
       let zero : wanted mid.cache ≡ 0 = ap wanted kept ∙ ap (λ (k : Kept (List ℕ)). k.hits + k.misses) none in
       record {
         idle = opened_idle given (at (seen_of mid.session) y) x u few opened one caused;
-        may = few_calls mid.block mid.cache.capacity ops mid.cache.kept (seen_of mid.session).stage.past
+        may = few_calls mid.block mid.cache.capacity ops mid.cache.kept (seen_of mid.session).progress.past
             (subst (λ (n : ℕ). 1 ≤ n) (sym same) may.some)
             (subst (λ (n : ℕ). sum_by (count n) ops ≤ count_limit) (sym same) sum) (begun_with given (seen_of mid.session) opened one).none;
         within = ok.0;
@@ -199,14 +199,14 @@ module _ {S : Type 0} where
   }
 
   -- after it
-  left_on : (before a c : At S) (e : Error) → IsOpened before.seen.given a.seen → Told (Showing a.seen.version a.seen.stage.past) before.link.log a.link.log
+  left_on : (before a c : At S) (e : Error) → IsOpened before.seen.given a.seen → Told (Showing a.seen.version a.seen.progress.past) before.link.log a.link.log
       → Ongoing going_on a c (Err e) → StoppedOpen IsJournal before c e
   left_on before a c e opened shows part =
       let stopped = part.stopped in
       let far : IsSoFar before.seen.given c.seen.version c.seen.setting stopped.past =
       subst (λ (w : Seen). IsSoFar before.seen.given w.version w.setting stopped.past) (sym stopped.holds) (
-        later_on a.seen.setting [] a.seen.stage.past stopped.past opened.later stopped.is.later,
-        still_fixed before.seen.given a.seen.version a.seen.stage.past stopped.past a.seen.setting opened.fixed opened.opens stopped.is.later,
+        later_on a.seen.setting [] a.seen.progress.past stopped.past opened.later stopped.is.later,
+        still_fixed before.seen.given a.seen.version a.seen.progress.past stopped.past a.seen.setting opened.fixed opened.opens stopped.is.later,
       ) in
       record {
         past = stopped.past;
@@ -214,12 +214,12 @@ module _ {S : Type 0} where
         so_far = far;
         same = ap (λ (w : Seen). w.given) stopped.holds ∙ opened.same;
         ahead = stopped.ahead;
-        log = shown_stop a.seen.version c.seen.version a.seen.stage.past stopped.past c.link.ended e before.link.log a.link.log c.link.log
+        log = shown_stop a.seen.version c.seen.version a.seen.progress.past stopped.past c.link.ended e before.link.log a.link.log c.link.log
             (ap (λ (w : Seen). w.version) stopped.holds) shows stopped.log;
       }
 
   pub view_stopped : (block capacity : ℕ) (ops : List ViewOp) (before a c : At S) (kept : Kept (List ℕ)) (e : Error) {u : Unit {0}}
-      → IsOpened before.seen.given a.seen → Told (Showing a.seen.version a.seen.stage.past) before.link.log a.link.log → Caused before.link a.link (Ok u)
+      → IsOpened before.seen.given a.seen → Told (Showing a.seen.version a.seen.progress.past) before.link.log a.link.log → Caused before.link a.link (Ok u)
       → Ongoing going_on a c (Err e) → Views block capacity ops before c kept (Err e)
   view_stopped block capacity ops before a c kept e {u = u} opened shows caused part = record {
     done = tt;
@@ -228,7 +228,7 @@ module _ {S : Type 0} where
   }
 
   pub close_stopped : (block capacity : ℕ) (ops : List ViewOp) (before a b c : At S) (kept : Kept (List ℕ)) (e : Error) {u v : Unit {0}}
-      → IsOpened before.seen.given a.seen → Told (Showing a.seen.version a.seen.stage.past) before.link.log a.link.log → Caused before.link a.link (Ok u)
+      → IsOpened before.seen.given a.seen → Told (Showing a.seen.version a.seen.progress.past) before.link.log a.link.log → Caused before.link a.link (Ok u)
       → Ongoing going_on a b (Ok v) → ClosesOrStops b c (Err e) → Views block capacity ops before c kept (Err e)
   close_stopped block capacity ops before a b c kept e opened shows caused first second =
       view_stopped block capacity ops before a c kept e opened shows caused (join {r = going_on} (λ u v. tt) (λ u past v. tt) first second.ongoing)
@@ -240,7 +240,7 @@ module _ {S : Type 0} where
 
   pub view_done : (ops : List ViewOp) (before : At S) (mid new : View) (c : At S) (y z : LinkView S) (answers : List Answer) {u : Unit {0}}
       → IsOpened before.seen.given (seen_of mid.session) → before.seen.given.lanes ≡ one_lane
-      → Told (Showing (seen_of mid.session).version (seen_of mid.session).stage.past) before.link.log y.log → Caused before.link y (Ok u)
+      → Told (Showing (seen_of mid.session).version (seen_of mid.session).progress.past) before.link.log y.log → Caused before.link y (Ok u)
       → mid.cache.kept ≡ nothing_kept → DoesByView (done_by ops mid) (λ l. left_by l new) (most ops) mid y new z (Ok answers)
       → ClosesOrStops (at (seen_of new.session) z) c (Ok tt) → MayView mid.block mid.cache.capacity ops
       → Views mid.block mid.cache.capacity ops before c new.cache.kept (Ok answers)
@@ -248,37 +248,37 @@ module _ {S : Type 0} where
       let a : At S = at (seen_of mid.session) y in
       let b : At S = at (seen_of new.session) z in
       let all : Ongoing going_on a c (Ok tt) = join {r = going_on} (λ u v. tt) (λ u past v. tt) work.runs.ongoing closes.ongoing in
-      let first : Begins a.seen.setting a.seen.stage.past = begun_with before.seen.given a.seen opened one in
+      let first : Begins a.seen.setting a.seen.progress.past = begun_with before.seen.given a.seen opened one in
       let v : Viewed = record { answers = answers; kept = new.cache.kept } in
-      let whole : viewed mid.block mid.cache.capacity ops (outcomes_of b.seen.stage.past 0) ≡ after_calls (added b.seen.stage.past 0) (pure v []) =
-      ap (λ (k : Kept (List ℕ)). viewed_from mid.block mid.cache.capacity ops [] k (outcomes_of b.seen.stage.past 0)) (sym none)
-      ∙ done_is (done_by ops mid) v a.seen.stage.past b.seen.stage.past first.none first.before work.runs.does in
-      let is : done_in mid.block mid.cache.capacity ops c.seen.stage.past ≡ after_calls (added c.seen.stage.past 0) (pure v []) =
+      let whole : viewed mid.block mid.cache.capacity ops (outcomes_of b.seen.progress.past 0) ≡ after_calls (added b.seen.progress.past 0) (pure v []) =
+      ap (λ (k : Kept (List ℕ)). viewed_from mid.block mid.cache.capacity ops [] k (outcomes_of b.seen.progress.past 0)) (sym none)
+      ∙ done_is (done_by ops mid) v a.seen.progress.past b.seen.progress.past first.none first.before work.runs.does in
+      let is : done_in mid.block mid.cache.capacity ops c.seen.progress.past ≡ after_calls (added c.seen.progress.past 0) (pure v []) =
       ap (viewed mid.block mid.cache.capacity ops) closes.closed.ends
       ∙ (whole ∙ ap (λ (w : List Call). after_calls w (pure v [])) (sym closes.closed.adds)) in
-      let fixed : IsFixed before.seen.given c.seen.version c.seen.stage.past c.seen.setting =
-      subst (λ (w : Seen). IsFixed before.seen.given w.version c.seen.stage.past w.setting) (sym all.went.stays)
-      (still_fixed before.seen.given a.seen.version a.seen.stage.past c.seen.stage.past a.seen.setting opened.fixed opened.opens all.went.later) in
-      let calls : added c.seen.stage.past 0 ≡ (done_in mid.block mid.cache.capacity ops c.seen.stage.past).calls =
-      sym (ap (λ (m : Made Viewed). m.calls) is ∙ append-nil (added c.seen.stage.past 0)) in
+      let fixed : IsFixed before.seen.given c.seen.version c.seen.progress.past c.seen.setting =
+      subst (λ (w : Seen). IsFixed before.seen.given w.version c.seen.progress.past w.setting) (sym all.went.stays)
+      (still_fixed before.seen.given a.seen.version a.seen.progress.past c.seen.progress.past a.seen.setting opened.fixed opened.opens all.went.later) in
+      let calls : added c.seen.progress.past 0 ≡ (done_in mid.block mid.cache.capacity ops c.seen.progress.past).calls =
+      sym (ap (λ (m : Made Viewed). m.calls) is ∙ append-nil (added c.seen.progress.past 0)) in
       let within = split_ok (list_all is_within ops) (nat_le (sum_by (count mid.block) ops) count_limit) may.ok in
       record {
         done = record {
           run = closes.closed.run;
           over = closes.closed.over;
-          later = subst (λ (s : Setting). IsLater s [] c.seen.stage.past) (sym (setting_stays a.seen c.seen all.went.stays))
-              (later_on a.seen.setting [] a.seen.stage.past c.seen.stage.past opened.later all.went.later);
+          later = subst (λ (s : Setting). IsLater s [] c.seen.progress.past) (sym (setting_stays a.seen c.seen all.went.stays))
+              (later_on a.seen.setting [] a.seen.progress.past c.seen.progress.past opened.later all.went.later);
           fixed = fixed;
           same = ap (λ (w : Seen). w.given) all.went.stays ∙ opened.same;
           calls = calls;
           answers_are = sym (ap (λ (m : Made Viewed). m.value.answers) is);
           kept_is = sym (ap (λ (m : Made Viewed). m.value.kept) is);
-          log = shows_on a.seen.version c.seen.version a.seen.stage.past c.seen.stage.past before.link.log y.log c.link.log
+          log = shows_on a.seen.version c.seen.version a.seen.progress.past c.seen.progress.past before.link.log y.log c.link.log
               (ap (λ (w : Seen). w.version) all.went.stays) shows all.went.log;
           plain = subst (λ (w : Viewed). IsPlainThere mid.block mid.cache.capacity c.seen.setting.facts.write_len ops
-              c.seen.stage.past w.answers w.kept.hits w.kept.misses)
+              c.seen.progress.past w.answers w.kept.hits w.kept.misses)
               (ap (λ (m : Made Viewed). m.value) is)
-              (view_plainly c.seen.setting before.seen.given.lanes before.seen.given.options fixed.0 c.seen.stage.past
+              (view_plainly c.seen.setting before.seen.given.lanes before.seen.given.options fixed.0 c.seen.progress.past
               mid.block mid.cache.capacity ops fixed.1.1 one
               closes.closed.run closes.closed.over (closes.closed.uncancelled
               (work.runs.does.uncancelled first.uncancelled)) may.some may.short within.0 calls);
@@ -294,7 +294,7 @@ module _ {S : Type 0} where
   starved_stops before now given is done =
       subst (λ (g : Given). Told (EndsAs g IsJournal now.link.ended error.OutOfMemory) before.link.log now.link.log) is
       (ends_by IsJournal before now error.OutOfMemory (inr (record {
-        past = now.seen.stage.past;
+        past = now.seen.progress.past;
         is = done.run;
         so_far = (done.later, done.fixed);
         same = done.same;

@@ -10,11 +10,11 @@ use Rattle.sftp_view.specs.Doings.{going_on}
 
 -- The session is over. No call was added since, none has ended, and none was cancelled.
 pub record IsClosed {Service : Type 0} (before now : At Service) : Type 0 where
-  pub run : IsJournal now.seen.setting now.seen.stage.past
-  pub over : IsOver now.seen.setting now.seen.stage.past
-  pub adds : added now.seen.stage.past 0 ≡ added before.seen.stage.past 0
-  pub ends : outcomes_of now.seen.stage.past 0 ≡ outcomes_of before.seen.stage.past 0
-  pub uncancelled : IsUncancelled before.seen.stage.past → IsUncancelled now.seen.stage.past
+  pub run : IsJournal now.seen.setting now.seen.progress.past
+  pub over : IsOver now.seen.setting now.seen.progress.past
+  pub adds : added now.seen.progress.past 0 ≡ added before.seen.progress.past 0
+  pub ends : outcomes_of now.seen.progress.past 0 ≡ outcomes_of before.seen.progress.past 0
+  pub uncancelled : IsUncancelled before.seen.progress.past → IsUncancelled now.seen.progress.past
 
 -- a session was ended, or it stopped
 pub record ClosesOrStops {Service : Type 0} (before now : At Service) (result : Result (Unit {0}) Error) : Type 0 where

@@ -21,9 +21,9 @@ one_lane = record { calls = [] } ∷ []
 pub record IsIdle {Service : Type 0} (x : At Service) : Type 0 where
   pub ready : IsReady x
   pub lanes : x.seen.setting.lanes ≡ one_lane
-  pub run : IsJournal x.seen.setting x.seen.stage.past
-  pub done : current x.seen.setting x.seen.stage.past 0 ≡ None
-  pub held : (lane : ℕ) → was_let_go x.seen.stage.past lane ≡ false
+  pub run : IsJournal x.seen.setting x.seen.progress.past
+  pub done : current x.seen.setting x.seen.progress.past 0 ≡ None
+  pub held : (lane : ℕ) → was_let_go x.seen.progress.past lane ≡ false
 
 -- Whatever comes of the calls that this makes, they and those that were made before are few.
 pub record MayDo {T : Type 0} (whole : Doing T) (past : List Entry) : Type 0 where
@@ -52,4 +52,4 @@ pub record DoesBySession {Service T U : Type 0} (whole : Doing T) (rest : U → 
     (result : Result U Error) : Type 0 where
   pub ongoing : Ongoing going_on before now (end_of result)
   pub idle : OnOk result (IsIdle now)
-  pub does : IfOk result (λ u. Does whole (rest u) before.seen.stage.past now.seen.stage.past)
+  pub does : IfOk result (λ u. Does whole (rest u) before.seen.progress.past now.seen.progress.past)

@@ -10,7 +10,7 @@ use Rattle.sftp_lanes.specs.Seen.{SessionValue, seen_of, setting_at}
 -- grant is to be closed.
 pub record StepsIdly (old new : SessionValue) : Type 0 where
   pub stays : StaysInPhase (seen_of old) (seen_of new)
-  pub same : (seen_of new).stage ≡ (seen_of old).stage
+  pub same : (seen_of new).progress ≡ (seen_of old).progress
   pub count : length new.work.calls ≡ length new.lanes
   pub each : (lane : ℕ) → calls_of (slice_get new.work.calls lane)
       ≡ calls_of (slice_get new.lanes lane) ++ added (past_of new.work) lane

@@ -28,7 +28,7 @@ most ops = 2097152 * length ops
 -- to 65536 bytes, and the counts are far from their end.
 pub record MayRunAll {Service : Type 0} (ops : List ViewOp) (view : View) (link : LinkView Service) : Type 0 where
   pub idle : IsIdle (at (seen_of view.session) link)
-  pub may : MayDo (done_by ops view) (seen_of view.session).stage.past
+  pub may : MayDo (done_by ops view) (seen_of view.session).progress.past
   pub within : list_all is_within ops ≡ true
   pub some : 1 ≤ view.block
   pub short : view.block ≤ 65536

@@ -46,16 +46,16 @@ done_in block capacity ops past = viewed block capacity ops (outcomes_of past 0)
 -- alone give.
 pub record IsDone {Service : Type 0} (block capacity : ℕ) (ops : List ViewOp) (before now : At Service)
     (answers : List Answer) (kept : Kept (List ℕ)) : Type 0 where
-  pub run : IsJournal now.seen.setting now.seen.stage.past
-  pub over : IsOver now.seen.setting now.seen.stage.past
-  pub later : IsLater now.seen.setting [] now.seen.stage.past
-  pub fixed : IsFixed before.seen.given now.seen.version now.seen.stage.past now.seen.setting
+  pub run : IsJournal now.seen.setting now.seen.progress.past
+  pub over : IsOver now.seen.setting now.seen.progress.past
+  pub later : IsLater now.seen.setting [] now.seen.progress.past
+  pub fixed : IsFixed before.seen.given now.seen.version now.seen.progress.past now.seen.setting
   pub same : now.seen.given ≡ before.seen.given
-  pub calls : added now.seen.stage.past 0 ≡ (done_in block capacity ops now.seen.stage.past).calls
-  pub answers_are : answers ≡ (done_in block capacity ops now.seen.stage.past).value.answers
-  pub kept_is : kept ≡ (done_in block capacity ops now.seen.stage.past).value.kept
-  pub log : Told (Showing now.seen.version now.seen.stage.past) before.link.log now.link.log
-  pub plain : IsPlainThere block capacity now.seen.setting.facts.write_len ops now.seen.stage.past answers kept.hits
+  pub calls : added now.seen.progress.past 0 ≡ (done_in block capacity ops now.seen.progress.past).calls
+  pub answers_are : answers ≡ (done_in block capacity ops now.seen.progress.past).value.answers
+  pub kept_is : kept ≡ (done_in block capacity ops now.seen.progress.past).value.kept
+  pub log : Told (Showing now.seen.version now.seen.progress.past) before.link.log now.link.log
+  pub plain : IsPlainThere block capacity now.seen.setting.facts.write_len ops now.seen.progress.past answers kept.hits
       kept.misses
 
 -- a session did operations and was ended, or it stopped

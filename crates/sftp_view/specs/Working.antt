@@ -30,7 +30,7 @@ pub record DoesByView {Service T U : Type 0} (whole : Doing T) (rest : U → Doi
 -- their end.
 pub record MayWork {Service T : Type 0} (whole : Doing T) (view : View) (link : LinkView Service) : Type 0 where
   pub idle : IsIdle (at (seen_of view.session) link)
-  pub may : MayDo whole (seen_of view.session).stage.past
+  pub may : MayDo whole (seen_of view.session).progress.past
   pub some : 1 ≤ view.block
   pub short : view.block ≤ 65536
   pub counts : wanted view.cache + 2097152 < 2 ^ 64 - 1

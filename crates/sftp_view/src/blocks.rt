@@ -21,7 +21,7 @@ fn read_block<L: Link>(
     block: u32,
 ) -> Result<Found, Error>
     requires idle { IsIdle (at (seen_of session.old) (L.LinkState.state link.old)) }
-    requires may { MayDo (read_on block block []) (seen_of session.old).stage.past }
+    requires may { MayDo (read_on block block []) (seen_of session.old).progress.past }
     ensures { DoesBySession (read_on block block []) pure (at (seen_of session.old) (L.LinkState.state link.old)) (at (seen_of session.new) (L.LinkState.state link.new)) result }
 {
     let mut bytes = Vec::new(alloc);
@@ -55,7 +55,7 @@ fn read_at<L: Link>(
     n: u64,
 ) -> Result<Found, Error>
     requires idle { IsIdle (at (seen_of session.old) (L.LinkState.state link.old)) }
-    requires may { MayDo (read_at block n) (seen_of session.old).stage.past }
+    requires may { MayDo (read_at block n) (seen_of session.old).progress.past }
     requires fits { n * block < 2 ^ 64 }
     ensures { DoesBySession (read_at block n) pure (at (seen_of session.old) (L.LinkState.state link.old)) (at (seen_of session.new) (L.LinkState.state link.new)) result }
 {
@@ -75,7 +75,7 @@ pub fn fetch_block<L: Link>(
     n: u64,
 ) -> Result<Found, Error>
     requires idle { IsIdle (at (seen_of session.old) (L.LinkState.state link.old)) }
-    requires may { MayDo (fetched block path.now n) (seen_of session.old).stage.past }
+    requires may { MayDo (fetched block path.now n) (seen_of session.old).progress.past }
     requires fits { n * block < 2 ^ 64 }
     ensures { DoesBySession (fetched block path.now n) pure (at (seen_of session.old) (L.LinkState.state link.old)) (at (seen_of session.new) (L.LinkState.state link.new)) result }
 {

@@ -44,7 +44,7 @@ pub(crate) fn make_call<L: Link>(
     call: Call,
 ) -> Result<Found, Error>
     requires idle { IsIdle (at (seen_of session.old) (L.LinkState.state link.old)) }
-    requires may { MayDo (makes call) (seen_of session.old).stage.past }
+    requires may { MayDo (makes call) (seen_of session.old).progress.past }
     ensures { DoesBySession (makes call) pure (at (seen_of session.old) (L.LinkState.state link.old)) (at (seen_of session.new) (L.LinkState.state link.new)) result }
 {
     if step_idly(session).is_err() {

@@ -41,7 +41,7 @@ impl View {
     ) -> Result<Found, Error>
         requires idle { IsIdle (at (seen_of self.old.session) (L.LinkState.state link.old)) }
         requires may { MayDo (block_by self.old.block self.old.cache.capacity path.now key.now.block self.old.cache.kept
-            (lookup (same_key key.now) self.old.cache.kept.entries)) (seen_of self.old.session).stage.past }
+            (lookup (same_key key.now) self.old.cache.kept.entries)) (seen_of self.old.session).progress.past }
         requires of { key.now ≡ key_of (components path.now) key.now.block }
         requires fits { key.now.block * self.old.block < 2 ^ 64 }
         requires counts { self.old.cache.kept.hits + self.old.cache.kept.misses < 2 ^ 64 - 1 }
@@ -73,7 +73,7 @@ impl View {
     ) -> Result<Found, Error>
         requires idle { IsIdle (at (seen_of self.old.session) (L.LinkState.state link.old)) }
         requires may { MayDo (gathered self.old.block self.old.cache.capacity path.now first count [] self.old.cache.kept)
-            (seen_of self.old.session).stage.past }
+            (seen_of self.old.session).progress.past }
         requires fits { (first + count) * self.old.block < 2 ^ 64 }
         requires some { 1 ≤ self.old.block }
         requires counts { wanted self.old.cache + count < 2 ^ 64 - 1 }

@@ -23,7 +23,7 @@ fn put_at<L: Link>(
     content: &ByteText,
 ) -> Result<Answer, Error>
     requires idle { IsIdle (at (seen_of session.old) (L.LinkState.state link.old)) }
-    requires may { MayDo (put_at offset content.now) (seen_of session.old).stage.past }
+    requires may { MayDo (put_at offset content.now) (seen_of session.old).progress.past }
     ensures { DoesBySession (put_at offset content.now) pure (at (seen_of session.old) (L.LinkState.state link.old)) (at (seen_of session.new) (L.LinkState.state link.new)) result }
 {
     let write = match write_all(alloc, content) {
@@ -49,7 +49,7 @@ pub fn write_file<L: Link>(
     content: &ByteText,
 ) -> Result<Answer, Error>
     requires idle { IsIdle (at (seen_of session.old) (L.LinkState.state link.old)) }
-    requires may { MayDo (written path.now offset content.now) (seen_of session.old).stage.past }
+    requires may { MayDo (written path.now offset content.now) (seen_of session.old).progress.past }
     ensures { DoesBySession (written path.now offset content.now) pure (at (seen_of session.old) (L.LinkState.state link.old)) (at (seen_of session.new) (L.LinkState.state link.new)) result }
 {
     let open = match open_to_write(alloc, path) {

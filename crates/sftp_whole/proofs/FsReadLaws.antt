@@ -50,8 +50,8 @@ use Rattle.plan_window.specs.declared.window.ReadAt.{ReadAt}
 use Rattle.plan_window.proofs.PlanLaws.{after_asking}
 use Rattle.sftp_core.specs.Core.{Core, after_poll, at, is_ticket, poll_leaves, given_leaves, reply_in}
 use Rattle.sftp_core.specs.Table.{brings}
-use Rattle.sftp_core.specs.declared.place.Place.{Place}
-use Rattle.sftp_core.specs.declared.place.Place.TheVariants as places
+use Rattle.sftp_core.specs.declared.id_record.IdRecord.{IdRecord}
+use Rattle.sftp_core.specs.declared.id_record.IdRecord.TheVariants as places
 use Rattle.sftp_core.specs.Grant.{GrantValue}
 use Rattle.sftp_core.proofs.Elsewhere.{poll_elsewhere}
 use Rattle.call_state.specs.declared.asking.Asking.TheVariants.{Whole as WholeRequest}
@@ -311,7 +311,7 @@ given_fault : (core : Core) (k : ℕ) (brought : Option (List ℕ)) → (given_l
 given_fault core k (Some handle) = refl
 given_fault core k None = refl
 
-poll_fault : (core : Core) (k : ℕ) (f : Option Fault) (p : Option Place) → (poll_leaves core k f p).fault ≡ core.fault
+poll_fault : (core : Core) (k : ℕ) (f : Option Fault) (p : Option IdRecord) → (poll_leaves core k f p).fault ≡ core.fault
 poll_fault core k f (Some (places.Answered e r)) = given_fault core k (brings r)
 poll_fault core k (Some f) (Some (places.Waiting e s w)) = refl
 poll_fault core k None (Some (places.Waiting e s w)) = refl
@@ -321,7 +321,7 @@ poll_fault core k f None = refl
 polled_counted : (core : Core) (ticket : ℕ) (left : List ℕ) → IsNoneOf ticket left → AreTickets core left → AreTickets (after_poll core ticket) left
 polled_counted core ticket [] apart h = tt
 polled_counted core ticket (other ∷ later) apart h = (
-  subst (λ (p : Option Place). IsTrue (is_ticket p))
+  subst (λ (p : Option IdRecord). IsTrue (is_ticket p))
       (sym (poll_elsewhere core ticket core.fault (at core ticket) other (λ e. apart.0 (sym e)))) h.0,
   h.1,
   polled_counted core ticket later apart.1 h.2,

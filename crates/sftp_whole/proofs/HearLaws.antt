@@ -11,7 +11,7 @@ use Rattle.plan_window.specs.declared.window.Answered.{Answered}
 use Rattle.plan_window.specs.declared.window.ReadAt.{ReadAt}
 use Rattle.plan_window.proofs.PlanLaws.{after_reply}
 use Rattle.sftp_core.specs.Core.{Core, after_poll, at, reply_in}
-use Rattle.sftp_core.specs.declared.place.Place.{Place}
+use Rattle.sftp_core.specs.declared.id_record.IdRecord.{IdRecord}
 use Rattle.sftp_core.proofs.Elsewhere.{poll_elsewhere}
 use Rattle.call_state.specs.Asked.{HoldsTicket, IsReady}
 use Rattle.call_state.specs.Keeping.{KeepsGrants}
@@ -62,7 +62,7 @@ tells_others core ticket answers [] [] apart h = tt
 tells_others core ticket answers [] (other ∷ later) apart h = absurd h
 tells_others core ticket answers (r ∷ rest) [] apart h = absurd h
 tells_others core ticket answers (r ∷ rest) (other ∷ later) apart h = (
-  h.0 ∙ sym (ap (λ (p : Option Place). reply_in p) (poll_elsewhere core ticket core.fault (at core ticket) other (λ e. apart.0 (sym e)))),
+  h.0 ∙ sym (ap (λ (p : Option IdRecord). reply_in p) (poll_elsewhere core ticket core.fault (at core ticket) other (λ e. apart.0 (sym e)))),
   tells_others core ticket answers rest later apart.1 h.1,
 )
 

@@ -18,8 +18,8 @@ use Rattle.plan_model.specs.Moves.{Answers, Own, Plan, ask_path}
 use Rattle.plan_model.specs.WindowPlans.{fs_read_next, to_read}
 use Rattle.plan_window.specs.Windows.{empty_window, window_move, window_plan}
 use Rattle.sftp_core.specs.Core.{Core, after_poll, at, is_ticket, poll_leaves, reply_in}
-use Rattle.sftp_core.specs.declared.place.Place.{Place}
-use Rattle.sftp_core.specs.declared.place.Place.TheVariants as places
+use Rattle.sftp_core.specs.declared.id_record.IdRecord.{IdRecord}
+use Rattle.sftp_core.specs.declared.id_record.IdRecord.TheVariants as places
 use Rattle.sftp_core.specs.Grant.{GrantValue}
 use Rattle.call_state.specs.declared.poll.Poll.{Poll}
 use Rattle.call_state.specs.declared.poll.Poll.TheVariants.{Pending, Ready}
@@ -137,7 +137,7 @@ read_refused path cwd named m old new e is h =
 
 -- ---- the OPEN is under way still
 
-unpolled : (core : Core) (t : ℕ) (fault : Option Fault) (p : Option Place) → IsTrue (is_ticket p) → reply_in p ≡ None → fault ≡ None
+unpolled : (core : Core) (t : ℕ) (fault : Option Fault) (p : Option IdRecord) → IsTrue (is_ticket p) → reply_in p ≡ None → fault ≡ None
     → poll_leaves core t fault p ≡ core
 unpolled core t (Some f) p counted none unfailed = absurd cc
 unpolled core t None None counted none unfailed = absurd cc

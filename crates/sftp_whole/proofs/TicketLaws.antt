@@ -9,7 +9,7 @@ use Rattle.sftp_model.specs.declared.reply.Reply.TheVariants as reply
 use Rattle.sftp_model.specs.declared.request.Request.{Request}
 use Rattle.sftp_core.specs.declared.errors.SubmitError.{SubmitError}
 use Rattle.sftp_core.specs.declared.errors.SubmitError.TheVariants as submit
-use Rattle.sftp_core.specs.declared.place.Place.{Place}
+use Rattle.sftp_core.specs.declared.id_record.IdRecord.{IdRecord}
 use Rattle.sftp_model.specs.Frames.{is_too_long}
 use Rattle.sftp_core.specs.Core.{Core, IsSubmitError, abandoned, after_poll, at, is_ticket, polled_with, refusal_of, submit_refusal}
 use Rattle.sftp_core.specs.Grant.{GrantValue}
@@ -46,7 +46,7 @@ abandons_ticket first core all left ticket later a is = (next_of first core all 
 others_counted : (core : Core) (ticket : ℕ) (left : List ℕ) → IsNoneOf ticket left → AreTickets core left → AreTickets (abandoned core ticket) left
 others_counted core ticket [] apart h = tt
 others_counted core ticket (other ∷ later) apart h = (
-  subst (λ (p : Option Place). IsTrue (is_ticket p)) (sym (abandon_elsewhere core ticket (at core ticket) other (λ e. apart.0 (sym e)))) h.0,
+  subst (λ (p : Option IdRecord). IsTrue (is_ticket p)) (sym (abandon_elsewhere core ticket (at core ticket) other (λ e. apart.0 (sym e)))) h.0,
   h.1,
   others_counted core ticket later apart.1 h.2,
 )
@@ -120,8 +120,8 @@ others_under_way core ticket (r ∷ rest) (other ∷ later) apart h = (
 
 -- ---- one more
 
-not_none : (p : Option Place) → IsTrue (is_ticket p) → p ≡ None → ⊥
-not_none p counted e = let gone = subst (λ (x : Option Place). IsTrue (is_ticket x)) e counted in cc
+not_none : (p : Option IdRecord) → IsTrue (is_ticket p) → p ≡ None → ⊥
+not_none p counted e = let gone = subst (λ (x : Option IdRecord). IsTrue (is_ticket x)) e counted in cc
 
 new_apart : (core : Core) (ticket : ℕ) (reads : List ReadAt) (tickets : List ℕ) → at core ticket ≡ None → AreUnderWay core reads tickets
     → IsNoneOf ticket tickets

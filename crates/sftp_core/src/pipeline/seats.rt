@@ -3,7 +3,7 @@ ghost use Rattle.std.specs.Prelude.{◌≡◌, IsTrue, IfSome};
 ghost use Rattle.sftp_core.specs.Core.{at, is_ticket, IsGrant};
 
 use super::Core;
-use crate::place::Place;
+use crate::id_record::IdRecord;
 use crate::tokens::{Grant, Ticket};
 
 impl Core {
@@ -12,7 +12,7 @@ impl Core {
         ensures { IfSome result (λ ticket. IsTrue (is_ticket (at self.now ticket))) }
     {
         match self.table.get(id) {
-            Some(Place::Answered { .. } | Place::Waiting { wanted: true, .. }) => {
+            Some(IdRecord::Answered { .. } | IdRecord::Waiting { wanted: true, .. }) => {
                 Some(Ticket { id })
             }
             _ => None,
@@ -29,7 +29,7 @@ impl Core {
         ensures { IfSome result (λ grant. IsGrant self.now grant) }
     {
         match self.table.get(id) {
-            Some(Place::Granted { handle, users }) if *users > 0 => Some(Grant {
+            Some(IdRecord::Granted { handle, users }) if *users > 0 => Some(Grant {
                 id,
                 handle: handle.copied(),
             }),

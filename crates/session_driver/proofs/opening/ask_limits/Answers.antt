@@ -33,14 +33,14 @@ returns-in-Ok-take_limits-clause-opens g c = limits_open _ (g.X.RunsLanes.seen c
 
 pub returns-in-Ok-take_limits-clause-log : goal.returns-in-Ok-take_limits-clause-log
 returns-in-Ok-take_limits-clause-log g c =
-    keeps_on (g.X.RunsLanes.seen c.args.session.now).stage.past (g.X.RunsLanes.seen c.query.new.self).stage.past
-    (g.X.RunsLanes.seen c.take_limits.new.self).stage.past (g.L.LinkState.state c.args.link.now).log
+    keeps_on (g.X.RunsLanes.seen c.args.session.now).progress.past (g.X.RunsLanes.seen c.query.new.self).progress.past
+    (g.X.RunsLanes.seen c.take_limits.new.self).progress.past (g.L.LinkState.state c.args.link.now).log
     (g.L.LinkState.state c.send_pieces.new.link).log (g.L.LinkState.state c.read_frame.new.link).log
-    (keeps_sent (g.X.RunsLanes.seen c.args.session.now).stage.past (g.X.RunsLanes.seen c.query.new.self).stage.past _
+    (keeps_sent (g.X.RunsLanes.seen c.args.session.now).progress.past (g.X.RunsLanes.seen c.query.new.self).progress.past _
     (g.L.LinkState.state c.args.link.now).log (g.L.LinkState.state c.send_pieces.new.link).log
-    (ap (λ (w : Seen). w.stage.past) c.in-Ok.ensures.now) (ap joined c.pieces.ensures ∙ c.in-Ok.ensures.ok)
+    (ap (λ (w : Seen). w.progress.past) c.in-Ok.ensures.now) (ap joined c.pieces.ensures ∙ c.in-Ok.ensures.ok)
     c.in_ok-send_pieces.ensures.log)
-    (keeps_told (g.X.RunsLanes.seen c.query.new.self).stage.past (g.X.RunsLanes.seen c.take_limits.new.self).stage.past
+    (keeps_told (g.X.RunsLanes.seen c.query.new.self).progress.past (g.X.RunsLanes.seen c.take_limits.new.self).progress.past
     c.in-Some.body.now c.in_ok-reader.reader.bytes (g.L.LinkState.state c.send_pieces.new.link).log
     (g.L.LinkState.state c.read_frame.new.link).log (rw c.give_back.ensures.same at
     c.in-Ok-take_limits.ensures.ok.tells) c.in-Some.ensures.spelled.0 c.in-Some.ensures.spelled.1

@@ -1,6 +1,6 @@
 use Rattle.sftp_model.specs.Answers.{expected_of}
 use Rattle.sftp_core.specs.Core.{at}
-use Rattle.sftp_core.proofs.Places.{accepted}
+use Rattle.sftp_core.proofs.Records.{accepted}
 use Rattle.sftp_core.proofs.laws.takes_what_may_answer.Goals as goal
 
 pub returns : goal.returns

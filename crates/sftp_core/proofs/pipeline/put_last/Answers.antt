@@ -1,7 +1,7 @@
 use Rattle.std.proofs.Common.{◌≡◌, ◌+◌, ◌≤◌, vec_len, vec_capacity, false, None, rules, arith}
 use Rattle.std.specs.FinMap as fin
 use Rattle.sftp_core.specs.Table.{count, is_owing}
-use Rattle.sftp_core.specs.declared.place.Place.TheVariants.{Waiting}
+use Rattle.sftp_core.specs.declared.id_record.IdRecord.TheVariants.{Waiting}
 use Rattle.sftp_core.proofs.Tables.{count-insert_new}
 use Rattle.sftp_core.proofs.Counts.{count_len}
 use Rattle.sftp_core.proofs.Tallies.{tally_le}

@@ -2,7 +2,7 @@ use Rattle.std.proofs.Common.{rules, ◌≡◌, ◌<◌, ap, sym, ◌∙◌, sub
 use Rattle.std.specs.Prelude.{slice_get}
 use Rattle.sftp_core.specs.Core.{Core, abandoned, at, is_ticket, released}
 use Rattle.sftp_core.specs.Grant.{GrantValue}
-use Rattle.sftp_core.specs.declared.place.Place.TheVariants.{Granted}
+use Rattle.sftp_core.specs.declared.id_record.IdRecord.TheVariants.{Granted}
 use Rattle.session_laws.specs.Ends.{let_go}
 use Rattle.session_laws.specs.Lanes.{Held, LaneValue}
 use Rattle.session_laws.specs.Places.{without}

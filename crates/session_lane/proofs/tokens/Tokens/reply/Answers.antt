@@ -3,7 +3,7 @@ use Rattle.std.specs.Prelude.{◌≤◌, slice_get}
 use Rattle.std.specs.FinMap as fin
 use Rattle.sftp_model.specs.declared.reply.Reply.TheVariants as reply
 use Rattle.sftp_core.specs.Core.{Core, at, is_ticket, polled_with, reply_in}
-use Rattle.sftp_core.specs.declared.place.Place.TheVariants.{Granted}
+use Rattle.sftp_core.specs.declared.id_record.IdRecord.TheVariants.{Granted}
 use Rattle.sftp_core.specs.declared.tokens.Polled.TheVariants as polled
 use Rattle.session_laws.specs.Lanes.{Held, Ticketed, ticket_places}
 use Rattle.session_laws.specs.Places.{is_in}

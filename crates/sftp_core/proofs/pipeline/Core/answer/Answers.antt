@@ -1,8 +1,8 @@
 use Rattle.std.proofs.Common.{◌≡◌, refl, sym, rules, Some}
 use Rattle.std.specs.FinMap as fin
-use Rattle.sftp_core.specs.declared.place.Place.TheVariants.{Waiting}
+use Rattle.sftp_core.specs.declared.id_record.IdRecord.TheVariants.{Waiting}
 use Rattle.sftp_core.proofs.Sounds.{sound-same}
-use Rattle.sftp_core.proofs.Places.{due}
+use Rattle.sftp_core.proofs.Records.{due}
 use Rattle.sftp_core.proofs.pipeline.Core.answer.Goals as goal
 
 pub invariant_of-self : goal.invariant_of-self

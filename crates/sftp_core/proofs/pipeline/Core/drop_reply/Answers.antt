@@ -1,5 +1,5 @@
 use Rattle.sftp_core.proofs.Sounds.{sound-freed}
-use Rattle.sftp_core.proofs.Places.{there}
+use Rattle.sftp_core.proofs.Records.{there}
 use Rattle.sftp_core.proofs.pipeline.Core.drop_reply.Goals as goal
 
 pub free-requires : goal.free-requires

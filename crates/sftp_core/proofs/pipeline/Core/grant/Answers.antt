@@ -1,6 +1,6 @@
 use Rattle.std.proofs.Common.{sym}
 use Rattle.sftp_core.proofs.Sounds.{sound-same}
-use Rattle.sftp_core.proofs.Places.{owed}
+use Rattle.sftp_core.proofs.Records.{owed}
 use Rattle.sftp_core.proofs.pipeline.Core.grant.Goals as goal
 
 pub invariant_of-self : goal.invariant_of-self

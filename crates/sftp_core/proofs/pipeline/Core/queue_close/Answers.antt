@@ -2,7 +2,7 @@ use Rattle.std.proofs.Common.{refl}
 use Rattle.sftp_model.specs.declared.request.Request.TheVariants as request
 use Rattle.sftp_core.proofs.Cuts.{cut-none}
 use Rattle.sftp_core.proofs.Sounds.{sound-close, room_for_close}
-use Rattle.sftp_core.proofs.Places.{owed}
+use Rattle.sftp_core.proofs.Records.{owed}
 use Rattle.sftp_core.proofs.pipeline.Core.queue_close.Goals as goal
 
 pub push_reserved-requires-clause-capacity : goal.push_reserved-requires-clause-capacity

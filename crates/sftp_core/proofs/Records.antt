@@ -1,12 +1,12 @@
--- What the conditions of the calls tell of the place under an id.
+-- What the conditions of the calls tell of the record under an id.
 use Rattle.std.proofs.Common.{◌≡◌, ℕ, Bool, true, false, cond, refl, sym, subst, Option, Some, None}
 use Rattle.std.specs.Prelude.{IsSome}
 use Rattle.sftp_model.specs.Answers.{allows}
 use Rattle.sftp_model.specs.declared.answers.Expected.{Expected}
 use Rattle.sftp_model.specs.declared.reply.Reply.{Reply}
 use Rattle.sftp_core.specs.declared.errors.TakeError.{TakeError}
-use Rattle.sftp_core.specs.declared.place.Place.{Place}
-use Rattle.sftp_core.specs.declared.place.Place.TheVariants.{Waiting, Answered, Granted}
+use Rattle.sftp_core.specs.declared.id_record.IdRecord.{IdRecord}
+use Rattle.sftp_core.specs.declared.id_record.IdRecord.TheVariants.{Waiting, Answered, Granted}
 use Rattle.sftp_core.specs.Table.{expected_at, is_unsent, is_owing}
 use Rattle.sftp_core.specs.Core.{MayClose, MayFree}
 use Rattle.sftp_core.specs.Take.{wrong_at}
@@ -25,16 +25,16 @@ due id r e true wanted h = record { handed = refl; allowed = allowed_of _ _ h }
 due id r e false wanted h = absurd cc
 
 -- what may be closed, as what was there
-pub owed : (w : Place) (p : Option Place) → Some w ≡ p → MayClose p → (is_owing w ≡ true) × (is_unsent w ≡ false)
+pub owed : (w : IdRecord) (p : Option IdRecord) → Some w ≡ p → MayClose p → (is_owing w ≡ true) × (is_unsent w ≡ false)
 owed w p is may = subst MayClose (sym is) may
 
--- something stands where a place may be freed
-pub there : (p : Option Place) → MayFree p → IsSome p
+-- something stands where a record may be freed
+pub there : (p : Option IdRecord) → MayFree p → IsSome p
 there None may = absurd may
 there (Some w) may = refl
 
 -- what is accepted is one that the kind of its request allows
-pub accepted : (id : ℕ) (r : Reply) (e : Expected) (p : Option Place) → expected_at p ≡ Some e → wrong_at id r p ≡ None → allows e r ≡ true
+pub accepted : (id : ℕ) (r : Reply) (e : Expected) (p : Option IdRecord) → expected_at p ≡ Some e → wrong_at id r p ≡ None → allows e r ≡ true
 accepted id r e None is h = absurd cc
 accepted id r e (Some (Waiting kind true wanted)) is h =
     let same : kind ≡ e = cc in rw (sym same) (allowed_of _ _ h)

@@ -1,11 +1,11 @@
 ghost use Rattle.std.specs.Prelude.{◌≡◌};
-ghost use Rattle.sftp_core.specs.Table.{sent_place, tally, is_waiting, is_owing, asks_handle, brings};
+ghost use Rattle.sftp_core.specs.Table.{sent_record, tally, is_waiting, is_owing, asks_handle, brings};
 
 use sftp_model::{Expected, Handle, Reply};
 
 /// What a core keeps under one id: a request without its reply, a reply whose ticket is out, or a grant.
 #[derive(Debug, Drop)]
-pub enum Place {
+pub enum IdRecord {
     /// A request of this kind. `sent`: it was handed out. `wanted`: its ticket is out.
     Waiting {
         expected: Expected,
@@ -24,12 +24,12 @@ pub enum Place {
     },
 }
 
-impl Place {
+impl IdRecord {
     /// Makes a waiting request one that was handed out.
     pub(crate) fn mark_sent(&mut self)
-        ensures { self.new ≡ sent_place self.old }
+        ensures { self.new ≡ sent_record self.old }
     {
-        if let Place::Waiting { sent, .. } = self {
+        if let IdRecord::Waiting { sent, .. } = self {
             *sent = true;
         }
     }
@@ -39,7 +39,7 @@ impl Place {
         ensures { result ≡ tally is_waiting self.now }
     {
         match self {
-            Place::Waiting { .. } => 1,
+            IdRecord::Waiting { .. } => 1,
             _ => 0,
         }
     }
@@ -49,10 +49,10 @@ impl Place {
         ensures { result ≡ tally is_owing self.now }
     {
         match self {
-            Place::Waiting { expected, .. } | Place::Answered { expected, .. } => {
+            IdRecord::Waiting { expected, .. } | IdRecord::Answered { expected, .. } => {
                 asks_handle(*expected) as usize
             }
-            Place::Granted { .. } => 1,
+            IdRecord::Granted { .. } => 1,
         }
     }
 }
