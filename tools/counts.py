@@ -8,7 +8,7 @@
 - lines over 120 columns in documents and in specs/, over 200 in proofs/
 - files with more than 500 lines, in crates/ and tools/
 - crates with more than five edits that must be refused, and with more than 100 functions
-- words that the specs/ of more than one crate define, worked rows left out
+- words that were to go, and words that the specs/ of more than one crate define, worked rows left out
 """
 import os, re, sys
 from collections import defaultdict
@@ -17,6 +17,10 @@ ROOT = os.path.dirname(os.path.dirname(os.path.abspath(__file__)))
 CLAUSES, LINES, EDITS, FUNCTIONS, WIDTH, PROOF_WIDTH = 6, 500, 5, 100, 120, 200
 FUNCTION = re.compile(r"^(\s*)(?:pub(?:\([a-z ]+\))? )?(?:final )?(?:const )?(?:unsafe )?fn (\w+)")
 WORD = re.compile(r"(?:(?:abbrev|unfoldable|opaque) )*pub (?:(record|data) )?([^\W\d][\w'\-]*)(?(1)|(?=.* :(?: |$)|$))")
+# Words that had two senses, verbs without their object, and names that nobody else uses: no definition has them.
+GONE = """Place Desk Contents amid went Ran Said spent behind orphan loose planned
+Keeps Takes Gives Leaves Asks Begins Closes Holds Stays Goes Sends Steps""".split()
+NAMED = re.compile(r"\s*(?:pub(?:\([a-z]+\))? )?(?:struct|enum|trait|fn|type|const) (\w+)")
 
 
 def files(*ends):
@@ -109,13 +113,16 @@ def main():
     if "--crates" in sys.argv:
         return table()
     many, over, broad_specs, broad_proofs, long = defaultdict(int), [], [], [], []
-    edits, words, has = defaultdict(int), defaultdict(set), defaultdict(int)
+    edits, words, has, gone = defaultdict(int), defaultdict(set), defaultdict(int), []
     for crate, part, path, lines in files(".rt", ".antt", ".edit", ".py", ".sh"):
         if path.endswith(".edit"):
             edits[crate] += 1
             continue
         if len(lines) > LINES:
             long.append((len(lines), path))
+        if part in ("src", "specs") and not is_test(crate, path):
+            found = [(k, (NAMED if part == "src" else WORD).match(line)) for k, line in enumerate(lines, 1)]
+            gone += [(k, f"{path} {it[it.lastindex]}") for k, it in found if it and it[it.lastindex] in GONE]
         if part == "src" and not is_test(crate, path):
             for name, line, count in functions(lines):
                 has[crate] += 1
@@ -143,6 +150,7 @@ def main():
     told(f"files over {LINES} lines", long)
     told(f"crates with over {EDITS} edits that must be refused", [(n, crate) for crate, n in edits.items() if n > EDITS])
     told(f"crates with over {FUNCTIONS} functions", [(n, crate) for crate, n in has.items() if n > FUNCTIONS])
+    told("words that were to go", gone)
     told("words that more than one crate defines", twice)
 
 

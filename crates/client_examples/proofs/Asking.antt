@@ -22,7 +22,7 @@ use Rattle.sftp_file.specs.Files.{facts_of}
 use Rattle.sftp_file.specs.Tells.{telling}
 use Rattle.sftp_fs.specs.PathStarts.{StartsFrom}
 use Rattle.sftp_client.specs.Sessions.{SftpValue, with_core}
-use Rattle.client_examples.specs.Sizes.{AreApart, AreAwaited, IsAsked, IsAwaiting}
+use Rattle.client_examples.specs.Sizes.{AwaitOthers, AreAwaited, IsAsked, IsAwaiting}
 
 -- a call under way that awaits a ticket
 awaiting_by : (core : Core) (call : CallValue Telling) (ticket : ℕ) → IsHeld telling core call → call.stage ≡ Asked ticket
@@ -86,7 +86,7 @@ unfolding number
 same_ticket stage one two first second = ap number (sym first ∙ second)
 
 apart_more : (core : Core) (call last : CallValue Telling) (one two : ℕ) (later : List (CallValue Telling)) → IsAwaiting core call one
-    → last.stage ≡ Asked two → at core two ≡ None → AreApart call.stage later → AreApart call.stage (later ++ last ∷ [])
+    → last.stage ≡ Asked two → at core two ≡ None → AwaitOthers call.stage later → AwaitOthers call.stage (later ++ last ∷ [])
 apart_more core call last one two [] here awaits free h = (
   λ ticket is other. held_apart core one two expected.Attrs here.holds free
       (same_ticket call.stage one ticket here.awaits is ∙ same_ticket last.stage ticket two other awaits),
@@ -111,7 +111,7 @@ awaited_more path old new (call ∷ later) last h k asked = (
 
 -- what another call's poll leaves
 others_stay : (old new : Core) (before after : Stage) (calls : List (CallValue Telling)) → KeepsOtherTickets old new before after
-    → AreApart before calls → AreAwaited old calls → AreApart after calls × AreAwaited new calls
+    → AwaitOthers before calls → AreAwaited old calls → AwaitOthers after calls × AreAwaited new calls
 others_stay old new before after [] keeps apart h = (tt, tt)
 others_stay old new before after (call ∷ later) keeps apart h =
     let both = keeps h.0 expected.Attrs (λ is. apart.0 h.0 is h.1.0.awaits) h.1.0.holds in
@@ -130,7 +130,7 @@ awaited_still old new call after later h polls =
     let rest = others_stay old new call.stage after.stage later polls.others h.1.1.0 h.1.1.1 in
     (polls.awaits.0, (awaiting_by new after polls.awaits.0 polls.held polls.awaits.1.0, rest))
 
-apart_kept : (old new : Core) (stage : Stage) (calls : List (CallValue Telling)) → CancelsAwaited old new stage → AreApart stage calls
+apart_kept : (old new : Core) (stage : Stage) (calls : List (CallValue Telling)) → CancelsAwaited old new stage → AwaitOthers stage calls
     → AreAwaited old calls → AreAwaited new calls
 apart_kept old new stage [] cancels apart h = tt
 apart_kept old new stage (call ∷ later) cancels apart h = (

@@ -19,17 +19,17 @@ use Rattle.sftp_client.specs.Sessions.{FlushesQueue, SftpValue, TakesOrKept, wit
 use Rattle.sftp_client.specs.Waits.{SendsAndTakes}
 use Rattle.sftp_client.proofs.Waiting.{fail_stays, round_stays, round_unfaulted}
 use Rattle.client_examples.specs.Files.{IsUsable}
-use Rattle.client_examples.specs.Sizes.{AreAwaited, AreSizes, AreUnderWay, Goes, Going, IsAsked, IsStep, going}
+use Rattle.client_examples.specs.Sizes.{AreAwaited, AreSizes, AreUnderWay, GoesBySteps, Going, IsAsked, IsStep, going}
 use Rattle.client_examples.proofs.Asking.{awaited_kept, awaited_more, awaited_still, nothing_left}
 
-goes_on : {L S : Type 0} (state : L → LinkView S) (a b c : Going L) → Goes state a b → IsStep state b c → Goes state a c
+goes_on : {L S : Type 0} (state : L → LinkView S) (a b c : Going L) → GoesBySteps state a b → IsStep state b c → GoesBySteps state a c
 goes_on state a b c g step = (suc g.0, (b, (g.1, step)))
 
-goes_first : {L S : Type 0} (state : L → LinkView S) (a b : Going L) → IsStep state a b → Goes state a b
+goes_first : {L S : Type 0} (state : L → LinkView S) (a b : Going L) → IsStep state a b → GoesBySteps state a b
 goes_first state a b step = (suc zero, (a, (refl, step)))
 
-goes_both : {L S : Type 0} (state : L → LinkView S) (a b c : Going L) → Goes state a b → Goes state b c → Goes state a c
-goes_both {L = L} state a b c g (zero, h) = subst (λ (x : Going L). Goes state a x) (sym h) g
+goes_both : {L S : Type 0} (state : L → LinkView S) (a b c : Going L) → GoesBySteps state a b → GoesBySteps state b c → GoesBySteps state a c
+goes_both {L = L} state a b c g (zero, h) = subst (λ (x : Going L). GoesBySteps state a x) (sym h) g
 goes_both state a b c g (suc n, h) = goes_on state a h.0 c (goes_both state a b h.0 g (n, h.1.0)) h.1.1
 
 -- ---- the oldest call is heard
@@ -38,7 +38,7 @@ goes_both state a b c g (suc n, h) = goes_on state a h.0 c (goes_both state a b 
 pub tells_first : {L S : Type 0} (state : L → LinkView S) (old new : SftpValue L) (mid : Core) (call ended : CallValue Telling)
     (later : List (CallValue Telling)) (attrs : FileAttrs) (paths : List (List ℕ)) (sizes more : List (Option ℕ))
     → Stepped telling old.core mid call ended (Ready (Ok attrs)) → CancelsAwaited mid new.core ended.stage → new ≡ with_core old new.core
-    → more ≡ sizes ++ attrs.size ∷ [] → Goes state (going old paths (call ∷ later) sizes) (going new paths later more)
+    → more ≡ sizes ++ attrs.size ∷ [] → GoesBySteps state (going old paths (call ∷ later) sizes) (going new paths later more)
 tells_first state old new mid call ended later attrs paths sizes more polls cancels left last =
     let same = nothing_left mid new.core ended.stage polls.over cancels in
     goes_first state (going old paths (call ∷ later) sizes) (going new paths later more) (inl (inr (record {
@@ -56,7 +56,7 @@ tells_first state old new mid call ended later attrs paths sizes more polls canc
 pub awaits_first : {L S : Type 0} (state : L → LinkView S) (old mid new : SftpValue L) (call after : CallValue Telling)
     (later : List (CallValue Telling)) (paths : List (List ℕ)) (sizes : List (Option ℕ)) → Stepped telling old.core mid.core call after Pending
     → mid ≡ with_core old mid.core → SendsAndTakes state mid new
-    → Goes state (going old paths (call ∷ later) sizes) (going new paths (after ∷ later) sizes)
+    → GoesBySteps state (going old paths (call ∷ later) sizes) (going new paths (after ∷ later) sizes)
 awaits_first state old mid new call after later paths sizes polls left round =
     let here = going old paths (call ∷ later) sizes in
     let polled = going mid paths (after ∷ later) sizes in
@@ -112,7 +112,7 @@ round_usable {L = L} state old mid new calls usable left s r =
 -- what holds between two turns: so many of all paths are asked for
 pub record SizesOn {L S : Type 0} (state : L → LinkView S) (all : List (List ℕ)) (old : SftpValue L) (asked : ℕ) (new : SftpValue L)
     (calls : VecDeque (CallValue Telling) Global) (sizes : List (Option ℕ)) : Type 0 where
-  pub goes : Goes state (going old all [] []) (going new (drop asked all) calls.items sizes)
+  pub goes : GoesBySteps state (going old all [] []) (going new (drop asked all) calls.items sizes)
   pub under_way : AreUnderWay state new calls.items
   pub within : asked ≤ length all
   pub room : 64 ≤ deque_capacity calls
@@ -153,12 +153,12 @@ oldest_under_way state s calls later call u is = subst (λ (l : List (CallValue 
 pub sizes_heard : {L S : Type 0} (state : L → LinkView S) (all : List (List ℕ)) (old mid new : SftpValue L) (asked : ℕ)
     (calls later : VecDeque (CallValue Telling) Global) (popped : List (CallValue Telling)) (sizes more : List (Option ℕ)) (call : CallValue Telling)
     → SizesOn state all old asked mid calls sizes → calls.items ≡ call ∷ popped
-    → Goes state (going mid (drop asked all) (call ∷ popped) sizes) (going new (drop asked all) later.items more)
+    → GoesBySteps state (going mid (drop asked all) (call ∷ popped) sizes) (going new (drop asked all) later.items more)
     → AreAwaited new.core later.items → IsUsable state new → 64 ≤ deque_capacity later → SizesOn state all old asked new later more
 sizes_heard state all old mid new asked calls later popped sizes more call s first went awaited usable room =
     record {
       goes = goes_both state (going old all [] []) (going mid (drop asked all) (call ∷ popped) sizes) (going new (drop asked all) later.items more)
-          (subst (λ (l : List (CallValue Telling)). Goes state (going old all [] []) (going mid (drop asked all) l sizes)) first s.goes) went;
+          (subst (λ (l : List (CallValue Telling)). GoesBySteps state (going old all [] []) (going mid (drop asked all) l sizes)) first s.goes) went;
       under_way = record { usable = usable; awaited = awaited };
       within = s.within;
       room = room;
@@ -178,4 +178,4 @@ pub sizes_end : {L S : Type 0} (state : L → LinkView S) (all : List (List ℕ)
     → calls.items ≡ [] → AreSizes all state old new sizes
 sizes_end {L = L} state all old new asked calls sizes s over none =
     let end : going new (drop asked all) calls.items sizes ≡ going new [] [] sizes = λ i. going new (drop_all asked all over i) (none i) sizes in
-    subst (λ (x : Going L). Goes state (going old all [] []) x) end s.goes
+    subst (λ (x : Going L). GoesBySteps state (going old all [] []) x) end s.goes

@@ -25,15 +25,16 @@ pub record IsAwaiting (core : Core) (call : CallValue Telling) (ticket : ℕ) : 
   pub holds : HoldsTicket core ticket expected.Attrs
 
 -- none of these calls awaits what a stage does
-abbrev pub AreApart : Stage → List (CallValue Telling) → Type 0
-AreApart stage [] = Unit {0}
-AreApart stage (call ∷ later) = ((ticket : ℕ) → stage ≡ Asked ticket → IsNotOf call.stage ticket) × AreApart stage later
+abbrev pub AwaitOthers : Stage → List (CallValue Telling) → Type 0
+AwaitOthers stage [] = Unit {0}
+AwaitOthers stage (call ∷ later) = ((ticket : ℕ) → stage ≡ Asked ticket → IsNotOf call.stage ticket)
+    × AwaitOthers stage later
 
 -- each of these calls awaits a ticket of its own
 abbrev pub AreAwaited : Core → List (CallValue Telling) → Type 0
 AreAwaited core [] = Unit {0}
 AreAwaited core (call ∷ later) = (ticket : ℕ) × (IsAwaiting core call ticket
-    × (AreApart call.stage later × AreAwaited core later))
+    × (AwaitOthers call.stage later × AreAwaited core later))
 
 -- and the session can go on
 pub record AreUnderWay {L S : Type 0} (state : L → LinkView S) (s : SftpValue L) (calls : List (CallValue Telling)) :
@@ -105,11 +106,11 @@ abbrev pub AreSteps : {L S : Type 0} → (L → LinkView S) → ℕ → Going L 
 AreSteps state zero old new = new ≡ old
 AreSteps {L = L} state (suc n) old new = (mid : Going L) × (AreSteps state n old mid × IsStep state mid new)
 
-abbrev pub Goes : {L S : Type 0} → (L → LinkView S) → Going L → Going L → Type 0
-Goes state old new = (count : ℕ) × AreSteps state count old new
+abbrev pub GoesBySteps : {L S : Type 0} → (L → LinkView S) → Going L → Going L → Type 0
+GoesBySteps state old new = (count : ℕ) × AreSteps state count old new
 
 -- Each path was asked for, in order, and each size was told, in the same order, by the attributes that answered the
 -- call of its path.
 abbrev pub AreSizes : {L S : Type 0} → List (List ℕ) → (L → LinkView S) → SftpValue L → SftpValue L → List (Option ℕ)
     → Type 0
-AreSizes paths state old new sizes = Goes state (going old paths [] []) (going new [] [] sizes)
+AreSizes paths state old new sizes = GoesBySteps state (going old paths [] []) (going new [] [] sizes)

@@ -3,7 +3,7 @@ ghost use Rattle.std.specs.Prelude.{◌≡◌, ◌++◌, ◌∷◌, ◌<◌, ◌
 ghost use Rattle.std.specs.VecDeque.{deque_capacity, deque_len};
 ghost use Rattle.call_state.specs.Keeping.{KeepsHeld};
 ghost use Rattle.client_examples.specs.Files.{IsUsable};
-ghost use Rattle.client_examples.specs.Sizes.{AreAwaited, AreSizes, AreUnderWay, Goes, IsAsked, going};
+ghost use Rattle.client_examples.specs.Sizes.{AreAwaited, AreSizes, AreUnderWay, GoesBySteps, IsAsked, going};
 
 use sftp_client::{AttrsCall, Error, Link, Poll, RemotePath, Sftp};
 use std::alloc::Global;
@@ -90,7 +90,7 @@ fn hear<L: Link>(
 ) -> Result<(), Error>
     requires under_way { AreUnderWay L.LinkState.state sftp.old (call ∷ calls.old.items) }
     requires room { deque_len calls.old < deque_capacity calls.old }
-    ensures went { OnOk result ((paths : List (List ℕ)) → Goes L.LinkState.state
+    ensures went { OnOk result ((paths : List (List ℕ)) → GoesBySteps L.LinkState.state
         (going sftp.old paths (call ∷ calls.old.items) sizes.old.items)
         (going sftp.new paths calls.new.items sizes.new.items)) }
     ensures awaited { AreAwaited sftp.new.core calls.new.items }

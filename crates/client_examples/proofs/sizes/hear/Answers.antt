@@ -6,7 +6,7 @@ use Rattle.call_state.specs.Calls.{CallValue, CancelsAwaited, Stepped}
 use Rattle.sftp_file.specs.declared.telling.Telling.{Telling}
 use Rattle.sftp_file.specs.Tells.{telling}
 use Rattle.sftp_client.specs.Sessions.{with_core}
-use Rattle.client_examples.specs.Sizes.{AreAwaited, Goes, going}
+use Rattle.client_examples.specs.Sizes.{AreAwaited, GoesBySteps, going}
 use Rattle.client_examples.proofs.Answered.{where_done}
 use Rattle.client_examples.proofs.Asking.{awaited_after}
 use Rattle.client_examples.proofs.Sizing.{awaits_first, flush_leaves, polled_still, round_leaves, take_leaves, tells_first}
@@ -66,7 +66,7 @@ pub returns-in_ok-take-in-Pending-clause-went : goal.returns-in_ok-take-in-Pendi
 returns-in_ok-take-in-Pending-clause-went g c =
     let polls = subst (λ (k : Core). Stepped telling k c.poll.new.core c.args.call c.poll.new.self Pending) c.core.ensures.value c.in-Pending.ensures in
     let mid = with_core c.args.sftp.now c.poll.new.core in
-    λ paths. subst (λ (l : List (CallValue Telling)). Goes g.L.LinkState.state
+    λ paths. subst (λ (l : List (CallValue Telling)). GoesBySteps g.L.LinkState.state
     (going c.args.sftp.now paths (c.args.call ∷ c.args.calls.now.items) c.args.sizes.now.items)
     (going c.take.new.self paths l c.args.sizes.now.items)) (sym c.push_front_reserved.ensures.items)
     (awaits_first g.L.LinkState.state c.args.sftp.now mid c.take.new.self c.args.call c.poll.new.self c.args.calls.now.items paths
