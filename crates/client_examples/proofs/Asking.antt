@@ -22,7 +22,7 @@ use Rattle.sftp_file.specs.Files.{facts_of}
 use Rattle.sftp_file.specs.Tells.{telling}
 use Rattle.sftp_fs.specs.PathStarts.{StartsFrom}
 use Rattle.sftp_client.specs.Sessions.{SftpValue, with_core}
-use Rattle.client_examples.specs.Sizes.{AwaitOthers, AreAwaited, IsAsked, IsAwaiting}
+use Rattle.client_examples.specs.Sizes.{AwaitOthers, AreCallsAwaited, IsAsked, IsAwaiting}
 
 -- a call under way that awaits a ticket
 awaiting_by : (core : Core) (call : CallValue Telling) (ticket : ℕ) → IsHeld telling core call → call.stage ≡ Asked ticket
@@ -30,7 +30,7 @@ awaiting_by : (core : Core) (call : CallValue Telling) (ticket : ℕ) → IsHeld
 awaiting_by core call ticket h is =
     record { awaits = is; holds = subst (λ (s : Stage). IsHeldAt telling core call.runner s) is h }
 
-pub under_way_of : (core : Core) (call : CallValue Telling) (later : List (CallValue Telling)) → AreAwaited core (call ∷ later)
+pub under_way_of : (core : Core) (call : CallValue Telling) (later : List (CallValue Telling)) → AreCallsAwaited core (call ∷ later)
     → IsUnderWay telling core call
 under_way_of core call later h =
     record {
@@ -61,7 +61,7 @@ asked_by path old new call starts left = from (starts.starts nowhere (λ place. 
 
 -- ---- the others
 
-pub awaited_kept : (old new : Core) (calls : List (CallValue Telling)) → KeepsHeld old new → AreAwaited old calls → AreAwaited new calls
+pub awaited_kept : (old new : Core) (calls : List (CallValue Telling)) → KeepsHeld old new → AreCallsAwaited old calls → AreCallsAwaited new calls
 awaited_kept old new [] k h = tt
 awaited_kept old new (call ∷ later) k h = (
   h.0,
@@ -96,7 +96,7 @@ apart_more core call last one two (next ∷ later) here awaits free h = (h.0, ap
 
 -- a call that is asked for stands last
 pub awaited_more : {L : Type 0} (path : List ℕ) (old new : SftpValue L) (calls : List (CallValue Telling)) (last : CallValue Telling)
-    → AreAwaited old.core calls → KeepsHeld old.core new.core → IsAsked path old new last → AreAwaited new.core (calls ++ last ∷ [])
+    → AreCallsAwaited old.core calls → KeepsHeld old.core new.core → IsAsked path old new last → AreCallsAwaited new.core (calls ++ last ∷ [])
 awaited_more path old new [] last h k asked = (asked.ticket, (asked.awaiting, (tt, tt)))
 awaited_more path old new (call ∷ later) last h k asked = (
   h.0,
@@ -111,7 +111,7 @@ awaited_more path old new (call ∷ later) last h k asked = (
 
 -- what another call's poll leaves
 others_stay : (old new : Core) (before after : Stage) (calls : List (CallValue Telling)) → KeepsOtherTickets old new before after
-    → AwaitOthers before calls → AreAwaited old calls → AwaitOthers after calls × AreAwaited new calls
+    → AwaitOthers before calls → AreCallsAwaited old calls → AwaitOthers after calls × AreCallsAwaited new calls
 others_stay old new before after [] keeps apart h = (tt, tt)
 others_stay old new before after (call ∷ later) keeps apart h =
     let both = keeps h.0 expected.Attrs (λ is. apart.0 h.0 is h.1.0.awaits) h.1.0.holds in
@@ -125,13 +125,13 @@ others_stay old new before after (call ∷ later) keeps apart h =
 
 -- the oldest call has no answer yet
 pub awaited_still : (old new : Core) (call after : CallValue Telling) (later : List (CallValue Telling))
-    → AreAwaited old (call ∷ later) → Stepped telling old new call after poll.Pending → AreAwaited new (after ∷ later)
+    → AreCallsAwaited old (call ∷ later) → Stepped telling old new call after poll.Pending → AreCallsAwaited new (after ∷ later)
 awaited_still old new call after later h polls =
     let rest = others_stay old new call.stage after.stage later polls.others h.1.1.0 h.1.1.1 in
     (polls.awaits.0, (awaiting_by new after polls.awaits.0 polls.held polls.awaits.1.0, rest))
 
 apart_kept : (old new : Core) (stage : Stage) (calls : List (CallValue Telling)) → CancelsAwaited old new stage → AwaitOthers stage calls
-    → AreAwaited old calls → AreAwaited new calls
+    → AreCallsAwaited old calls → AreCallsAwaited new calls
 apart_kept old new stage [] cancels apart h = tt
 apart_kept old new stage (call ∷ later) cancels apart h = (
   h.0,
@@ -146,15 +146,15 @@ apart_kept old new stage (call ∷ later) cancels apart h = (
 
 -- the oldest call was answered, and then it was given up
 pub awaited_after : (old mid new : Core) (call ended : CallValue Telling) (later : List (CallValue Telling)) (result : Result FileAttrs Error)
-    → AreAwaited old (call ∷ later) → Stepped telling old mid call ended (poll.Ready result) → CancelsAwaited mid new ended.stage
-    → AreAwaited new later
+    → AreCallsAwaited old (call ∷ later) → Stepped telling old mid call ended (poll.Ready result) → CancelsAwaited mid new ended.stage
+    → AreCallsAwaited new later
 awaited_after old mid new call ended later result h polls cancels =
     let rest = others_stay old mid call.stage ended.stage later polls.others h.1.1.0 h.1.1.1 in
     apart_kept mid new ended.stage later cancels rest.0 rest.1
 
 -- the oldest call is given up
-pub awaited_less : (old new : Core) (call : CallValue Telling) (later : List (CallValue Telling)) → AreAwaited old (call ∷ later)
-    → CancelsAwaited old new call.stage → AreAwaited new later
+pub awaited_less : (old new : Core) (call : CallValue Telling) (later : List (CallValue Telling)) → AreCallsAwaited old (call ∷ later)
+    → CancelsAwaited old new call.stage → AreCallsAwaited new later
 awaited_less old new call later h cancels = apart_kept old new call.stage later cancels h.1.1.0 h.1.1.1
 
 -- a call that has answered leaves nothing to be given up

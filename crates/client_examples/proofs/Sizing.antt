@@ -19,7 +19,7 @@ use Rattle.sftp_client.specs.Sessions.{FlushesQueue, SftpValue, TakesOrKept, wit
 use Rattle.sftp_client.specs.Waits.{SendsAndTakes}
 use Rattle.sftp_client.proofs.Waiting.{fail_stays, round_stays, round_unfaulted}
 use Rattle.client_examples.specs.Files.{IsUsable}
-use Rattle.client_examples.specs.Sizes.{AreAwaited, AreSizes, AreUnderWay, GoesBySteps, Going, IsAsked, IsStep, going}
+use Rattle.client_examples.specs.Sizes.{AreCallsAwaited, AreSizes, AreCallsUnderWay, GoesBySteps, Going, IsAsked, IsStep, going}
 use Rattle.client_examples.proofs.Asking.{awaited_kept, awaited_more, awaited_still, nothing_left}
 
 goes_on : {L S : Type 0} (state : L → LinkView S) (a b c : Going L) → GoesBySteps state a b → IsStep state b c → GoesBySteps state a c
@@ -76,25 +76,25 @@ awaits_first state old mid new call after later paths sizes polls left round =
 -- an open session with calls of which the oldest was polled
 pub record StillAwaited {L : Type 0} (s : SftpValue L) (calls : List (CallValue Telling)) : Type 0 where
   pub opened : IsSome (info_of s.core.phase)
-  pub awaited : AreAwaited s.core calls
+  pub awaited : AreCallsAwaited s.core calls
 
 pub polled_still : {L S : Type 0} (state : L → LinkView S) (old mid : SftpValue L) (call after : CallValue Telling)
-    (later : List (CallValue Telling)) → AreUnderWay state old (call ∷ later) → Stepped telling old.core mid.core call after Pending
+    (later : List (CallValue Telling)) → AreCallsUnderWay state old (call ∷ later) → Stepped telling old.core mid.core call after Pending
     → StillAwaited mid (after ∷ later)
 polled_still state old mid call after later u polls =
     record { opened = polls.grants.opened u.usable.opened; awaited = awaited_still old.core mid.core call after later u.awaited polls }
 
 pub flush_leaves : {L S : Type 0} (state : L → LinkView S) (mid new : SftpValue L) (calls : List (CallValue Telling)) (e : Error)
-    → StillAwaited mid calls → FlushesQueue state mid new (Err e) → AreAwaited new.core calls
+    → StillAwaited mid calls → FlushesQueue state mid new (Err e) → AreCallsAwaited new.core calls
 flush_leaves state mid new calls e s h = awaited_kept mid.core new.core calls (fail_stays state mid new e s.opened (inl h)) s.awaited
 
 pub take_leaves : {L S : Type 0} (state : L → LinkView S) (mid sent new : SftpValue L) (calls : List (CallValue Telling)) (e : Error)
-    → StillAwaited mid calls → FlushesQueue state mid sent (Ok tt) → TakesOrKept state sent new (Err e) → AreAwaited new.core calls
+    → StillAwaited mid calls → FlushesQueue state mid sent (Ok tt) → TakesOrKept state sent new (Err e) → AreCallsAwaited new.core calls
 take_leaves state mid sent new calls e s h t =
     awaited_kept mid.core new.core calls (fail_stays state mid new e s.opened (inr (sent, (h, t)))) s.awaited
 
 pub round_leaves : {L S : Type 0} (state : L → LinkView S) (mid new : SftpValue L) (calls : List (CallValue Telling))
-    → StillAwaited mid calls → SendsAndTakes state mid new → AreAwaited new.core calls
+    → StillAwaited mid calls → SendsAndTakes state mid new → AreCallsAwaited new.core calls
 round_leaves state mid new calls s r = awaited_kept mid.core new.core calls (round_stays state mid new s.opened r) s.awaited
 
 pub round_usable : {L S : Type 0} (state : L → LinkView S) (old mid new : SftpValue L) (calls : List (CallValue Telling)) → IsUsable state old
@@ -113,7 +113,7 @@ round_usable {L = L} state old mid new calls usable left s r =
 pub record SizesOn {L S : Type 0} (state : L → LinkView S) (all : List (List ℕ)) (old : SftpValue L) (asked : ℕ) (new : SftpValue L)
     (calls : VecDeque (CallValue Telling) Global) (sizes : List (Option ℕ)) : Type 0 where
   pub goes : GoesBySteps state (going old all [] []) (going new (drop asked all) calls.items sizes)
-  pub under_way : AreUnderWay state new calls.items
+  pub under_way : AreCallsUnderWay state new calls.items
   pub within : asked ≤ length all
   pub room : 64 ≤ deque_capacity calls
 
@@ -122,7 +122,7 @@ pub sizes_first : {L S : Type 0} (state : L → LinkView S) (all : List (List �
 sizes_first state all old calls usable none room =
     record {
       goes = (zero, λ i. going old all (none i) []);
-      under_way = record { usable = usable; awaited = subst (λ (l : List (CallValue Telling)). AreAwaited old.core l) (sym none) tt };
+      under_way = record { usable = usable; awaited = subst (λ (l : List (CallValue Telling)). AreCallsAwaited old.core l) (sym none) tt };
       within = omega arith;
       room = room;
     }
@@ -139,7 +139,7 @@ sizes_asked state all old mid new asked calls later sizes path call s lt is asks
           (inl (inl (record { path = path; call = call; asks = asks; next = next; last = last; sizes = refl })));
       under_way = record {
         usable = usable;
-        awaited = subst (λ (l : List (CallValue Telling)). AreAwaited new.core l) (sym last)
+        awaited = subst (λ (l : List (CallValue Telling)). AreCallsAwaited new.core l) (sym last)
             (awaited_more path mid new calls.items call s.under_way.awaited keeps asks);
       };
       within = omega (arith, lt);
@@ -147,14 +147,14 @@ sizes_asked state all old mid new asked calls later sizes path call s lt is asks
     }
 
 pub oldest_under_way : {L S : Type 0} (state : L → LinkView S) (s : SftpValue L) (calls later : List (CallValue Telling)) (call : CallValue Telling)
-    → AreUnderWay state s calls → calls ≡ call ∷ later → AreUnderWay state s (call ∷ later)
-oldest_under_way state s calls later call u is = subst (λ (l : List (CallValue Telling)). AreUnderWay state s l) is u
+    → AreCallsUnderWay state s calls → calls ≡ call ∷ later → AreCallsUnderWay state s (call ∷ later)
+oldest_under_way state s calls later call u is = subst (λ (l : List (CallValue Telling)). AreCallsUnderWay state s l) is u
 
 pub sizes_heard : {L S : Type 0} (state : L → LinkView S) (all : List (List ℕ)) (old mid new : SftpValue L) (asked : ℕ)
     (calls later : VecDeque (CallValue Telling) Global) (popped : List (CallValue Telling)) (sizes more : List (Option ℕ)) (call : CallValue Telling)
     → SizesOn state all old asked mid calls sizes → calls.items ≡ call ∷ popped
     → GoesBySteps state (going mid (drop asked all) (call ∷ popped) sizes) (going new (drop asked all) later.items more)
-    → AreAwaited new.core later.items → IsUsable state new → 64 ≤ deque_capacity later → SizesOn state all old asked new later more
+    → AreCallsAwaited new.core later.items → IsUsable state new → 64 ≤ deque_capacity later → SizesOn state all old asked new later more
 sizes_heard state all old mid new asked calls later popped sizes more call s first went awaited usable room =
     record {
       goes = goes_both state (going old all [] []) (going mid (drop asked all) (call ∷ popped) sizes) (going new (drop asked all) later.items more)

@@ -31,16 +31,17 @@ AwaitOthers stage (call ∷ later) = ((ticket : ℕ) → stage ≡ Asked ticket 
     × AwaitOthers stage later
 
 -- each of these calls awaits a ticket of its own
-abbrev pub AreAwaited : Core → List (CallValue Telling) → Type 0
-AreAwaited core [] = Unit {0}
-AreAwaited core (call ∷ later) = (ticket : ℕ) × (IsAwaiting core call ticket
-    × (AwaitOthers call.stage later × AreAwaited core later))
+abbrev pub AreCallsAwaited : Core → List (CallValue Telling) → Type 0
+AreCallsAwaited core [] = Unit {0}
+AreCallsAwaited core (call ∷ later) = (ticket : ℕ) × (IsAwaiting core call ticket
+    × (AwaitOthers call.stage later × AreCallsAwaited core later))
 
 -- and the session can go on
-pub record AreUnderWay {L S : Type 0} (state : L → LinkView S) (s : SftpValue L) (calls : List (CallValue Telling)) :
+pub record AreCallsUnderWay {L S : Type 0} (state : L → LinkView S) (s : SftpValue L) (calls : List
+    (CallValue Telling)) :
     Type 0 where
   pub usable : IsUsable state s
-  pub awaited : AreAwaited s.core calls
+  pub awaited : AreCallsAwaited s.core calls
 
 -- ---- steps
 
@@ -64,7 +65,7 @@ abbrev pub going : {L : Type 0} → SftpValue L → List (List ℕ) → List (Ca
 going sftp paths calls sizes = record { sftp = sftp; paths = paths; calls = calls; sizes = sizes }
 
 -- the next path is asked for, and its call is the youngest
-pub record AsksNext {L : Type 0} (old new : Going L) : Type 0 where
+pub record AsksNextPath {L : Type 0} (old new : Going L) : Type 0 where
   pub path : List ℕ
   pub call : CallValue Telling
   pub asks : IsAsked path old.sftp new.sftp call
@@ -99,7 +100,7 @@ pub record GoesRound {L S : Type 0} (state : L → LinkView S) (old new : Going 
   pub is : new ≡ record old { sftp = new.sftp }
 
 abbrev pub IsStep : {L S : Type 0} → (L → LinkView S) → Going L → Going L → Type 0
-IsStep state old new = (AsksNext old new ⊎ TellsFirst old new) ⊎ (AwaitsFirst old new ⊎ GoesRound state old new)
+IsStep state old new = (AsksNextPath old new ⊎ TellsFirst old new) ⊎ (AwaitsFirst old new ⊎ GoesRound state old new)
 
 -- so many steps, one after another
 abbrev pub AreSteps : {L S : Type 0} → (L → LinkView S) → ℕ → Going L → Going L → Type 0

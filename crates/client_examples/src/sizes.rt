@@ -3,7 +3,7 @@ ghost use Rattle.std.specs.Prelude.{◌≡◌, ◌++◌, ◌∷◌, ◌<◌, ◌
 ghost use Rattle.std.specs.VecDeque.{deque_capacity, deque_len};
 ghost use Rattle.call_state.specs.Keeping.{KeepsHeld};
 ghost use Rattle.client_examples.specs.Files.{IsUsable};
-ghost use Rattle.client_examples.specs.Sizes.{AreAwaited, AreSizes, AreUnderWay, GoesBySteps, IsAsked, going};
+ghost use Rattle.client_examples.specs.Sizes.{AreCallsAwaited, AreSizes, AreCallsUnderWay, GoesBySteps, IsAsked, going};
 
 use sftp_client::{AttrsCall, Error, Link, Poll, RemotePath, Sftp};
 use std::alloc::Global;
@@ -50,7 +50,7 @@ fn answers<L: Link>(
     requires room { 64 ≤ deque_capacity calls.old }
     ensures sizes { IfOk result (λ sizes. AreSizes paths.now L.LinkState.state sftp.old sftp.new sizes.items) }
     ensures none { OnOk result (deque_len calls.new ≡ 0) }
-    ensures awaited { AreAwaited sftp.new.core calls.new.items }
+    ensures awaited { AreCallsAwaited sftp.new.core calls.new.items }
 {
     let mut sizes = Vec::new(alloc);
     let mut asked = 0;
@@ -88,12 +88,12 @@ fn hear<L: Link>(
     calls: &mut VecDeque<AttrsCall>,
     sizes: &mut Vec<Option<u64>>,
 ) -> Result<(), Error>
-    requires under_way { AreUnderWay L.LinkState.state sftp.old (call ∷ calls.old.items) }
+    requires under_way { AreCallsUnderWay L.LinkState.state sftp.old (call ∷ calls.old.items) }
     requires room { deque_len calls.old < deque_capacity calls.old }
     ensures went { OnOk result ((paths : List (List ℕ)) → GoesBySteps L.LinkState.state
         (going sftp.old paths (call ∷ calls.old.items) sizes.old.items)
         (going sftp.new paths calls.new.items sizes.new.items)) }
-    ensures awaited { AreAwaited sftp.new.core calls.new.items }
+    ensures awaited { AreCallsAwaited sftp.new.core calls.new.items }
     ensures usable { OnOk result (IsUsable L.LinkState.state sftp.new) }
     ensures room { deque_capacity calls.new ≡ deque_capacity calls.old }
 {
@@ -124,7 +124,7 @@ fn push(sizes: &mut Vec<Option<u64>>, size: Option<u64>) -> Result<(), Error>
 
 /// Gives calls up, the oldest first.
 fn give_up<L: Link>(sftp: &mut Sftp<L>, calls: VecDeque<AttrsCall>)
-    requires { AreAwaited sftp.old.core calls.items }
+    requires { AreCallsAwaited sftp.old.core calls.items }
 {
     let mut calls = calls;
     while let Some(call) = calls.pop_front() {

@@ -41,7 +41,7 @@ use Rattle.transfer_copier.specs.CopyLegs.{
   worked_legs,
 }
 use Rattle.transfer_copier.specs.Jobs.{Given, JobNote, NoMore, Over}
-use Rattle.transfer_copier.specs.Told.{AreTold}
+use Rattle.transfer_copier.specs.Told.{AreCopiesTold}
 
 -- ---- more legs, and more notes
 
@@ -151,8 +151,8 @@ more_legs done history window all more wanted copied way.Put allows so = record 
 }
 
 more_told : {F H : Type 0} (done : LocalAct → H → H) (history : F → H) (window : ℕ) (all more : List (JobLeg H)) (notes told those : List (JobNote F))
-    → AllowsMore all more notes told → AreTold (HasOwnLegs done history window all notes) those
-    → AreTold (HasOwnLegs done history window more told) those
+    → AllowsMore all more notes told → AreCopiesTold (HasOwnLegs done history window all notes) those
+    → AreCopiesTold (HasOwnLegs done history window more told) those
 more_told done history window all more notes told [] allows are = tt
 more_told done history window all more notes told (Over copied ∷ later) allows (here, are) = (
   record {
@@ -168,8 +168,8 @@ more_told done history window all more notes told (Given wanted ∷ later) allow
 more_told done history window all more notes told (NoMore ∷ later) allows are =
     more_told done history window all more notes told later allows are
 
-told_join : {F : Type 0} (Holds : Copied F → Type 0) (xs ys : List (JobNote F)) → AreTold Holds xs → AreTold Holds ys
-    → AreTold Holds (xs ++ ys)
+told_join : {F : Type 0} (Holds : Copied F → Type 0) (xs ys : List (JobNote F)) → AreCopiesTold Holds xs → AreCopiesTold Holds ys
+    → AreCopiesTold Holds (xs ++ ys)
 told_join Holds [] ys x y = y
 told_join Holds (Over copied ∷ xs) ys (here, x) y = (here, told_join Holds xs ys x y)
 told_join Holds (Given wanted ∷ xs) ys x y = told_join Holds xs ys x y
@@ -265,7 +265,7 @@ turn_under_way {F = F} done history window all notes core after old new result g
 pub record AreCopies {F H : Type 0} (done : LocalAct → H → H) (history : F → H) (window : ℕ) (all : List (JobLeg H))
     (notes : List (JobNote F)) (copies : List (Running F)) : Type 0 where
   pub under_way : AreUnderWay done history window all notes copies
-  pub told : AreTold (HasOwnLegs done history window all notes) notes
+  pub told : AreCopiesTold (HasOwnLegs done history window all notes) notes
 
 turn_copies : {F H : Type 0} (done : LocalAct → H → H) (history : F → H) (window : ℕ) (all : List (JobLeg H)) (notes : List (JobNote F))
     (core after : Core) (old new : List (Running F)) (result : Progress) → HasGoneOn result → AreCopies done history window all notes old

@@ -11,10 +11,10 @@ use Rattle.transfer_copier.specs.CopyLegs.{HasOwnLegs, done_legs}
 use Rattle.transfer_copier.specs.Jobs.{JobNote, JobsDone, Over, all_noted, given_in, jobs_at, over_in}
 
 -- this holds of each copy that was told
-abbrev pub AreTold : {F : Type 0} → (Copied F → Type 0) → List (JobNote F) → Type 0
-AreTold Holds [] = Unit {0}
-AreTold Holds (Over copied ∷ later) = Holds copied × AreTold Holds later
-AreTold Holds (other ∷ later) = AreTold Holds later
+abbrev pub AreCopiesTold : {F : Type 0} → (Copied F → Type 0) → List (JobNote F) → Type 0
+AreCopiesTold Holds [] = Unit {0}
+AreCopiesTold Holds (Over copied ∷ later) = Holds copied × AreCopiesTold Holds later
+AreCopiesTold Holds (other ∷ later) = AreCopiesTold Holds later
 
 -- These notes were made, and of each job that was given it was told what came of it, once, and of no other: whatever
 -- jobs are counted, as many were told as given. And this holds of each copy that was told.
@@ -23,14 +23,14 @@ pub record IsEachTold {F N : Type 0} (noted : JobNote F → N → N) (Holds : Li
   pub notes : List (JobNote F)
   pub noted_all : after ≡ all_noted noted notes before
   pub each : (test : CopyJob → Bool) → over_in test notes ≡ given_in test notes
-  pub copies : AreTold (Holds notes) notes
+  pub copies : AreCopiesTold (Holds notes) notes
 
 -- These notes were made, and this holds of each copy that was told.
 pub record AreNoted {F N : Type 0} (noted : JobNote F → N → N) (Holds : List (JobNote F) → Copied F → Type 0)
     (before after : N) : Type 0 where
   pub notes : List (JobNote F)
   pub noted_all : after ≡ all_noted noted notes before
-  pub copies : AreTold (Holds notes) notes
+  pub copies : AreCopiesTold (Holds notes) notes
 
 -- All jobs over a session, of which none was under way: steps of jobs until there is none any more, and what came of
 -- each was told, each copied by legs of its own among these steps; or there was no memory, and this holds of each copy

@@ -6,7 +6,7 @@ use Rattle.call_state.specs.Calls.{CallValue, CancelsAwaited, Stepped}
 use Rattle.sftp_file.specs.declared.telling.Telling.{Telling}
 use Rattle.sftp_file.specs.Tells.{telling}
 use Rattle.sftp_client.specs.Sessions.{with_core}
-use Rattle.client_examples.specs.Sizes.{AreAwaited, GoesBySteps, going}
+use Rattle.client_examples.specs.Sizes.{AreCallsAwaited, GoesBySteps, going}
 use Rattle.client_examples.proofs.Answered.{where_done}
 use Rattle.client_examples.proofs.Asking.{awaited_after}
 use Rattle.client_examples.proofs.Sizing.{awaits_first, flush_leaves, polled_still, round_leaves, take_leaves, tells_first}
@@ -50,7 +50,7 @@ returns-in_err-flush-in-Pending-clause-awaited g c =
     let polls = subst (λ (k : Core). Stepped telling k c.poll.new.core c.args.call c.poll.new.self Pending) c.core.ensures.value c.in-Pending.ensures in
     let mid = with_core c.args.sftp.now c.poll.new.core in
     let still = polled_still g.L.LinkState.state c.args.sftp.now mid c.args.call c.poll.new.self c.args.calls.now.items c.requires.under_way polls in
-    subst (λ (l : List (CallValue Telling)). AreAwaited c.flush.new.self.core l) (sym c.push_front_reserved.ensures.items)
+    subst (λ (l : List (CallValue Telling)). AreCallsAwaited c.flush.new.self.core l) (sym c.push_front_reserved.ensures.items)
     (flush_leaves g.L.LinkState.state mid c.flush.new.self (c.poll.new.self ∷ c.args.calls.now.items) _ still c.in_err-flush-in-Pending.ensures)
 
 pub returns-in_err-take-in-Pending-clause-awaited : goal.returns-in_err-take-in-Pending-clause-awaited
@@ -58,7 +58,7 @@ returns-in_err-take-in-Pending-clause-awaited g c =
     let polls = subst (λ (k : Core). Stepped telling k c.poll.new.core c.args.call c.poll.new.self Pending) c.core.ensures.value c.in-Pending.ensures in
     let mid = with_core c.args.sftp.now c.poll.new.core in
     let still = polled_still g.L.LinkState.state c.args.sftp.now mid c.args.call c.poll.new.self c.args.calls.now.items c.requires.under_way polls in
-    subst (λ (l : List (CallValue Telling)). AreAwaited c.take.new.self.core l) (sym c.push_front_reserved.ensures.items)
+    subst (λ (l : List (CallValue Telling)). AreCallsAwaited c.take.new.self.core l) (sym c.push_front_reserved.ensures.items)
     (take_leaves g.L.LinkState.state mid c.flush.new.self c.take.new.self (c.poll.new.self ∷ c.args.calls.now.items) _ still
     c.in_ok-flush-in-Pending.ensures c.in_err-take-in-Pending.ensures)
 
@@ -82,7 +82,7 @@ returns-in_ok-take-in-Pending-clause-awaited g c =
     let polls = subst (λ (k : Core). Stepped telling k c.poll.new.core c.args.call c.poll.new.self Pending) c.core.ensures.value c.in-Pending.ensures in
     let mid = with_core c.args.sftp.now c.poll.new.core in
     let still = polled_still g.L.LinkState.state c.args.sftp.now mid c.args.call c.poll.new.self c.args.calls.now.items c.requires.under_way polls in
-    subst (λ (l : List (CallValue Telling)). AreAwaited c.take.new.self.core l) (sym c.push_front_reserved.ensures.items)
+    subst (λ (l : List (CallValue Telling)). AreCallsAwaited c.take.new.self.core l) (sym c.push_front_reserved.ensures.items)
     (round_leaves g.L.LinkState.state mid c.take.new.self (c.poll.new.self ∷ c.args.calls.now.items) still (record {
       mid = c.flush.new.self;
       took = c.in_ok-take-in-Pending.field-0;
