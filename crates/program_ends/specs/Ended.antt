@@ -23,8 +23,8 @@ use Rattle.sftp_link.specs.Told.{Told, Same, WroteBytes, WentLess, ReadUpTo}
 use Rattle.sftp_link.specs.Views.{DialView, LastLink, SinkView, SourceView}
 use Rattle.sftp_map_server.specs.Serving.{Serving, first_state, opened}
 use Rattle.sftp_map_server.specs.Unopened.{IsUnopened}
-use Rattle.sftp_script.specs.declared.reason.Reason.{Reason}
-use Rattle.sftp_script.specs.declared.reason.Reason.TheVariants as reason
+use Rattle.script_words.specs.declared.reason.Reason.{Reason}
+use Rattle.script_words.specs.declared.reason.Reason.TheVariants as reason
 use Rattle.sftp_script.specs.declared.script.Script.{Script}
 use Rattle.sftp_script.specs.Scripts.{MAX_SCRIPT_LEN}
 use Rattle.program_ends.specs.declared.ending.Answered.{Answered}

@@ -2,7 +2,7 @@
 ghost use Rattle.std.specs.Prelude.{◌≡◌, [], Some, Ok, IfOk, IfErr};
 ghost use Rattle.sftp_link.specs.Views.{last_of};
 ghost use Rattle.sftp_script.specs.CanRun.{CanBegin};
-ghost use Rattle.sftp_script.specs.Refusals.{RefusesScript};
+ghost use Rattle.script_words.specs.Refusals.{RefusesScript};
 ghost use Rattle.program_ends.specs.Ended.{IsNewServer, RefusesLong};
 
 use crate::printed::Printed;

@@ -15,14 +15,14 @@ use Rattle.hex.proofs.HexLemmas.{decode_of-ok}
 use Rattle.ssh_encoding.specs.Reading.{◌>>=◌}
 use Rattle.machine_model.specs.Components.{Name, components, is_within, same_name}
 use Rattle.machine_model.specs.FirstTree.{are_apart, may_be_named, stand_apart}
-use Rattle.sftp_script.specs.declared.error.LineError.{LineError}
-use Rattle.sftp_script.specs.declared.error.LineError.TheVariants as line
-use Rattle.sftp_script.specs.declared.error.ScriptError.{ScriptError}
-use Rattle.sftp_script.specs.declared.error.ScriptError.TheVariants as script
-use Rattle.sftp_script.specs.declared.reason.Reason.{Reason}
-use Rattle.sftp_script.specs.declared.reason.Reason.TheVariants as reason
+use Rattle.script_words.specs.declared.error.LineError.{LineError}
+use Rattle.script_words.specs.declared.error.LineError.TheVariants as line
+use Rattle.script_words.specs.declared.error.ScriptError.{ScriptError}
+use Rattle.script_words.specs.declared.error.ScriptError.TheVariants as script
+use Rattle.script_words.specs.declared.reason.Reason.{Reason}
+use Rattle.script_words.specs.declared.reason.Reason.TheVariants as reason
 use Rattle.sftp_script.specs.CanRun.{CanBegin}
-use Rattle.sftp_script.specs.Lines.{
+use Rattle.script_words.specs.Lines.{
   bytes_in,
   go_on,
   or_hex,
@@ -39,10 +39,10 @@ use Rattle.sftp_script.specs.Lines.{
   within,
   words_of,
 }
-use Rattle.sftp_script.specs.Refusals.{RefusesLine, RefusesIn, RefusesScript}
+use Rattle.script_words.specs.Refusals.{RefusesLine, RefusesIn, RefusesScript}
 use Rattle.sftp_script.specs.Scripts.{MAX_SCRIPT_LEN}
 use Rattle.sftp_script.specs.Setup.{Draft, path_in, setup_line, unless_said}
-use Rattle.sftp_script.proofs.FitCounts.{lines_cost, lines_fit, words_fit, words_len}
+use Rattle.script_words.proofs.FitCounts.{lines_cost, lines_fit, words_fit, words_len}
 use Rattle.sftp_script.proofs.SetupLaws.{setup_kept}
 use Rattle.mirror_jobs.specs.declared.job.Job.{Job}
 use Rattle.mirror_jobs.specs.declared.job.Job.TheVariants as job

@@ -27,9 +27,9 @@ use Rattle.std.specs.Str.{bytes_eq}
 use Rattle.ssh_encoding.specs.Reading.{◌>>=◌}
 use Rattle.machine_model.specs.Components.{Name, components, same_name}
 use Rattle.machine_model.specs.FirstTree.{are_apart}
-use Rattle.sftp_script.specs.declared.reason.Reason.{Reason}
-use Rattle.sftp_script.specs.declared.reason.Reason.TheVariants as reason
-use Rattle.sftp_script.specs.Lines.{bytes_in, greatest_u32, lines_of, number_in, or_read, read_by, two_words}
+use Rattle.script_words.specs.declared.reason.Reason.{Reason}
+use Rattle.script_words.specs.declared.reason.Reason.TheVariants as reason
+use Rattle.script_words.specs.Lines.{bytes_in, greatest_u32, lines_of, number_in, or_read, read_by, two_words}
 use Rattle.sftp_script.specs.Scripts.{MAX_SCRIPT_LEN, empty_script}
 use Rattle.sftp_script.specs.Setup.{Draft, path_in, setup_line, unless_said}
 use Rattle.mirror_jobs.specs.declared.job.Job.{Job}

@@ -2,8 +2,8 @@
 ghost use Rattle.std.specs.Prelude.{◌≡◌, IfErr, IfOk, Ok, OnOk};
 ghost use Rattle.machine_model.specs.Components.{components};
 ghost use Rattle.mirror_jobs.specs.Jobs.{name_of};
-ghost use Rattle.sftp_script.specs.Lines.{two_words, words_of};
-ghost use Rattle.sftp_script.specs.Refusals.{RefusesLine, RefusesScript};
+ghost use Rattle.script_words.specs.Lines.{two_words, words_of};
+ghost use Rattle.script_words.specs.Refusals.{RefusesLine, RefusesScript};
 ghost use Rattle.sftp_script.specs.Setup.{path_in};
 ghost use Rattle.sftp_mirror.specs.CanCopy.{CanCopy};
 ghost use Rattle.sftp_mirror.specs.Lists.{content_in, down_line, job_line, line_by, list_of, name_in, nothing_read, up_line, with_job};
@@ -157,7 +157,7 @@ impl ListDraft {
     }
 
     /// The words after `up`.
-    #[tactic(auto, using(sftp_script::proofs::Counts::not_two))]
+    #[tactic(auto, using(script_words::proofs::Counts::not_two))]
     fn up_line(&mut self, alloc: Global, line: &[u8]) -> Result<(), LineError>
         ensures ok { OnOk result (two_words (up_line self.old) (words_of line.now) ≡ Ok self.new) }
         ensures refused { IfErr result (λ e. RefusesLine (two_words (up_line self.old) (words_of line.now)) e) }
@@ -167,7 +167,7 @@ impl ListDraft {
     }
 
     /// The words after `down`.
-    #[tactic(auto, using(sftp_script::proofs::Counts::not_two))]
+    #[tactic(auto, using(script_words::proofs::Counts::not_two))]
     fn down_line(&mut self, alloc: Global, line: &[u8]) -> Result<(), LineError>
         ensures ok { OnOk result (two_words (down_line self.old) (words_of line.now) ≡ Ok self.new) }
         ensures refused { IfErr result (λ e. RefusesLine (two_words (down_line self.old) (words_of line.now)) e) }

@@ -27,10 +27,10 @@ use Rattle.hex.specs.Hex.{decode_of}
 use Rattle.hex.specs.declared.error.FromHexError.{FromHexError}
 use Rattle.plan_model.specs.declared.call.Call.{Call}
 use Rattle.plan_model.specs.declared.call.Call.TheVariants as call
-use Rattle.sftp_script.specs.declared.reason.Reason.{Reason}
-use Rattle.sftp_script.specs.declared.reason.Reason.TheVariants as reason
+use Rattle.script_words.specs.declared.reason.Reason.{Reason}
+use Rattle.script_words.specs.declared.reason.Reason.TheVariants as reason
 use Rattle.plan_model.specs.Lanes.{fits_u64, is_short, is_slot, is_some_long, is_within, weight}
-use Rattle.sftp_script.specs.Lines.{
+use Rattle.script_words.specs.Lines.{
   map_ok,
   number_of,
   within,
@@ -42,31 +42,10 @@ use Rattle.sftp_script.specs.Lines.{
   greatest_u64,
 }
 use Rattle.ssh_encoding.specs.Writing.{or_else}
-use Rattle.sftp_script.specs.Scripts.{
-  slot_in,
-  number_u32,
-  number_u64,
-  mode_in,
-  some_in,
-  position_in,
-  buffer_len,
-  one,
-  two,
-  three,
-  seek,
-  each_in,
-  parts_in,
-  slot_call,
-  number_call,
-  write_call,
-  place_call,
-  path_call,
-  paths_call,
-  slots_call,
-  call_in,
-}
-use Rattle.sftp_script.proofs.FitCounts.{words_len}
-use Rattle.sftp_script.proofs.HexLaws.{AtMost, digits_fit}
+use Rattle.script_words.specs.Fields.{slot_in, number_u32, number_u64, mode_in, some_in, position_in, buffer_len, each_in, parts_in}
+use Rattle.sftp_script.specs.Scripts.{one, two, three, seek, slot_call, number_call, write_call, place_call, path_call, paths_call, slots_call, call_in}
+use Rattle.script_words.proofs.FitCounts.{words_len}
+use Rattle.script_words.proofs.HexLaws.{AtMost, digits_fit}
 
 -- ---- tests
 

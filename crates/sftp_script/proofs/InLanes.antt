@@ -4,12 +4,12 @@ use Rattle.std.specs.Prelude.{Option, Some, None, Result, Ok, Err, is_some}
 use Rattle.ssh_encoding.specs.Reading.{◌>>=◌}
 use Rattle.plan_model.specs.declared.call.Call.{Call}
 use Rattle.plan_model.specs.declared.call.Lane.{Lane}
-use Rattle.sftp_script.specs.declared.reason.Reason.{Reason}
-use Rattle.sftp_script.specs.declared.reason.Reason.TheVariants as reason
-use Rattle.sftp_script.specs.declared.error.LineError.{LineError}
-use Rattle.sftp_script.specs.declared.error.LineError.TheVariants as line
-use Rattle.sftp_script.specs.Refusals.{RefusesLine, RefusesIn}
-use Rattle.sftp_script.specs.Lines.{map_ok}
+use Rattle.script_words.specs.declared.reason.Reason.{Reason}
+use Rattle.script_words.specs.declared.reason.Reason.TheVariants as reason
+use Rattle.script_words.specs.declared.error.LineError.{LineError}
+use Rattle.script_words.specs.declared.error.LineError.TheVariants as line
+use Rattle.script_words.specs.Refusals.{RefusesLine, RefusesIn}
+use Rattle.script_words.specs.Lines.{map_ok}
 use Rattle.sftp_script.specs.Setup.{Draft}
 use Rattle.ssh_encoding.specs.Writing.{or_else}
 use Rattle.sftp_script.specs.Scripts.{call_line, in_lane, with_call}

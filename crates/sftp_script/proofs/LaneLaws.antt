@@ -27,22 +27,13 @@ use Rattle.ssh_encoding.specs.Reading.{◌>>=◌}
 use Rattle.plan_model.specs.declared.call.Lane.{Lane}
 use Rattle.plan_model.specs.declared.call.Call.{Call}
 use Rattle.plan_model.specs.Lanes.{is_within, weight, lane_weight}
-use Rattle.sftp_script.specs.declared.reason.Reason.{Reason}
+use Rattle.script_words.specs.declared.reason.Reason.{Reason}
 use Rattle.session_model.specs.declared.turn.Turn.{Turn}
-use Rattle.sftp_script.specs.Lines.{greatest_u32, number_in}
+use Rattle.script_words.specs.Lines.{greatest_u32, number_in}
 use Rattle.sftp_script.specs.Setup.{Draft}
-use Rattle.sftp_script.specs.Scripts.{
-  with_lane,
-  call_at_end,
-  with_call,
-  call_in,
-  in_lane,
-  call_line,
-  lane_turn,
-  session_line,
-}
+use Rattle.sftp_script.specs.Scripts.{with_lane, call_at_end, with_call, call_in, in_lane, call_line, lane_turn, session_line}
 use Rattle.sftp_script.proofs.CallLaws.{Named, So, both_true, calls_named, first_true, fits, fits_light, fits_within}
-use Rattle.sftp_script.proofs.FitCounts.{words_len}
+use Rattle.script_words.proofs.FitCounts.{words_len}
 use Rattle.sftp_script.proofs.LineLaws.{Keeps, bind_keeps, if_keeps, no_keeps, one_keeps}
 use Rattle.sftp_script.proofs.SetupLaws.{Sound}
 

@@ -1,12 +1,6 @@
-pub mod Splits
-pub mod Numbers
-pub mod Letters
-pub mod HexLaws
 pub mod Ends
-pub mod Counts
 pub mod LimitsLaws
 pub mod InLanes
-pub mod PartLaws
 pub mod Steps
 pub mod FirstLaws
 pub mod LineLaws
@@ -15,4 +9,3 @@ pub mod CallLaws
 pub mod LaneLaws
 pub mod ScriptLaws
 pub mod ServerWordLaws
-pub mod FitCounts

@@ -3,8 +3,8 @@ use Rattle.std.proofs.Common.{◌≡◌, ℕ, List, refl}
 use Rattle.std.specs.Prelude.{Result, Ok, Err, is_some}
 use Rattle.ssh_encoding.specs.Reading.{◌>>=◌}
 use Rattle.sftp_model.specs.declared.config.Limits.{Limits}
-use Rattle.sftp_script.specs.declared.reason.Reason.{Reason}
-use Rattle.sftp_script.specs.Lines.{number_in, greatest_u64}
+use Rattle.script_words.specs.declared.reason.Reason.{Reason}
+use Rattle.script_words.specs.Lines.{number_in, greatest_u64}
 use Rattle.sftp_script.specs.Setup.{Draft, limits_line, unless_said, with_limits}
 use Rattle.sftp_script.specs.Parts.{limits_in_words}
 

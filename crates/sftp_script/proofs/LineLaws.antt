@@ -1,9 +1,9 @@
 -- Parts of readings keep a fact of the script that is read.
 use Rattle.std.proofs.Common.{◌≡◌, Bool, true, false, List, [], ◌∷◌, ℕ, Option, Some, None, Result, Ok, Err, if◌then◌else◌, refl}
 use Rattle.ssh_encoding.specs.Reading.{◌>>=◌}
-use Rattle.sftp_script.specs.declared.reason.Reason.{Reason}
+use Rattle.script_words.specs.declared.reason.Reason.{Reason}
 use Rattle.sftp_script.specs.declared.script.Script.{Script}
-use Rattle.sftp_script.specs.Lines.{no_word, one_word, or_read, two_words, four_words}
+use Rattle.script_words.specs.Lines.{no_word, one_word, or_read, two_words, four_words}
 use Rattle.sftp_script.specs.Setup.{Draft, unless_said}
 
 abbrev pub Fact : Type 1

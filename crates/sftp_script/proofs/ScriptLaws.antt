@@ -4,23 +4,15 @@ use Rattle.std.specs.Prelude.{◌*◌, ◌&&◌, nat_lt}
 use Rattle.std.specs.List.{list_all, sum_by}
 use Rattle.std.proofs.lemmas.Bool.Decides.{nat_tests}
 use Rattle.plan_model.specs.Lanes.{are_ok, lane_weight, weight_limit}
-use Rattle.sftp_script.specs.declared.reason.Reason.{Reason}
-use Rattle.sftp_script.specs.declared.reason.Reason.TheVariants as reason
+use Rattle.script_words.specs.declared.reason.Reason.{Reason}
+use Rattle.script_words.specs.declared.reason.Reason.TheVariants as reason
 use Rattle.sftp_script.specs.declared.script.Script.{Script}
 use Rattle.sftp_script.specs.CanRun.{CanRun}
-use Rattle.sftp_script.specs.Lines.{go_on, is_comment, line_of, lines_of, read_by, read_line, words_of}
+use Rattle.script_words.specs.Lines.{go_on, is_comment, line_of, lines_of, read_by, read_line, words_of}
 use Rattle.sftp_script.specs.Setup.{Draft, setup_line}
-use Rattle.sftp_script.specs.Scripts.{
-  MAX_SCRIPT_LEN,
-  empty_script,
-  line_by,
-  read_lines,
-  script_in,
-  script_of,
-  session_line,
-}
+use Rattle.sftp_script.specs.Scripts.{MAX_SCRIPT_LEN, empty_script, line_by, read_lines, script_in, script_of, session_line}
 use Rattle.sftp_script.proofs.CallLaws.{both_true}
-use Rattle.sftp_script.proofs.FitCounts.{line_cost, lines_cost, lines_fit, words_fit, words_len}
+use Rattle.script_words.proofs.FitCounts.{line_cost, lines_cost, lines_fit, words_fit, words_len}
 use Rattle.sftp_script.proofs.LaneLaws.{Within, lane_ok, roomier, session_keeps}
 use Rattle.sftp_script.proofs.LineLaws.{Keeps, if_keeps, or_keeps}
 use Rattle.sftp_script.proofs.SetupLaws.{Sound, setup_keeps}

@@ -5,14 +5,14 @@ use Rattle.std.specs.Str.{bytes_eq}
 use Rattle.ssh_encoding.specs.Reading.{◌>>=◌}
 use Rattle.plan_model.specs.declared.call.Lane.{Lane}
 use Rattle.plan_model.specs.Lanes.{are_ok}
-use Rattle.sftp_script.specs.declared.reason.Reason.{Reason}
+use Rattle.script_words.specs.declared.reason.Reason.{Reason}
 use Rattle.sftp_script.specs.declared.script.Script.{Script}
-use Rattle.sftp_script.specs.Lines.{words_of}
+use Rattle.script_words.specs.Lines.{words_of}
 use Rattle.sftp_script.specs.Setup.{Draft, dir_line, file_line}
 use Rattle.sftp_script.specs.Scripts.{empty_script}
-use Rattle.sftp_script.specs.declared.error.LineError.{LineError}
-use Rattle.sftp_script.specs.declared.error.LineError.TheVariants as line
-use Rattle.sftp_script.specs.Refusals.{RefusesLine}
+use Rattle.script_words.specs.declared.error.LineError.{LineError}
+use Rattle.script_words.specs.declared.error.LineError.TheVariants as line
+use Rattle.script_words.specs.Refusals.{RefusesLine}
 use Rattle.sftp_script.specs.ServerWords.{first_line, first_line_by, offer_line, read_first, server_of}
 use Rattle.sftp_script.specs.CanRun.{CanRun}
 use Rattle.sftp_script.proofs.LineLaws.{Fact, Keeps, if_keeps, one_keeps, two_keeps}

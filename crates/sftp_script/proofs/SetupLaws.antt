@@ -39,11 +39,11 @@ use Rattle.sftp_model.specs.Readings.{has_bit}
 use Rattle.machine_model.specs.Components.{components}
 use Rattle.machine_model.specs.FirstTree.{may_be_named, may_begin}
 use Rattle.plan_model.specs.declared.call.Lane.{Lane}
-use Rattle.sftp_script.specs.declared.reason.Reason.{Reason}
-use Rattle.sftp_script.specs.declared.reason.Reason.TheVariants as reason
+use Rattle.script_words.specs.declared.reason.Reason.{Reason}
+use Rattle.script_words.specs.declared.reason.Reason.TheVariants as reason
 use Rattle.sftp_script.specs.declared.script.Script.{Script}
 use Rattle.sftp_script.specs.CanRun.{CanBegin}
-use Rattle.sftp_script.specs.Lines.{bytes_in, greatest_u32, greatest_u64, number_in, number_of, within}
+use Rattle.script_words.specs.Lines.{bytes_in, greatest_u32, greatest_u64, number_in, number_of, within}
 use Rattle.sftp_script.specs.Setup.{
   Draft,
   choice_line,

@@ -2,17 +2,17 @@
 use Rattle.std.proofs.Common.{◌≡◌, ◌≤◌, ◌+◌, ◌∷◌, [], ℕ, Bool, true, false, List, length, if◌then◌else◌, refl, arith}
 use Rattle.std.specs.Prelude.{Option, Some, None, Result, Ok, Err, nat_lt}
 use Rattle.std.proofs.lemmas.Bool.Decides.{nat_tests}
-use Rattle.sftp_script.specs.declared.reason.Reason.{Reason}
-use Rattle.sftp_script.specs.declared.reason.Reason.TheVariants as reason
+use Rattle.script_words.specs.declared.reason.Reason.{Reason}
+use Rattle.script_words.specs.declared.reason.Reason.TheVariants as reason
 use Rattle.sftp_script.specs.declared.script.Script.{Script}
-use Rattle.sftp_script.specs.Lines.{lines_of, or_read, read_by, read_line}
+use Rattle.script_words.specs.Lines.{lines_of, or_read, read_by, read_line}
 use Rattle.sftp_script.specs.Setup.{Draft}
 use Rattle.sftp_script.specs.Scripts.{MAX_SCRIPT_LEN, empty_script, line_by, read_lines, script_in, script_of}
-use Rattle.sftp_script.specs.declared.error.LineError.{LineError}
-use Rattle.sftp_script.specs.declared.error.LineError.TheVariants as line
-use Rattle.sftp_script.specs.declared.error.ScriptError.{ScriptError}
-use Rattle.sftp_script.specs.declared.error.ScriptError.TheVariants as script
-use Rattle.sftp_script.specs.Refusals.{RefusesLine, RefusesIn, RefusesScript, at_line}
+use Rattle.script_words.specs.declared.error.LineError.{LineError}
+use Rattle.script_words.specs.declared.error.LineError.TheVariants as line
+use Rattle.script_words.specs.declared.error.ScriptError.{ScriptError}
+use Rattle.script_words.specs.declared.error.ScriptError.TheVariants as script
+use Rattle.script_words.specs.Refusals.{RefusesLine, RefusesIn, RefusesScript, at_line}
 
 -- what a line makes of what was read before it
 abbrev LineBy : Type 0 → Type 0

@@ -4,8 +4,8 @@ use Rattle.std.specs.declared.io.traits.SeekFrom.TheVariants as position
 use Rattle.plan_model.specs.declared.call.Call.{Call}
 use Rattle.plan_model.specs.declared.call.Call.TheVariants as call
 use Rattle.hex.specs.Hex.{decode_pairs}
-use Rattle.sftp_script.specs.declared.reason.Reason.{Reason}
-use Rattle.sftp_script.specs.declared.reason.Reason.TheVariants as reason
+use Rattle.script_words.specs.declared.reason.Reason.{Reason}
+use Rattle.script_words.specs.declared.reason.Reason.TheVariants as reason
 use Rattle.sftp_script.specs.declared.script.Script.{Script}
 use Rattle.sftp_script.specs.Scripts.{empty_script, script_of}
 use Rattle.session_model.specs.RowWords.{to_read}

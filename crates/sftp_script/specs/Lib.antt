@@ -1,7 +1,5 @@
-pub mod Refusals
 pub mod Parts
 pub mod ServerWords
-pub mod Lines
 pub mod Setup
 pub mod CanRun
 pub mod Scripts

@@ -3,8 +3,8 @@ use Rattle.std.specs.Prelude.{ℕ, List, [], ◌∷◌, ◌++◌, Result, Ok}
 use Rattle.ssh_encoding.specs.Reading.{◌>>=◌}
 use Rattle.sftp_model.specs.declared.config.Limits.{Limits}
 use Rattle.machine_model.specs.FirstTree.{FirstFile}
-use Rattle.sftp_script.specs.declared.reason.Reason.{Reason}
-use Rattle.sftp_script.specs.Lines.{number_in, greatest_u64}
+use Rattle.script_words.specs.declared.reason.Reason.{Reason}
+use Rattle.script_words.specs.Lines.{number_in, greatest_u64}
 use Rattle.sftp_script.specs.Setup.{Draft}
 
 -- the first files, each a path and its bytes, and the paths of the first directories

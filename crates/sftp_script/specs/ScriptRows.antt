@@ -1,13 +1,11 @@
 -- Worked scripts, and beside them what nearly is one.
-use Rattle.std.specs.Prelude.{ℕ, ◌≡◌, ◌∷◌, ◌++◌, List, [], true, codes, Some, None, Result, Ok, Err, refl}
-use Rattle.sftp_model.specs.OpenOptions.{nothing_chosen}
+use Rattle.std.specs.Prelude.{ℕ, ◌≡◌, ◌∷◌, ◌++◌, List, [], codes, Some, Result, Ok, Err, refl}
 use Rattle.plan_model.specs.declared.call.Call.TheVariants as call
 use Rattle.hex.specs.Hex.{decode_pairs}
-use Rattle.sftp_script.specs.declared.reason.Reason.{Reason}
-use Rattle.sftp_script.specs.declared.reason.Reason.TheVariants as reason
+use Rattle.script_words.specs.declared.reason.Reason.{Reason}
+use Rattle.script_words.specs.declared.reason.Reason.TheVariants as reason
 use Rattle.sftp_script.specs.declared.script.Script.{Script}
 use Rattle.session_model.specs.declared.turn.Turn.TheVariants as turn
-use Rattle.sftp_script.specs.Lines.{lines_of, words_of, number_of, bytes_in, flags_in}
 use Rattle.sftp_script.specs.Scripts.{script_of, empty_script}
 use Rattle.machine_model.specs.Components.{components}
 use Rattle.session_model.specs.RowWords.{to_read}
@@ -16,52 +14,6 @@ use Rattle.session_model.specs.RowWords.{to_read}
 abbrev pub text : List (List ℕ) → List ℕ
 text [] = []
 text (line ∷ lines) = line ++ 10 ∷ text lines
-
--- ---- lines and words
-
-pub no_lines : lines_of [] ≡ []
-no_lines = refl
-
-pub one_line : lines_of (codes "a") ≡ codes "a" ∷ []
-one_line = refl
-
-pub one_ended_line : lines_of (codes "a" ++ 10 ∷ []) ≡ codes "a" ∷ []
-one_ended_line = refl
-
-pub empty_line : lines_of (10 ∷ 10 ∷ codes "b") ≡ [] ∷ [] ∷ codes "b" ∷ []
-empty_line = refl
-
-pub three_words : words_of (codes "  a bc  d ") ≡ codes "a" ∷ codes "bc" ∷ codes "d" ∷ []
-three_words = refl
-
-pub no_words : words_of (codes "   ") ≡ []
-no_words = refl
-
-pub leading_zeros : number_of (codes "007") ≡ Some 7
-leading_zeros = refl
-
-pub signed : number_of (codes "+1") ≡ None
-signed = refl
-
-pub upper_and_lower : bytes_in (codes "fF0a") ≡ Ok (255 ∷ 10 ∷ [])
-unfolding decode_pairs
-upper_and_lower = refl
-
-pub no_bytes : bytes_in (codes "-") ≡ Ok []
-no_bytes = refl
-
-pub odd_digits : bytes_in (codes "fF0") ≡ Err reason.Hex
-odd_digits = refl
-
-pub no_digit : bytes_in (codes "0g") ≡ Err reason.Hex
-unfolding decode_pairs
-no_digit = refl
-
-pub flag_twice : flags_in (codes "rwr") ≡ Err reason.Mode
-flag_twice = refl
-
-pub flags_in_any_order : flags_in (codes "cw") ≡ Ok (record nothing_chosen { write = true; create = true })
-flags_in_any_order = refl
 
 -- ---- scripts
 

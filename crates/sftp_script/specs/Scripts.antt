@@ -18,33 +18,41 @@ use Rattle.std.specs.Prelude.{
 }
 use Rattle.std.specs.Str.{bytes_eq}
 use Rattle.std.specs.declared.io.traits.SeekFrom.{SeekFrom}
-use Rattle.std.specs.declared.io.traits.SeekFrom.TheVariants as position
 use Rattle.ssh_encoding.specs.Reading.{◌>>=◌}
 use Rattle.ssh_encoding.specs.Writing.{or_else}
 use Rattle.sftp_model.specs.Options.{default_options}
 use Rattle.plan_model.specs.declared.call.Call.{Call}
 use Rattle.plan_model.specs.declared.call.Call.TheVariants as call
 use Rattle.plan_model.specs.declared.call.Lane.{Lane}
-use Rattle.sftp_script.specs.declared.reason.Reason.{Reason}
-use Rattle.sftp_script.specs.declared.reason.Reason.TheVariants as reason
+use Rattle.script_words.specs.declared.reason.Reason.{Reason}
+use Rattle.script_words.specs.declared.reason.Reason.TheVariants as reason
 use Rattle.sftp_script.specs.declared.script.Script.{Script}
 use Rattle.session_model.specs.declared.turn.Turn.{Turn}
 use Rattle.session_model.specs.declared.turn.Turn.TheVariants as turn
-use Rattle.sftp_script.specs.Lines.{
+use Rattle.script_words.specs.Lines.{
   lines_of,
   map_ok,
   number_in,
-  signed_in,
   bytes_in,
   flags_in,
   no_word,
   one_word,
-  two_words,
   three_words,
   greatest_u32,
-  greatest_u64,
   or_read,
   read_by,
+}
+use Rattle.script_words.specs.Fields.{
+  slot_in,
+  number_u32,
+  number_u64,
+  mode_in,
+  some_in,
+  seek_in,
+  buffer_len,
+  pair,
+  triple,
+  parts_in,
 }
 use Rattle.sftp_script.specs.Setup.{Draft, setup_line}
 
@@ -82,55 +90,6 @@ with_call d c = record d { script = record d.script { lanes = call_at_end d.scri
 abbrev pub with_turn : Draft → Turn → Draft
 with_turn d t = record d { script = record d.script { turns = d.script.turns ++ t ∷ [] } }
 
--- the number of a slot
-abbrev pub slot_in : List ℕ → Result ℕ Reason
-slot_in word = number_in 0 15 word
-
--- a number of 32 bits, and one of 64
-abbrev pub number_u32 : List ℕ → Result ℕ Reason
-number_u32 word = number_in 0 greatest_u32 word
-
-abbrev pub number_u64 : List ℕ → Result ℕ Reason
-number_u64 word = number_in 0 greatest_u64 word
-
--- the bits of a mode
-abbrev pub mode_in : List ℕ → Result ℕ Reason
-mode_in word = number_in 0 65535 word
-
--- `-` for none, or what a word spells
-abbrev pub some_in : (List ℕ → Result ℕ Reason) → List ℕ → Result (Option ℕ) Reason
-some_in read word = if bytes_eq word (codes "-") then Ok None else map_ok Some (read word)
-
--- where a seek leads, by its kind and its number
-abbrev pub position_in : List ℕ → List ℕ → Result SeekFrom Reason
-position_in kind word =
-    if bytes_eq kind (codes "start") then map_ok position.Start (number_u64 word)
-    else if bytes_eq kind (codes "cur") then map_ok position.Current (signed_in word)
-    else if bytes_eq kind (codes "end") then map_ok position.End (signed_in word)
-    else Err reason.Mode
-
--- the words of a seek
-abbrev pub seek_in : List ℕ → List ℕ → List ℕ → Result (ℕ × SeekFrom) Reason
-seek_in a b c = do
-  slot ← slot_in a
-  to ← position_in b c
-  Ok (slot, to)
-
--- the length of a buffer
-abbrev pub buffer_len : List ℕ → Result ℕ Reason
-buffer_len word = number_in 1 1048576 word
-
--- two fields, of which each has its reading
-abbrev pub pair : {A B : Type 0} → (List ℕ → Result A Reason) → (List ℕ → Result B Reason) → List (List ℕ)
-    → Result (A × B) Reason
-pair first second words = two_words (λ a b. first a >>= λ x. second b >>= λ y. Ok (x, y)) words
-
--- three fields
-abbrev pub triple : {A B C : Type 0} → (List ℕ → Result A Reason) → (List ℕ → Result B Reason)
-    → (List ℕ → Result C Reason) → List (List ℕ) → Result (A × B × C) Reason
-triple first second third words = three_words (λ a b c. first a >>= λ x. second b >>= λ y. third c >>= λ z. Ok
-    (x, y, z)) words
-
 -- a call of one field
 abbrev pub one : {A : Type 0} → (List ℕ → Result A Reason) → (A → Call) → List (List ℕ) → Result Call Reason
 one first made words = map_ok made (one_word first words)
@@ -148,16 +107,6 @@ three first second third made words = map_ok (λ p. made p.0 p.1 p.2) (triple fi
 -- a call that is a seek
 abbrev pub seek : (ℕ → SeekFrom → Call) → List (List ℕ) → Result Call Reason
 seek made words = map_ok (λ p. made p.0 p.1) (three_words seek_in words)
-
--- each of these words by its reading, in their order, up to the first refusal
-abbrev pub each_in : {A : Type 0} → (List ℕ → Result A Reason) → List (List ℕ) → Result (List A) Reason
-each_in read [] = Ok []
-each_in read (word ∷ words) = read word >>= λ x. each_in read words >>= λ xs. Ok (x ∷ xs)
-
--- a slot, and one part or more
-abbrev pub parts_in : List (List ℕ) → Result (ℕ × List (List ℕ)) Reason
-parts_in (a ∷ b ∷ words) = slot_in a >>= λ slot. each_in bytes_in (b ∷ words) >>= λ parts. Ok (slot, parts)
-parts_in words = Err reason.Count
 
 -- a call that names a slot alone, by its first word and the words after it
 abbrev pub slot_call : List ℕ → List (List ℕ) → Option (Result Call Reason)

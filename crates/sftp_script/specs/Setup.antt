@@ -37,10 +37,10 @@ use Rattle.sftp_model.specs.Readings.{has_bit}
 use Rattle.machine_model.specs.Components.{Name, components, is_within, same_name}
 use Rattle.machine_model.specs.FirstTree.{FirstFile, are_apart, may_be_named, name_of}
 use Rattle.machine_model.specs.Limits.{MAX_FILE_LEN, MAX_TOTAL_LEN}
-use Rattle.sftp_script.specs.declared.reason.Reason.{Reason}
-use Rattle.sftp_script.specs.declared.reason.Reason.TheVariants as reason
+use Rattle.script_words.specs.declared.reason.Reason.{Reason}
+use Rattle.script_words.specs.declared.reason.Reason.TheVariants as reason
 use Rattle.sftp_script.specs.declared.script.Script.{Script}
-use Rattle.sftp_script.specs.Lines.{number_in, bytes_in, one_word, two_words, four_words, greatest_u32, greatest_u64}
+use Rattle.script_words.specs.Lines.{number_in, bytes_in, one_word, two_words, four_words, greatest_u32, greatest_u64}
 
 -- what was read so far: the script, and which options it names, by the order of their table
 pub record Draft : Type 0 where

@@ -1,18 +1,16 @@
 //! The lines of calls.
 ghost use Rattle.std.specs.Prelude.{◌≡◌, Ok, IfOk, OnOk, IfErr, is_some};
 ghost use Rattle.std.specs.Option.{option_map};
-ghost use Rattle.sftp_script.specs.Lines.{words_of};
+ghost use Rattle.script_words.specs.Lines.{words_of};
 ghost use Rattle.sftp_script.specs.Scripts.{call_in, call_line, number_call, path_call, paths_call, place_call, slot_call, slots_call, write_call};
-ghost use Rattle.sftp_script.specs.Refusals.{RefusesLine, RefusesIn};
+ghost use Rattle.script_words.specs.Refusals.{RefusesLine, RefusesIn};
 
 use crate::draft::Draft;
-use crate::error::LineError;
-use crate::fields::{
+use script_words::fields::{
     Bound, Bytes, Flags, Len, Long, Mode, Number, Slot, SomeMode, SomeSize, one, pair,
     slot_and_position, triple,
 };
-use crate::parts::slot_and_parts;
-use crate::reason::Reason;
+use script_words::{LineError, Reason, slot_and_parts};
 use session_model::Call;
 use std::alloc::Global;
 

@@ -3,20 +3,19 @@ ghost use Rattle.std.specs.Prelude.{◌≡◌, ◌++◌, ◌∷◌, ◌≤◌, �
 ghost use Rattle.std.specs.List.{list_any};
 ghost use Rattle.std.specs.Int.RustNames.{bit_or};
 ghost use Rattle.sftp_model.specs.Readings.{has_bit};
-ghost use Rattle.sftp_script.specs.Lines.{words_of};
+ghost use Rattle.script_words.specs.Lines.{words_of};
 ghost use Rattle.sftp_script.specs.Setup.{with_options, unless_said, may_add, meets_file, meets_dir, setup_line, with_extension, with_limits};
 ghost use Rattle.sftp_script.specs.Scripts.{empty_script, with_lane, with_turn, call_at_end, with_call};
 ghost use Rattle.machine_model.specs.Components.{components};
 ghost use Rattle.sftp_script.specs.Parts.{with_cut, with_dir, with_file};
 ghost use Rattle.sftp_script.specs.CanRun.{CanBegin};
-ghost use Rattle.sftp_script.specs.Refusals.{RefusesLine, RefusesIn};
+ghost use Rattle.script_words.specs.Refusals.{RefusesLine, RefusesIn};
 
-use crate::error::LineError;
 use crate::first::FirstTree;
-use crate::reason::Reason;
 use crate::script::Script;
 use crate::setup::setup_line;
 use bitflags::Flags;
+use script_words::{LineError, Reason};
 use session_model::{Call, Lane, Turn};
 use sftp_model::{Choice, Extensions, Limits, ServerConfig, SftpOptions};
 use sftp_values::{ByteText, Items};

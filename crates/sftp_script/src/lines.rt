@@ -1,16 +1,14 @@
 //! The lines of lanes, turns and calls.
 ghost use Rattle.std.specs.Prelude.{◌≡◌, Ok, OnOk, IfErr};
 ghost use Rattle.session_model.specs.declared.turn.Turn.TheVariants as turns;
-ghost use Rattle.sftp_script.specs.Lines.{words_of, no_word, one_word};
+ghost use Rattle.script_words.specs.Lines.{words_of, no_word, one_word};
 ghost use Rattle.sftp_script.specs.Scripts.{lane_turn, line_by, session_line, with_lane, with_turn};
-ghost use Rattle.sftp_script.specs.Refusals.{RefusesLine};
+ghost use Rattle.script_words.specs.Refusals.{RefusesLine};
 
 use crate::calls::call_line;
 use crate::draft::Draft;
-use crate::error::LineError;
-use crate::number::number_from;
 use crate::reader::LineReader;
-use crate::words::{no_word, one_word};
+use script_words::{LineError, no_word, number_from, one_word};
 use session_model::Turn;
 use std::alloc::Global;
 
@@ -25,7 +23,7 @@ const FLUSH: &[u8] = b"flush";
 const TAKE: &[u8] = b"take";
 
 /// The line of a lane.
-#[tactic(auto, using(crate::proofs::Counts::not_none))]
+#[tactic(auto, using(script_words::proofs::Counts::not_none))]
 fn lane_line(alloc: Global, draft: &mut Draft, line: &[u8]) -> Result<(), LineError>
     ensures ok { OnOk result (no_word (with_lane draft.old) (words_of line.now) ≡ Ok draft.new) }
     ensures refused { IfErr result (λ e. RefusesLine (no_word (with_lane draft.old) (words_of line.now)) e) }
@@ -36,7 +34,7 @@ fn lane_line(alloc: Global, draft: &mut Draft, line: &[u8]) -> Result<(), LineEr
 }
 
 /// The line of a turn that names no lane.
-#[tactic(auto, using(crate::proofs::Counts::not_none))]
+#[tactic(auto, using(script_words::proofs::Counts::not_none))]
 fn turn_line(draft: &mut Draft, turn: Turn, line: &[u8]) -> Result<(), LineError>
     ensures ok { OnOk result (no_word (with_turn draft.old turn) (words_of line.now) ≡ Ok draft.new) }
     ensures refused { IfErr result (λ e. RefusesLine (no_word (with_turn draft.old turn) (words_of line.now)) e) }
@@ -47,7 +45,7 @@ fn turn_line(draft: &mut Draft, turn: Turn, line: &[u8]) -> Result<(), LineError
 }
 
 /// The word after `step`.
-#[tactic(auto, using(crate::proofs::Counts::not_one))]
+#[tactic(auto, using(script_words::proofs::Counts::not_one))]
 fn step_line(draft: &mut Draft, line: &[u8]) -> Result<(), LineError>
     ensures ok { OnOk result (one_word (lane_turn draft.old (λ n. turns.Step n)) (words_of line.now) ≡ Ok draft.new) }
     ensures refused { IfErr result (λ e. RefusesLine (one_word (lane_turn draft.old (λ n. turns.Step n)) (words_of line.now)) e) }
@@ -59,7 +57,7 @@ fn step_line(draft: &mut Draft, line: &[u8]) -> Result<(), LineError>
 }
 
 /// The word after `cancel`.
-#[tactic(auto, using(crate::proofs::Counts::not_one))]
+#[tactic(auto, using(script_words::proofs::Counts::not_one))]
 fn cancel_line(draft: &mut Draft, line: &[u8]) -> Result<(), LineError>
     ensures ok { OnOk result (one_word (lane_turn draft.old (λ n. turns.Cancel n)) (words_of line.now) ≡ Ok draft.new) }
     ensures refused { IfErr result (λ e. RefusesLine (one_word (lane_turn draft.old (λ n. turns.Cancel n)) (words_of line.now)) e) }

@@ -1,14 +1,11 @@
 //! The lines that set options of the client.
 ghost use Rattle.std.specs.Prelude.{◌≡◌, Some, Ok, OnOk, IfErr};
-ghost use Rattle.sftp_script.specs.Lines.{words_of, two_words, greatest_u32};
+ghost use Rattle.script_words.specs.Lines.{words_of, two_words, greatest_u32};
 ghost use Rattle.sftp_script.specs.Setup.{option_in, option_line};
-ghost use Rattle.sftp_script.specs.Refusals.{RefusesLine};
+ghost use Rattle.script_words.specs.Refusals.{RefusesLine};
 
 use crate::draft::Draft;
-use crate::error::LineError;
-use crate::number::{number_from, number_in};
-use crate::reason::Reason;
-use crate::words::two_words;
+use script_words::{LineError, Reason, number_from, number_in, two_words};
 
 const MAX_PENDING_REQUESTS: &[u8] = b"max_pending_requests";
 
@@ -125,7 +122,7 @@ fn set_option(draft: &mut Draft, name: &[u8], word: &[u8]) -> Result<(), LineErr
 }
 
 /// A line of an option's name and its value.
-#[tactic(auto, using(crate::proofs::Counts::not_two))]
+#[tactic(auto, using(script_words::proofs::Counts::not_two))]
 pub(crate) fn option_line(draft: &mut Draft, line: &[u8]) -> Result<(), LineError>
     ensures ok { OnOk result (two_words (option_line draft.old) (words_of line.now) ≡ Ok draft.new) }
     ensures refused { IfErr result (λ e. RefusesLine (two_words (option_line draft.old) (words_of line.now)) e) }

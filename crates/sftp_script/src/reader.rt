@@ -1,15 +1,13 @@
 //! Reads texts line by line.
 ghost use Rattle.std.specs.Prelude.{◌≡◌, ◌≤◌, Ok, OnOk, IfOk, IfErr};
-ghost use Rattle.sftp_script.specs.Lines.{is_comment, lines_of, read_by, read_line, words_of};
+ghost use Rattle.script_words.specs.Lines.{is_comment, lines_of, read_by, read_line, words_of};
 ghost use Rattle.sftp_script.specs.Scripts.{script_of};
 ghost use Rattle.sftp_script.specs.CanRun.{CanRun};
-ghost use Rattle.sftp_script.specs.Refusals.{RefusesLine, RefusesScript, at_line};
+ghost use Rattle.script_words.specs.Refusals.{RefusesLine, RefusesScript, at_line};
 
 use crate::draft::Draft;
-use crate::error::{LineError, ScriptError};
-use crate::reason::Reason;
 use crate::script::Script;
-use crate::words::{split_line, split_word};
+use script_words::{LineError, Reason, ScriptError, split_line, split_word};
 use std::alloc::Global;
 
 /// The most bytes of a script.
@@ -18,7 +16,7 @@ const MAX_SCRIPT_LEN: usize = 16777216;
 /// What the lines of a text are read into, one after another.
 pub trait LineReader {
     ghost use Rattle.std.specs.Prelude.{ℕ, List, Result};
-    ghost use Rattle.sftp_script.specs.declared.reason.Reason.{Reason};
+    ghost use Rattle.script_words.specs.declared.reason.Reason.{Reason};
 
     // what a line makes of what was read before it, by its first word and the words after it
     ghost line_by: { Self → List ℕ → List (List ℕ) → Result Self Reason };

@@ -1,14 +1,12 @@
 //! The lines on what the server offers.
 ghost use Rattle.std.specs.Prelude.{◌≡◌, ◌∷◌, Ok, Err, MatchResult};
-ghost use Rattle.sftp_script.specs.Lines.{words_of, one_word, four_words};
+ghost use Rattle.script_words.specs.Lines.{words_of, one_word, four_words};
 ghost use Rattle.sftp_script.specs.Setup.{extension_in, ext_line, limits_line, cut_line, server_line};
 ghost use Rattle.sftp_script.specs.Parts.{limits_in_words};
 
 use crate::draft::Draft;
-use crate::number::{number_from, number_in};
-use crate::reason::Reason;
-use crate::words::{four_words, one_word, split_word};
 use bitflags::Flags;
+use script_words::{Reason, four_words, number_from, number_in, one_word, split_word};
 use sftp_model::{Extensions, Limits};
 
 const POSIX_RENAME: &[u8] = b"posix-rename";
@@ -73,7 +71,7 @@ fn limits_in(packet: &[u8], read: &[u8], write: &[u8], handles: &[u8]) -> Result
 }
 
 /// The server tells its limits.
-#[tactic(auto, using(crate::proofs::Counts::not_four, crate::proofs::LimitsLaws::limits_read, crate::proofs::LimitsLaws::limits_refused))]
+#[tactic(auto, using(script_words::proofs::Counts::not_four, crate::proofs::LimitsLaws::limits_read, crate::proofs::LimitsLaws::limits_refused))]
 fn limits_line(draft: &mut Draft, line: &[u8]) -> Result<(), Reason>
     ensures { MatchResult result
         (λ _. four_words (limits_line draft.old) (words_of line.now) ≡ Ok draft.new)
@@ -93,7 +91,7 @@ fn set_cut(draft: &mut Draft, word: &[u8]) -> Result<(), Reason>
 }
 
 /// An extension's name alone.
-#[tactic(auto, using(crate::proofs::Counts::not_one))]
+#[tactic(auto, using(script_words::proofs::Counts::not_one))]
 fn ext_line(draft: &mut Draft, line: &[u8]) -> Result<(), Reason>
     ensures { MatchResult result
         (λ _. one_word (ext_line draft.old) (words_of line.now) ≡ Ok draft.new)
@@ -104,7 +102,7 @@ fn ext_line(draft: &mut Draft, line: &[u8]) -> Result<(), Reason>
 }
 
 /// A cut alone.
-#[tactic(auto, using(crate::proofs::Counts::not_one))]
+#[tactic(auto, using(script_words::proofs::Counts::not_one))]
 fn cut_line(draft: &mut Draft, line: &[u8]) -> Result<(), Reason>
     ensures { MatchResult result
         (λ _. one_word (cut_line draft.old) (words_of line.now) ≡ Ok draft.new)

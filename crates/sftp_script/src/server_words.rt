@@ -1,20 +1,18 @@
 //! Words of a command line that say what a server begins with and what it offers.
 ghost use Rattle.std.specs.Prelude.{◌≡◌, ◌∷◌, [], Ok, OnOk, IfOk, IfErr, map, true};
 ghost use Rattle.std.specs.String.{string_bytes};
-ghost use Rattle.sftp_script.specs.Lines.{words_of};
+ghost use Rattle.script_words.specs.Lines.{words_of};
 ghost use Rattle.sftp_script.specs.Scripts.{empty_script};
 ghost use Rattle.machine_model.specs.FirstTree.{may_begin};
 ghost use Rattle.sftp_script.specs.CanRun.{CanRun};
-ghost use Rattle.sftp_script.specs.Refusals.{RefusesLine};
+ghost use Rattle.script_words.specs.Refusals.{RefusesLine};
 ghost use Rattle.sftp_script.specs.ServerWords.{first_line, first_line_by, offer_line, read_first, server_of};
 
 use crate::draft::Draft;
-use crate::error::LineError;
-use crate::reason::Reason;
 use crate::script::Script;
 use crate::server::server_line;
 use crate::setup::{dir_line, file_line};
-use crate::words::split_word;
+use script_words::{LineError, Reason, split_word};
 use std::alloc::Global;
 
 const SERVER: &[u8] = b"server";

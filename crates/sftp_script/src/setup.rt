@@ -1,19 +1,15 @@
 //! The lines that say what a server begins with and how a session is run.
 ghost use Rattle.std.specs.Prelude.{◌≡◌, Some, None, Ok, IfOk, OnOk, IfErr, MatchBool, true};
-ghost use Rattle.sftp_script.specs.Lines.{words_of, one_word, two_words};
+ghost use Rattle.script_words.specs.Lines.{words_of, one_word, two_words};
 ghost use Rattle.sftp_script.specs.Setup.{path_in, content_in, may_add, file_line, dir_line, refusal_in, choice_line, pick_line, server_line, setup_line};
 ghost use Rattle.machine_model.specs.Components.{components};
-ghost use Rattle.sftp_script.specs.Refusals.{RefusesLine, RefusesIn};
+ghost use Rattle.script_words.specs.Refusals.{RefusesLine, RefusesIn};
 
 use crate::draft::Draft;
-use crate::error::LineError;
-use crate::hex_word::bytes_in;
 use crate::names::may_be_named;
-use crate::number::number_from;
 use crate::options::option_line;
-use crate::reason::Reason;
 use crate::server::server_line;
-use crate::words::{one_word, two_words};
+use script_words::{LineError, Reason, bytes_in, number_from, one_word, two_words};
 use sftp_machine::components;
 use sftp_model::Choice;
 use sftp_values::{ByteText, Items};
@@ -77,7 +73,7 @@ fn add_dir(alloc: Global, draft: &mut Draft, path: &[u8]) -> Result<(), LineErro
 }
 
 /// The words after `file`.
-#[tactic(auto, using(crate::proofs::Counts::not_two))]
+#[tactic(auto, using(script_words::proofs::Counts::not_two))]
 pub(crate) fn file_line(alloc: Global, draft: &mut Draft, line: &[u8]) -> Result<(), LineError>
     ensures ok { OnOk result (two_words (file_line draft.old) (words_of line.now) ≡ Ok draft.new) }
     ensures refused { IfErr result (λ e. RefusesLine (two_words (file_line draft.old) (words_of line.now)) e) }
@@ -87,7 +83,7 @@ pub(crate) fn file_line(alloc: Global, draft: &mut Draft, line: &[u8]) -> Result
 }
 
 /// The word after `dir`.
-#[tactic(auto, using(crate::proofs::Counts::not_one))]
+#[tactic(auto, using(script_words::proofs::Counts::not_one))]
 pub(crate) fn dir_line(alloc: Global, draft: &mut Draft, line: &[u8]) -> Result<(), LineError>
     ensures ok { OnOk result (one_word (dir_line draft.old) (words_of line.now) ≡ Ok draft.new) }
     ensures refused { IfErr result (λ e. RefusesLine (one_word (dir_line draft.old) (words_of line.now)) e) }
@@ -120,7 +116,7 @@ fn add_choice(draft: &mut Draft, refuse: &[u8], cap: &[u8]) -> Result<(), LineEr
 }
 
 /// The words after `choice`.
-#[tactic(auto, using(crate::proofs::Counts::not_two))]
+#[tactic(auto, using(script_words::proofs::Counts::not_two))]
 fn choice_line(draft: &mut Draft, line: &[u8]) -> Result<(), LineError>
     ensures ok { OnOk result (two_words (choice_line draft.old) (words_of line.now) ≡ Ok draft.new) }
     ensures refused { IfErr result (λ e. RefusesLine (two_words (choice_line draft.old) (words_of line.now)) e) }
@@ -130,7 +126,7 @@ fn choice_line(draft: &mut Draft, line: &[u8]) -> Result<(), LineError>
 }
 
 /// The word after `pick`.
-#[tactic(auto, using(crate::proofs::Counts::not_one))]
+#[tactic(auto, using(script_words::proofs::Counts::not_one))]
 fn pick_line(draft: &mut Draft, line: &[u8]) -> Result<(), LineError>
     ensures ok { OnOk result (one_word (pick_line draft.old) (words_of line.now) ≡ Ok draft.new) }
     ensures refused { IfErr result (λ e. RefusesLine (one_word (pick_line draft.old) (words_of line.now)) e) }

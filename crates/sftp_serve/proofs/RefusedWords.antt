@@ -2,7 +2,7 @@
 use Rattle.std.proofs.Common.{◌≡◌, ◌<◌, ℕ, ◌+◌, ◌-◌, List, length, take, Err, ap, sym, ◌∙◌, subst, arith}
 use Rattle.std.specs.Prelude.{IsOk, map}
 use Rattle.std.proofs.lemmas.List.{length-map, take-map, take_all}
-use Rattle.sftp_script.specs.declared.reason.Reason.{Reason}
+use Rattle.script_words.specs.declared.reason.Reason.{Reason}
 use Rattle.sftp_script.specs.ServerWords.{server_of}
 use Rattle.sftp_serve.specs.Words.{IsRefusedWord}
 

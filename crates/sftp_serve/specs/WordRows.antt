@@ -1,6 +1,6 @@
 -- Worked examples of words.
 use Rattle.std.specs.Prelude.{◌≡◌, [], ◌∷◌, codes, Err, refl}
-use Rattle.sftp_script.specs.declared.reason.Reason.TheVariants as reason
+use Rattle.script_words.specs.declared.reason.Reason.TheVariants as reason
 use Rattle.sftp_script.specs.ServerWords.{server_of}
 
 -- the words that ask for a text are none of a server's

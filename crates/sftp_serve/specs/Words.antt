@@ -21,7 +21,7 @@ use Rattle.std.specs.Prelude.{
   if◌then◌else◌,
 }
 use Rattle.std.specs.Str.{bytes_eq}
-use Rattle.sftp_script.specs.declared.reason.Reason.{Reason}
+use Rattle.script_words.specs.declared.reason.Reason.{Reason}
 use Rattle.sftp_script.specs.declared.script.Script.{Script}
 use Rattle.sftp_script.specs.ServerWords.{server_of}
 use Rattle.machine_model.specs.FirstTree.{first_tree}

@@ -10,9 +10,9 @@ use Rattle.ssh_encoding.specs.Reading.{◌>>=◌}
 use Rattle.sftp_model.specs.Readings.{has_bit}
 use Rattle.sftp_model.specs.declared.options.SftpOptions.{SftpOptions}
 use Rattle.machine_model.specs.Components.{components}
-use Rattle.sftp_script.specs.declared.reason.Reason.{Reason}
-use Rattle.sftp_script.specs.declared.reason.Reason.TheVariants as reason
-use Rattle.sftp_script.specs.Lines.{greatest_u32, greatest_u64, number_in, number_of, two_words, within}
+use Rattle.script_words.specs.declared.reason.Reason.{Reason}
+use Rattle.script_words.specs.declared.reason.Reason.TheVariants as reason
+use Rattle.script_words.specs.Lines.{greatest_u32, greatest_u64, number_in, number_of, two_words, within}
 use Rattle.sftp_script.specs.Setup.{
   Draft,
   choice_line,

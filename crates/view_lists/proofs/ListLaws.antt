@@ -31,14 +31,14 @@ use Rattle.std.proofs.lemmas.Bool.Decides.{nat_tests}
 use Rattle.std.proofs.lemmas.List.Folds.{list_all-append}
 use Rattle.std.proofs.lemmas.List.Sums.{sum_by-append}
 use Rattle.ssh_encoding.specs.Reading.{◌>>=◌}
-use Rattle.sftp_script.specs.declared.error.LineError.{LineError}
-use Rattle.sftp_script.specs.declared.error.LineError.TheVariants as line
-use Rattle.sftp_script.specs.declared.error.ScriptError.{ScriptError}
-use Rattle.sftp_script.specs.declared.error.ScriptError.TheVariants as script
-use Rattle.sftp_script.specs.declared.reason.Reason.{Reason}
-use Rattle.sftp_script.specs.declared.reason.Reason.TheVariants as reason
+use Rattle.script_words.specs.declared.error.LineError.{LineError}
+use Rattle.script_words.specs.declared.error.LineError.TheVariants as line
+use Rattle.script_words.specs.declared.error.ScriptError.{ScriptError}
+use Rattle.script_words.specs.declared.error.ScriptError.TheVariants as script
+use Rattle.script_words.specs.declared.reason.Reason.{Reason}
+use Rattle.script_words.specs.declared.reason.Reason.TheVariants as reason
 use Rattle.sftp_script.specs.CanRun.{CanBegin}
-use Rattle.sftp_script.specs.Lines.{
+use Rattle.script_words.specs.Lines.{
   bytes_in,
   go_on,
   is_comment,
@@ -54,7 +54,7 @@ use Rattle.sftp_script.specs.Lines.{
   within,
   words_of,
 }
-use Rattle.sftp_script.specs.Refusals.{RefusesLine, RefusesIn, RefusesScript}
+use Rattle.script_words.specs.Refusals.{RefusesLine, RefusesIn, RefusesScript}
 use Rattle.sftp_script.specs.Scripts.{MAX_SCRIPT_LEN}
 use Rattle.sftp_script.specs.Setup.{Draft, setup_line}
 use Rattle.sftp_script.proofs.SetupLaws.{setup_kept}

@@ -1,6 +1,6 @@
 -- Lines of lists, worked; `-` stands for no bytes.
 use Rattle.std.specs.Prelude.{◌≡◌, [], ◌∷◌, Ok, Err, Some, None, codes, refl}
-use Rattle.sftp_script.specs.declared.reason.Reason.TheVariants as reason
+use Rattle.script_words.specs.declared.reason.Reason.TheVariants as reason
 use Rattle.view_model.specs.declared.op.ViewOp.TheVariants as op
 use Rattle.view_lists.specs.CacheSizes.{view_of}
 use Rattle.view_lists.specs.Lists.{line_by, list_of, nothing_read}

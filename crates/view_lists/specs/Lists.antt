@@ -22,9 +22,9 @@ use Rattle.std.specs.Prelude.{
 use Rattle.std.specs.List.{sum_by}
 use Rattle.std.specs.Str.{bytes_eq}
 use Rattle.ssh_encoding.specs.Reading.{◌>>=◌}
-use Rattle.sftp_script.specs.declared.reason.Reason.{Reason}
-use Rattle.sftp_script.specs.declared.reason.Reason.TheVariants as reason
-use Rattle.sftp_script.specs.Lines.{bytes_in, lines_of, number_in, or_read, read_by, three_words, two_words}
+use Rattle.script_words.specs.declared.reason.Reason.{Reason}
+use Rattle.script_words.specs.declared.reason.Reason.TheVariants as reason
+use Rattle.script_words.specs.Lines.{bytes_in, lines_of, number_in, or_read, read_by, three_words, two_words}
 use Rattle.sftp_script.specs.Scripts.{MAX_SCRIPT_LEN, empty_script}
 use Rattle.sftp_script.specs.Setup.{Draft, setup_line}
 use Rattle.view_model.specs.ViewOps.{count, count_limit}

@@ -1,7 +1,7 @@
 //! Lists of operations are read from their lines.
 ghost use Rattle.std.specs.Prelude.{◌≡◌, ◌≤◌, IfErr, IfOk, Ok, OnOk};
-ghost use Rattle.sftp_script.specs.Lines.{three_words, two_words, number_in, words_of};
-ghost use Rattle.sftp_script.specs.Refusals.{RefusesLine, RefusesScript};
+ghost use Rattle.script_words.specs.Lines.{three_words, two_words, number_in, words_of};
+ghost use Rattle.script_words.specs.Refusals.{RefusesLine, RefusesScript};
 ghost use Rattle.view_model.specs.ViewOps.{count};
 ghost use Rattle.view_lists.specs.CanView.{CanView};
 ghost use Rattle.view_lists.specs.Lists.{any_line, content_in, get_line, line_by, list_of, nothing_read, op_line, put_line, with_op};
@@ -92,7 +92,7 @@ fn content_in(alloc: Global, offset: u64, word: &[u8]) -> Result<ByteText, LineE
 }
 
 /// A choice may refuse nothing.
-#[tactic(auto, using(sftp_script::proofs::Counts::not_two))]
+#[tactic(auto, using(script_words::proofs::Counts::not_two))]
 fn refuses_nothing(line: &[u8]) -> Result<(), LineError>
     ensures ok { OnOk result (two_words (λ a b. number_in 0 0 a) (words_of line.now) ≡ Ok 0) }
     ensures refused { IfErr result (λ e. RefusesLine (two_words (λ a b. number_in 0 0 a) (words_of line.now)) e) }
@@ -179,7 +179,7 @@ impl ViewDraft {
     }
 
     /// The words after `get`.
-    #[tactic(auto, using(sftp_script::proofs::Counts::not_three))]
+    #[tactic(auto, using(script_words::proofs::Counts::not_three))]
     fn get_line(&mut self, alloc: Global, line: &[u8]) -> Result<(), LineError>
         ensures ok { OnOk result (three_words (get_line self.old) (words_of line.now) ≡ Ok self.new) }
         ensures refused { IfErr result (λ e. RefusesLine (three_words (get_line self.old) (words_of line.now)) e) }
@@ -189,7 +189,7 @@ impl ViewDraft {
     }
 
     /// The words after `put`.
-    #[tactic(auto, using(sftp_script::proofs::Counts::not_three))]
+    #[tactic(auto, using(script_words::proofs::Counts::not_three))]
     fn put_line(&mut self, alloc: Global, line: &[u8]) -> Result<(), LineError>
         ensures ok { OnOk result (three_words (put_line self.old) (words_of line.now) ≡ Ok self.new) }
         ensures refused { IfErr result (λ e. RefusesLine (three_words (put_line self.old) (words_of line.now)) e) }

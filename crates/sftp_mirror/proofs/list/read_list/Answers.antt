@@ -1,5 +1,5 @@
 use Rattle.std.proofs.Common.{◌≡◌, ◌≤◌, Ok, length, rules, subst, sym}
-use Rattle.sftp_script.specs.Lines.{lines_of, read_by}
+use Rattle.script_words.specs.Lines.{lines_of, read_by}
 use Rattle.sftp_script.specs.Scripts.{MAX_SCRIPT_LEN}
 use Rattle.sftp_mirror.specs.CanCopy.{CanCopy}
 use Rattle.sftp_mirror.specs.Lists.{line_by, nothing_read}

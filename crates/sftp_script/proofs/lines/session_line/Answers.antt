@@ -1,10 +1,10 @@
 use Rattle.std.proofs.Common.{rules, ◌≡◌, Result, sym, subst}
 use Rattle.std.specs.Prelude.{IfErr}
-use Rattle.sftp_script.specs.declared.reason.Reason.{Reason}
-use Rattle.sftp_script.specs.Lines.{words_of}
+use Rattle.script_words.specs.declared.reason.Reason.{Reason}
+use Rattle.script_words.specs.Lines.{words_of}
 use Rattle.sftp_script.specs.Setup.{Draft}
 use Rattle.sftp_script.specs.Scripts.{call_in, call_line, session_line}
-use Rattle.sftp_script.specs.Refusals.{RefusesLine}
+use Rattle.script_words.specs.Refusals.{RefusesLine}
 use Rattle.sftp_script.proofs.lines.session_line.Goals as goal
 
 pub returns-else-eq-5-clause-refused : goal.returns-else-eq-5-clause-refused

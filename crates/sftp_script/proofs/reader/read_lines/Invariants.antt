@@ -1,5 +1,5 @@
 use Rattle.std.proofs.Common.{◌≡◌, ◌+◌, ◌≤◌, length}
-use Rattle.sftp_script.specs.Lines.{lines_of, read_by}
+use Rattle.script_words.specs.Lines.{lines_of, read_by}
 use Rattle.sftp_script.proofs.reader.read_lines.Given as goal
 
 -- the lines that are left give what all give, and each line that was read had a byte

@@ -1,6 +1,6 @@
 use Rattle.std.proofs.Common.{rules, ◌≡◌, ◌≤◌, Ok, [], length, subst}
 use Rattle.sftp_script.specs.CanRun.{CanRun}
-use Rattle.sftp_script.specs.Lines.{lines_of, read_by}
+use Rattle.script_words.specs.Lines.{lines_of, read_by}
 use Rattle.sftp_script.specs.Setup.{Draft}
 use Rattle.sftp_script.specs.Scripts.{MAX_SCRIPT_LEN, line_by}
 use Rattle.sftp_script.proofs.ScriptLaws.{lines_can_run}

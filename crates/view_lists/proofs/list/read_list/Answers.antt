@@ -1,5 +1,5 @@
 use Rattle.std.proofs.Common.{◌≡◌, Ok, rules, subst, sym}
-use Rattle.sftp_script.specs.Lines.{lines_of, read_by}
+use Rattle.script_words.specs.Lines.{lines_of, read_by}
 use Rattle.view_lists.specs.CanView.{CanView}
 use Rattle.view_lists.specs.Lists.{line_by, nothing_read}
 use Rattle.view_lists.proofs.ListLaws.{draft_can_view}

@@ -1,0 +1,22 @@
+//! The lines of a script and their words, and what the words say: numbers, bytes, modes, open flags and places.
+#![tactic(auto)]
+
+mod error;
+pub mod fields;
+mod flags;
+mod hex_word;
+mod number;
+mod parts;
+mod position;
+mod reason;
+mod words;
+
+pub use error::{LineError, ScriptError};
+pub use hex_word::bytes_in;
+pub use number::{number_from, number_in};
+pub use parts::slot_and_parts;
+pub use reason::Reason;
+pub use words::{four_words, no_word, one_word, split_line, split_word, three_words, two_words};
+
+#[cfg(test)]
+mod tests;

@@ -1,8 +1,0 @@
-use Rattle.std.proofs.Common.{◌≡◌, ◌≤◌, ◌^◌, drop}
-use Rattle.sftp_script.specs.Lines.{digits_behind}
-use Rattle.sftp_script.proofs.Numbers.{capped}
-use Rattle.sftp_script.proofs.number.number_of.Given as goal
-
--- the digits that are left give the number of all
-abbrev pub invariant-loop-b : goal.invariant-loop-b
-invariant-loop-b l = (capped (digits_behind 0 l.word) ≡ capped (digits_behind l.n (drop l.b-index l.word))) × (l.n ≤ 2 ^ 64)
