@@ -37,7 +37,8 @@ use Rattle.sftp_model.specs.declared.request.Request.TheVariants as request
 use Rattle.sftp_model.specs.Answers.{is_handle}
 use Rattle.machine_model.specs.TreeAnswers.{first_choice, limits_reply}
 use Rattle.machine_model.proofs.ChangeLaws.{apply_leaves}
-use Rattle.sftp_machine.specs.MachineState.{MAX_HANDLES, numbered_handle}
+use Rattle.machine_tree.specs.Numbers.{numbered_handle}
+use Rattle.sftp_machine.specs.MachineState.{MAX_HANDLES}
 use Rattle.session_model.specs.declared.event.Owner.{Owner}
 use Rattle.session_model.specs.declared.event.Owner.TheVariants as owner
 use Rattle.session_model.specs.declared.event.Event.TheVariants.{Submit}

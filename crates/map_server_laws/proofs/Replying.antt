@@ -61,7 +61,8 @@ use Rattle.session_model.specs.Readings.{AskedRequest}
 use Rattle.machine_model.specs.FitTrees.{GivesWithin, IsFit}
 use Rattle.machine_model.specs.HandleRequests.{Answer, capped}
 use Rattle.machine_model.specs.TreeAnswers.{apply, first_choice, limits_reply}
-use Rattle.sftp_machine.specs.MachineState.{MachineState, answer, numbered_handle, with_grant, with_tree}
+use Rattle.machine_tree.specs.Numbers.{numbered_handle}
+use Rattle.sftp_machine.specs.MachineState.{MachineState, answer, with_grant, with_tree}
 use Rattle.sftp_machine.proofs.ReplyLaws.{fit_left, reply_answers, reply_fits, reply_within}
 use Rattle.sftp_map_server.specs.Serving.{
   ServerState,

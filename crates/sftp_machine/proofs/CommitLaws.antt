@@ -5,8 +5,9 @@ use Rattle.sftp_model.specs.Answers.{is_handle, status}
 use Rattle.sftp_model.specs.Numbers.{SSH_FX_FAILURE}
 use Rattle.machine_model.specs.FileTree.{FileTree}
 use Rattle.machine_model.specs.HandleRequests.{Answer}
+use Rattle.machine_tree.specs.Numbers.{numbered_handle}
 use Rattle.sftp_machine.specs.Changes.{changed, is_grant}
-use Rattle.sftp_machine.specs.MachineState.{MachineState, Makes, counted, committed, with_grant, with_tree, MAX_HANDLES, numbered_handle}
+use Rattle.sftp_machine.specs.MachineState.{MachineState, Makes, counted, committed, with_grant, with_tree, MAX_HANDLES}
 use Rattle.sftp_machine.specs.declared.change.Change.{Change}
 
 -- the tree that a change leaves

@@ -5,8 +5,9 @@ use Rattle.std.proofs.lemmas.Bool.{false_from_ne_true}
 use Rattle.std.proofs.lemmas.Slice.Eq.{bytes_eq-Decides}
 use Rattle.machine_model.specs.FileTree.{found, opened_at}
 use Rattle.machine_model.specs.declared.opened.Opened.{Opened}
-use Rattle.sftp_machine.proofs.NumberLaws.{number_one}
-use Rattle.sftp_machine.specs.MachineState.{MachineState, IsValid, IsBelow, AllBelow, numbered_handle, MAX_HANDLES}
+use Rattle.machine_tree.specs.Numbers.{AllBelow, IsBelow, numbered_handle}
+use Rattle.machine_tree.proofs.NumberLaws.{number_one}
+use Rattle.sftp_machine.specs.MachineState.{MachineState, IsValid, MAX_HANDLES}
 
 other_handle : (n : ℕ) (handle : List ℕ) → n < MAX_HANDLES → IsBelow n handle → bytes_eq handle (numbered_handle n) ≡ false
 other_handle n handle a b = false_from_ne_true (bytes_eq handle (numbered_handle n)) (λ t.

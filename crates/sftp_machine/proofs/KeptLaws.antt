@@ -2,10 +2,7 @@
 use Rattle.std.proofs.Common.{
   ◌≡◌,
   ℕ,
-  zero,
-  suc,
   ◌+◌,
-  ◌≤◌,
   Bool,
   true,
   false,
@@ -13,7 +10,6 @@ use Rattle.std.proofs.Common.{
   [],
   ◌∷◌,
   ◌++◌,
-  length,
   drop,
   Option,
   Some,
@@ -23,22 +19,13 @@ use Rattle.std.proofs.Common.{
   ap,
   arith,
 }
-use Rattle.std.specs.Prelude.{slice_set}
 use Rattle.std.specs.Str.{bytes_eq}
 use Rattle.std.proofs.lemmas.Slice.Eq.{bytes_eq-Decides}
 use Rattle.sftp_model.specs.declared.reply.NameEntry.{NameEntry}
 use Rattle.machine_model.specs.declared.opened.Opened.TheVariants as opened
 use Rattle.machine_model.specs.declared.opened.Opened.{Opened}
 use Rattle.machine_model.specs.FileTree.{found, without, replaced, entries_of}
-use Rattle.sftp_machine.specs.Changes.{without_first, given_pairs}
-use Rattle.sftp_machine.specs.MachineState.{AllBelow, numbered_handle}
-
--- nothing is set behind the end
-pub set_past : {X : Type 0} (xs : List X) (n : ℕ) (y : X) → length xs ≤ n → slice_set xs n y ≡ xs
-set_past [] zero y h = refl
-set_past [] (suc n) y h = refl
-set_past (x ∷ xs) zero y h = absurd (omega (arith, h))
-set_past (x ∷ xs) (suc n) y h = ap (λ l. x ∷ l) (set_past xs n y (omega (arith, h)))
+use Rattle.machine_tree.specs.Numbers.{AllBelow, given_pairs, numbered_handle, without_first}
 
 -- ---- open handles
 

@@ -1,11 +1,7 @@
-pub mod WalkLaws
-pub mod OrderLaws
-pub mod PathLaws
+pub mod PathLens
 pub mod KeptLaws
 pub mod CommitLaws
 pub mod ReplyLaws
 pub mod FirstLaws
-pub mod NumberLaws
 pub mod HandleLaws
-pub mod SortedLaws
 pub mod ListingLaws

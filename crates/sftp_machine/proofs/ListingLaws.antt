@@ -7,7 +7,7 @@ use Rattle.machine_model.specs.Components.{Name, written}
 use Rattle.machine_model.specs.declared.node.Node.{Node}
 use Rattle.machine_model.specs.FileTree.{FileTree}
 use Rattle.machine_model.specs.Listing.{in_name_order, node_bytes, file_at, dir_at}
-use Rattle.sftp_machine.specs.Places.{is_of_kind, nth_of_kind}
+use Rattle.machine_tree.specs.Places.{is_of_kind, nth_of_kind}
 
 get_first : {X : Type 0} (x : X) (xs : List X) (k : ℕ) → slice_get (x ∷ xs) k ≡ (if k == 0 then Some x else slice_get xs (k - 1))
 get_first x xs zero = refl

@@ -20,7 +20,8 @@ use Rattle.machine_model.proofs.StatusLaws.{status_allowed}
 use Rattle.machine_model.proofs.StayingLaws.{tree_after}
 use Rattle.machine_model.proofs.WellFormedLaws.{well_formed_after}
 use Rattle.sftp_machine.specs.declared.change.Change.{Change}
-use Rattle.sftp_machine.specs.MachineState.{IsConsistent, IsFramed, Makes, committed, MachineState, answer, with_grant, with_tree, numbered_handle, MAX_HANDLES}
+use Rattle.machine_tree.specs.Numbers.{numbered_handle}
+use Rattle.sftp_machine.specs.MachineState.{IsConsistent, IsFramed, Makes, committed, MachineState, answer, with_grant, with_tree, MAX_HANDLES}
 
 -- the answer of the definition, with the next number
 abbrev defined : MachineState → Request → Choice → Answer

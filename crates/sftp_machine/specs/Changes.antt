@@ -1,10 +1,7 @@
 -- What a request changes, and what an answer is made of.
-use Rattle.std.specs.Prelude.{◌≡◌, ◌<◌, ◌+◌, ◌^◌, ℕ, Bool, true, false, List, [], ◌∷◌, if◌then◌else◌, length, drop}
+use Rattle.std.specs.Prelude.{◌≡◌, ◌<◌, ◌+◌, ◌^◌, ℕ, Bool, true, false, List, [], length}
 use Rattle.sftp_model.specs.declared.reply.Reply.{Reply}
-use Rattle.std.specs.Str.{bytes_eq}
 use Rattle.machine_model.specs.declared.node.Node.TheVariants as node
-use Rattle.machine_model.specs.declared.opened.Opened.{Opened}
-use Rattle.machine_model.specs.declared.opened.Opened.TheVariants as opened
 use Rattle.sftp_model.specs.Answers.{is_handle}
 use Rattle.machine_model.specs.HandleRequests.{Answer}
 use Rattle.machine_model.specs.FileTree.{
@@ -21,19 +18,9 @@ use Rattle.machine_model.specs.FileTree.{
   without_handle,
   after_loss,
 }
+use Rattle.machine_tree.specs.Numbers.{given_pairs}
 use Rattle.sftp_machine.specs.declared.change.Change.{Change}
 use Rattle.sftp_machine.specs.declared.change.Change.TheVariants as change
-
--- what is open without its first entries
-abbrev pub without_first : ℕ → Opened → Opened
-without_first n (opened.File held) = opened.File held
-without_first n (opened.Directory entries) = opened.Directory (drop n entries)
-
--- what is open by a handle without its first entries
-abbrev pub given_pairs : List (List ℕ × Opened) → List ℕ → ℕ → List (List ℕ × Opened)
-given_pairs [] handle n = []
-given_pairs (pair ∷ pairs) handle n = if bytes_eq pair.0 handle then (pair.0, without_first n pair.1) ∷ pairs else
-    pair ∷ given_pairs pairs handle n
 
 -- the tree after a change; `handle` is the granted one
 abbrev pub changed : FileTree → List ℕ → Change → FileTree

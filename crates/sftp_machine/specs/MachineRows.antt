@@ -10,16 +10,10 @@ use Rattle.machine_model.specs.FileTree.{FileTree}
 use Rattle.machine_model.specs.RowWords.{config, choice}
 use Rattle.machine_model.specs.declared.node.Node.TheVariants as node
 use Rattle.machine_model.specs.FirstTree.{first_tree}
-use Rattle.sftp_machine.specs.MachineState.{MachineState, answer, numbered_handle}
+use Rattle.sftp_machine.specs.MachineState.{MachineState, answer}
 use Rattle.sftp_machine.specs.WaitingFrames.{WaitingFrames, turned}
 
 -- ---- handles
-
-pub first_handle : numbered_handle 0 ≡ 0 ∷ 0 ∷ 0 ∷ 0 ∷ []
-first_handle = refl
-
-pub big_handle : numbered_handle 258 ≡ 0 ∷ 0 ∷ 1 ∷ 2 ∷ []
-big_handle = refl
 
 -- the empty tree, of which so many handles were granted
 abbrev after_grants : ℕ → MachineState

@@ -1,6 +1,5 @@
 -- A server of files and directories in memory, which grants the numbers 0, 1, 2 and so on as its handles.
-use Rattle.std.specs.Prelude.{◌≡◌, ◌<◌, ◌≤◌, ℕ, ◌+◌, ◌==◌, true, List, [], ◌∷◌, length, if◌then◌else◌}
-use Rattle.std.specs.Int.{w32, to_be_bytes}
+use Rattle.std.specs.Prelude.{◌≡◌, ◌<◌, ◌≤◌, ℕ, ◌+◌, ◌==◌, true, length, if◌then◌else◌}
 use Rattle.sftp_model.specs.declared.config.Choice.{Choice}
 use Rattle.sftp_model.specs.declared.config.ServerConfig.{ServerConfig}
 use Rattle.sftp_model.specs.declared.request.Request.{Request}
@@ -10,12 +9,12 @@ use Rattle.sftp_model.specs.Fits.{FitsReply}
 use Rattle.sftp_model.specs.Frames.{reply_body}
 use Rattle.sftp_model.specs.Numbers.{MAX_BODY_LEN, SSH_FX_FAILURE}
 use Rattle.machine_model.specs.HandleRequests.{Answer}
-use Rattle.machine_model.specs.declared.opened.Opened.{Opened}
 use Rattle.machine_model.specs.FileTree.{FileTree}
 use Rattle.machine_model.specs.Changes.{IsWellFormed}
 use Rattle.machine_model.specs.FitTrees.{IsFit}
 use Rattle.machine_model.specs.TreeAnswers.{apply}
 use Rattle.machine_model.specs.Trees.{IsTree}
+use Rattle.machine_tree.specs.Numbers.{AllBelow, numbered_handle}
 use Rattle.sftp_machine.specs.Changes.{FitsChange, Leads, changed, is_grant}
 use Rattle.sftp_machine.specs.declared.answered.Answered.{Answered}
 use Rattle.sftp_machine.specs.declared.change.Change.{Change}
@@ -25,10 +24,6 @@ pub record MachineState : Type 0 where
   pub tree : FileTree
   pub config : ServerConfig
   pub grants : ℕ
-
--- the handle of a number: four bytes, the most significant first
-abbrev pub numbered_handle : ℕ → List ℕ
-numbered_handle n = to_be_bytes w32 n
 
 -- as many handles as there are numbers of four bytes
 abbrev pub MAX_HANDLES : ℕ
@@ -92,15 +87,6 @@ pub record MayCommit (state : MachineState) (answered : Answered) : Type 0 where
   pub within : IsConsistent (left_by state answered).tree
 
 -- ---- handles
-
--- the handle is one of the first n numbers
-abbrev pub IsBelow : ℕ → List ℕ → Type 0
-IsBelow n handle = (k : ℕ) × (k < n) × (handle ≡ numbered_handle k)
-
--- each of these handles is one of the first n numbers
-abbrev pub AllBelow : ℕ → List (List ℕ × Opened) → Type 0
-AllBelow n [] = Unit {0}
-AllBelow n (pair ∷ pairs) = IsBelow n pair.0 × AllBelow n pairs
 
 -- each open handle was granted
 pub record IsValid (state : MachineState) : Type 0 where

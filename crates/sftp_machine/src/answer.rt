@@ -6,12 +6,13 @@ ghost use Rattle.machine_model.specs.Components.{components as components_by};
 ghost use Rattle.sftp_model.specs.Readings.{has_bit};
 ghost use Rattle.machine_model.specs.TreeAnswers.{apply as apply_by, answered as answered_by, limits_reply};
 ghost use Rattle.sftp_machine.specs.Changes.{is_grant};
-ghost use Rattle.sftp_machine.specs.MachineState.{MachineState, Makes, numbered_handle as bytes_of_handle};
+ghost use Rattle.sftp_machine.specs.MachineState.{MachineState, Makes};
+ghost use Rattle.machine_tree.specs.Numbers.{numbered_handle as bytes_of_handle};
 
 use crate::change::Change;
 use crate::store::Store;
-use crate::tree_name::{TreeName, walk};
 use bitflags::Flags;
+use machine_tree::{TreeName, components};
 use sftp_model::numbers::{SSH_FX_OK, SSH_FX_OP_UNSUPPORTED};
 use sftp_model::{Choice, Extensions, Limits, RemotePath, Reply, Request};
 use sftp_values::ByteText;
@@ -96,7 +97,8 @@ impl Store {
     fn name(&self, path: &RemotePath) -> Result<TreeName, OutOfMemory>
         ensures { IfOk result (λ name. name ≡ components_by path.now) }
     {
-        TreeName::new(self.alloc, walk(self.alloc, path.as_bytes())?)
+        let parts = components(self.alloc, path.as_bytes())?;
+        TreeName::new(self.alloc, parts.into_vec())
     }
 
     // Whether it offers an extension.

@@ -1,5 +1,5 @@
-use crate::tree_name::TreeName;
 use machine_model::Opened;
+use machine_tree::TreeName;
 use sftp_model::Handle;
 use sftp_values::ByteText;
 

@@ -1,21 +1,18 @@
 // What a change leaves.
-ghost use Rattle.std.specs.Prelude.{◌≡◌, ◌<◌, ◌^◌, ◌+◌, [], ◌++◌, Some, true, length, map, slice_set, slice_index_or, IfOk, OnOk, OnErr};
-ghost use Rattle.machine_model.specs.Components.{moved_name, same_name};
-ghost use Rattle.machine_model.specs.FileTree.{put as put_by, resized, without, after_loss};
+ghost use Rattle.std.specs.Prelude.{◌≡◌, ◌<◌, true, OnOk, OnErr};
+ghost use Rattle.machine_model.specs.FileTree.{after_loss};
 ghost use Rattle.sftp_machine.specs.Changes.{FitsChange, is_grant};
 ghost use Rattle.sftp_machine.specs.MachineState.{committed, MAX_HANDLES, with_tree};
 ghost use Rattle.sftp_machine.specs.declared.change.Change.TheVariants as change;
 
 use crate::change::Change;
-use crate::file_bytes::FileBytes;
-use crate::lookups::{is_named, is_within, name_index};
-use crate::names::Names;
-use crate::store::{Store, numbered_handle};
-use crate::tree_name::{TreeName, add_copies};
+use crate::store::Store;
 use machine_model::{Node, Opened};
-use sftp_values::ByteText;
+use machine_tree::{
+    FileBytes, TreeName, empty_in, is_named, moved_names, names_but, numbered_handle, put_in,
+    resize_in,
+};
 use ssh_encoding::OutOfMemory;
-use std::alloc::Global;
 
 impl Store {
     /// Makes a change. Refused for want of memory, all is as before.
@@ -145,118 +142,4 @@ impl Store {
         self.drop_lost(gone);
         Ok(())
     }
-}
-
-/// A piece is written to a file.
-#[tactic(auto, using(crate::proofs::KeptLaws::set_past))]
-fn put_in(
-    files: &mut Vec<FileBytes>,
-    file: u64,
-    offset: u64,
-    piece: &[u8],
-) -> Result<(), OutOfMemory>
-    requires { offset + length piece.now < 2 ^ 63 }
-    ensures left { OnOk result (files.new.items ≡ slice_set files.old.items file
-        (put_by (slice_index_or files.old.items file []) offset piece.now)) }
-    ensures kept { OnErr result (files.new.items ≡ files.old.items) }
-{
-    if file >= files.len() as u64 {
-        return Ok(());
-    }
-    files[file as usize].put(offset as usize, piece)
-}
-
-/// A file gets a size.
-#[tactic(auto, using(crate::proofs::KeptLaws::set_past))]
-fn resize_in(files: &mut Vec<FileBytes>, file: u64, size: u64) -> Result<(), OutOfMemory>
-    ensures left { OnOk result (files.new.items ≡ slice_set files.old.items file
-        (resized size (slice_index_or files.old.items file []))) }
-    ensures kept { OnErr result (files.new.items ≡ files.old.items) }
-{
-    if file >= files.len() as u64 {
-        return Ok(());
-    }
-    files[file as usize].resize(size as usize)
-}
-
-/// A file is emptied.
-#[tactic(auto, using(crate::proofs::KeptLaws::set_past))]
-fn empty_in(alloc: Global, files: &mut Vec<FileBytes>, file: u64)
-    ensures { files.new.items ≡ slice_set files.old.items file [] }
-{
-    if file < files.len() as u64 {
-        files[file as usize] = FileBytes::new(Vec::new(alloc));
-    }
-}
-
-/// The names, with what the old one becomes and all within it.
-fn moved_names(
-    alloc: Global,
-    pairs: &[(TreeName, Node)],
-    old: &[ByteText],
-    to: &[ByteText],
-) -> Result<Names, OutOfMemory>
-    ensures { IfOk result (λ names. names
-        ≡ map (λ pair. (moved_name old.now to.now pair.0, pair.1)) pairs.now) }
-{
-    let mut names = Names::new(alloc);
-    add_moved(alloc, &mut names, pairs, old, to)?;
-    Ok(names)
-}
-
-/// The same without the new one.
-fn names_but(
-    alloc: Global,
-    pairs: &[(TreeName, Node)],
-    old: &[ByteText],
-    to: &[ByteText],
-) -> Result<Names, OutOfMemory>
-    ensures { IfOk result (λ names. names
-        ≡ map (λ pair. (moved_name old.now to.now pair.0, pair.1)) (without same_name pairs.now to.now)) }
-{
-    let Some(index) = name_index(pairs, to) else {
-        return moved_names(alloc, pairs, old, to);
-    };
-    let mut names = Names::new(alloc);
-    let (_, later) = pairs.split_at(index + 1);
-    add_moved(alloc, &mut names, &pairs[..index], old, to)?;
-    add_moved(alloc, &mut names, later, old, to)?;
-    Ok(names)
-}
-
-/// Adds what names become.
-fn add_moved(
-    alloc: Global,
-    names: &mut Names,
-    pairs: &[(TreeName, Node)],
-    old: &[ByteText],
-    to: &[ByteText],
-) -> Result<(), OutOfMemory>
-    ensures { OnOk result (names.new ≡ names.old
-        ++ map (λ pair. (moved_name old.now to.now pair.0, pair.1)) pairs.now) }
-{
-    for pair in pairs {
-        let parts = moved(alloc, pair.0.parts(), old, to)?;
-        names.push(TreeName::new(alloc, parts)?, pair.1)?;
-    }
-    Ok(())
-}
-
-/// What a name becomes where one is moved.
-fn moved(
-    alloc: Global,
-    name: &[ByteText],
-    old: &[ByteText],
-    to: &[ByteText],
-) -> Result<Vec<ByteText>, OutOfMemory>
-    ensures { IfOk result (λ parts. parts.items ≡ moved_name old.now to.now name.now) }
-{
-    let mut parts = Vec::new(alloc);
-    if is_within(old, name) {
-        add_copies(alloc, &mut parts, to)?;
-        add_copies(alloc, &mut parts, &name[old.len()..])?;
-    } else {
-        add_copies(alloc, &mut parts, name)?;
-    }
-    Ok(parts)
 }

@@ -4,9 +4,7 @@ ghost use Rattle.sftp_machine.specs.MachineState.{IsConsistent, IsValid};
 ghost use Rattle.machine_model.specs.Listing.{has_file, has_directory};
 
 use crate::machine::Machine;
-use crate::order::is_file;
-use crate::tree_name::TreeName;
-use machine_model::Node;
+use machine_tree::{count_directories, count_files};
 use sftp_model::ServerConfig;
 
 impl Machine {
@@ -40,28 +38,4 @@ impl Machine {
     {
         self.store.config
     }
-}
-
-fn count_files(pairs: &[(TreeName, Node)]) -> u64
-    ensures { result ≡ length (filter has_file pairs.now) }
-{
-    let mut count = 0u64;
-    for pair in pairs {
-        if is_file(pair.1) {
-            count += 1;
-        }
-    }
-    count
-}
-
-fn count_directories(pairs: &[(TreeName, Node)]) -> u64
-    ensures { result ≡ length (filter has_directory pairs.now) }
-{
-    let mut count = 0u64;
-    for pair in pairs {
-        if !is_file(pair.1) {
-            count += 1;
-        }
-    }
-    count
 }

@@ -7,14 +7,15 @@ ghost use Rattle.machine_model.specs.Components.{Name};
 ghost use Rattle.machine_model.specs.FitTrees.{GivesWithin};
 ghost use Rattle.machine_model.specs.HandleRequests.{refuses as refuses_by, after_open, after_close, after_read, after_write, offset_of as offset_by, writes as writes_by, after_fstat, resizes as resizes_by, sets_held, after_fsetstat, after_fsync, copied as copied_by, after_copy, held_by as held_of_flags, capped as capped_by};
 ghost use Rattle.machine_model.specs.FileTree.{node_at as node_by, opened_at as opened_by, file_of, bytes_of as bytes_by};
-ghost use Rattle.sftp_machine.specs.MachineState.{MachineState, Makes, numbered_handle as bytes_of_handle};
+ghost use Rattle.sftp_model.specs.Pieces.{joined};
+ghost use Rattle.machine_tree.specs.Numbers.{numbered_handle as bytes_of_handle};
+ghost use Rattle.sftp_machine.specs.MachineState.{MachineState, Makes};
 
 use crate::change::Change;
-use crate::lookups::{is_long, whole};
 use crate::store::Store;
-use crate::tree_name::TreeName;
 use bytes::Bytes;
 use machine_model::{Held, Node, Opened};
+use machine_tree::{TreeName, is_long};
 use sftp_model::numbers::{
     MAX_TRANSFER_LEN, SSH_FX_EOF, SSH_FX_FAILURE, SSH_FX_NO_SUCH_FILE, SSH_FX_PERMISSION_DENIED,
     SSH_FXF_APPEND, SSH_FXF_CREAT, SSH_FXF_EXCL, SSH_FXF_READ, SSH_FXF_TRUNC, SSH_FXF_WRITE,
@@ -22,6 +23,7 @@ use sftp_model::numbers::{
 use sftp_model::{Content, FileAttrs, Handle, Reply, Request};
 use sftp_values::ByteText;
 use ssh_encoding::OutOfMemory;
+use std::alloc::Global;
 
 impl Store {
     /// OPEN.
@@ -226,6 +228,23 @@ impl Store {
         let part = copied(self.bytes_of(from.file), from_offset, len);
         let piece = ByteText::new(Vec::from_slice(self.alloc, part)?);
         Ok(self.writes(to.file, self.offset_of(to, to_offset), piece))
+    }
+}
+
+/// The pieces, one after another.
+fn whole(alloc: Global, pieces: &[Bytes]) -> Result<Vec<u8>, OutOfMemory>
+    ensures { IfOk result (λ bytes. bytes.items ≡ joined pieces.now) }
+{
+    let mut bytes = Vec::new(alloc);
+    let mut rest = pieces;
+    loop {
+        match rest {
+            [] => return Ok(bytes),
+            [piece, later @ ..] => {
+                bytes.extend_from_slice(piece.as_slice())?;
+                rest = later;
+            }
+        }
     }
 }
 

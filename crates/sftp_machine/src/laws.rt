@@ -1,7 +1,8 @@
 //! Laws of the definitions. The functions do nothing: what they ensure holds of all values.
 ghost use Rattle.std.specs.Prelude.{◌≡◌, ◌<◌, ℕ, None, [], length};
 ghost use Rattle.machine_model.specs.FileTree.{opened_at};
-ghost use Rattle.sftp_machine.specs.MachineState.{MachineState, IsValid, MAX_HANDLES, numbered_handle};
+ghost use Rattle.machine_tree.specs.Numbers.{numbered_handle};
+ghost use Rattle.sftp_machine.specs.MachineState.{MachineState, IsValid, MAX_HANDLES};
 
 /// The handle that is granted next isn't open, and a handle of no bytes never is.
 #[tactic(auto, using(crate::proofs::HandleLaws::next_is_new, crate::proofs::HandleLaws::empty_is_new))]

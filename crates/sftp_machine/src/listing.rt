@@ -4,7 +4,7 @@ ghost use Rattle.std.specs.Option.{option_copied, option_map};
 ghost use Rattle.machine_model.specs.Listing.{file_at, dir_at};
 
 use crate::machine::Machine;
-use crate::order::nth_of_kind;
+use machine_tree::nth_of_kind;
 
 impl Machine {
     /// The written name and the bytes of file `k`, counted from 0 in the order of the written names by bytes.

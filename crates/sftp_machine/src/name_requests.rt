@@ -11,15 +11,15 @@ ghost use Rattle.sftp_model.specs.Frames.{no_attributes};
 ghost use Rattle.machine_model.specs.Components.{written, last_of as last_by, is_child as is_child_by};
 ghost use Rattle.machine_model.specs.NameRequests.{after_stat, sets_node, after_setstat, after_remove, after_mkdir, after_rmdir, after_opendir, after_readdir, path_reply as path_by, after_realpath, after_rename, replaces, after_posix_rename, entries_at as entries_by, entry_of as entry_by, in_order, placed};
 ghost use Rattle.machine_model.specs.FileTree.{node_at as node_by, opened_at as opened_by, entries_of};
-ghost use Rattle.sftp_machine.specs.MachineState.{MachineState, Makes, numbered_handle as bytes_of_handle};
+ghost use Rattle.sftp_machine.specs.MachineState.{MachineState, Makes};
+ghost use Rattle.machine_tree.specs.Numbers.{numbered_handle as bytes_of_handle};
 
 use crate::change::Change;
 use crate::handle_requests::capped;
-use crate::lookups::{has_child, is_before, is_child, is_long, is_within};
 use crate::store::Store;
-use crate::tree_name::TreeName;
 use machine_model::limits::MAX_NAME_ENTRIES;
 use machine_model::{Node, Opened};
+use machine_tree::{TreeName, has_child, is_before, is_child, is_long, is_within};
 use sftp_model::numbers::{SSH_FX_EOF, SSH_FX_FAILURE, SSH_FX_NO_SUCH_FILE};
 use sftp_model::{FileAttrs, Handle, NameEntry, RemotePath, Reply, TryCopy};
 use sftp_values::{ByteText, Items};

@@ -8,20 +8,22 @@ ghost use Rattle.machine_model.specs.Limits.{MAX_FILE_LEN, MAX_TOTAL_LEN};
 ghost use Rattle.machine_model.specs.HandleRequests.{refuses as refuses_by, done as done_by};
 ghost use Rattle.machine_model.specs.FileTree.{node_at as node_by, opened_at as opened_by, file_of, entries_of, bytes_of as bytes_by, attributes_of as attributes_by, is_directory as is_directory_by, is_over as is_over_by};
 ghost use Rattle.machine_model.specs.Listing.{node_bytes as node_bytes_by};
-ghost use Rattle.sftp_machine.specs.MachineState.{MachineState, IsValid, Makes, committed, MAX_HANDLES, numbered_handle as bytes_of_handle};
+ghost use Rattle.machine_tree.specs.Numbers.{numbered_handle as bytes_of_handle};
+ghost use Rattle.machine_model.specs.FirstTree.{first_tree};
+ghost use Rattle.sftp_machine.specs.MachineState.{MachineState, IsValid, Makes, committed, MAX_HANDLES};
 ghost use Rattle.sftp_machine.specs.declared.change.Change.TheVariants as change;
 
 use crate::change::Change;
-use crate::file_bytes::FileBytes;
-use crate::handles::Handles;
-use crate::lookups::{all_bytes, is_directory};
-use crate::names::Names;
-use crate::tree_name::TreeName;
 use machine_model::limits::{DIRECTORY_PERMISSIONS, MAX_FILE_LEN, MAX_TOTAL_LEN};
 use machine_model::{Held, Node, Opened};
+use machine_tree::{
+    FileBytes, Handles, Names, TreeName, all_bytes, first_contents, first_names, is_directory,
+    numbered_handle,
+};
 use sftp_model::numbers::SSH_FX_OK;
-use sftp_model::{FileAttrs, Handle, Reply, ServerConfig};
+use sftp_model::{FileAttrs, Reply, ServerConfig};
 use sftp_values::ByteText;
+use ssh_encoding::OutOfMemory;
 use std::alloc::Global;
 use std::marker::Model;
 
@@ -58,6 +60,28 @@ impl Model for Store {
 }
 
 impl Store {
+    /// These files, each a path and its bytes, these directories, each a path, and the parents of all. Refused only for
+    /// want of memory.
+    pub(crate) fn new(
+        alloc: Global,
+        files: &[(ByteText, ByteText)],
+        dirs: &[ByteText],
+        config: ServerConfig,
+    ) -> Result<Store, OutOfMemory>
+        ensures { IfOk result (λ m. m ≡ record { tree = first_tree files.now dirs.now; config = config; grants = 0 }) }
+    {
+        let names = first_names(alloc, files, dirs)?;
+        let contents = first_contents(alloc, files)?;
+        Ok(Store {
+            alloc,
+            names,
+            files: contents,
+            handles: Handles::new(alloc),
+            config,
+            grants: 0,
+        })
+    }
+
     /// How many handles were granted.
     pub(crate) fn grant_count(&self) -> u64
         ensures count { result ≡ self.now.grants }
@@ -202,14 +226,4 @@ fn is_past(size: u64, before: u64, all: u64) -> bool
     ensures { result ≡ (nat_lt MAX_FILE_LEN size || nat_lt MAX_TOTAL_LEN (min (all - before + size) (2 ^ 64 - 1))) }
 {
     size > MAX_FILE_LEN || all.saturating_sub(before).saturating_add(size) > MAX_TOTAL_LEN
-}
-
-/// The handle of a number, which is taken modulo the count of numbers of four bytes.
-pub(crate) fn numbered_handle(number: u64) -> Handle
-    ensures { result ≡ bytes_of_handle number }
-{
-    match Handle::new(&number.to_be_bytes()[4..]) {
-        Some(handle) => handle,
-        None => unreachable!(),
-    }
 }

@@ -21,7 +21,8 @@ use Rattle.machine_model.specs.TreeAnswers.{apply, limits_reply}
 use Rattle.machine_model.proofs.FirstFits.{first_fits}
 use Rattle.machine_model.proofs.ReplyFits.{body_within}
 use Rattle.machine_model.proofs.ReplyLaws.{tree_replies}
-use Rattle.sftp_machine.specs.MachineState.{MachineState, answer, numbered_handle, with_grant, with_tree, MAX_HANDLES}
+use Rattle.machine_tree.specs.Numbers.{numbered_handle}
+use Rattle.sftp_machine.specs.MachineState.{MachineState, answer, with_grant, with_tree, MAX_HANDLES}
 use Rattle.sftp_map_server.specs.Serving.{gives_within, is_query, told_bits, version_reply}
 
 -- ---- what is served

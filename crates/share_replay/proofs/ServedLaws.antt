@@ -50,7 +50,8 @@ use Rattle.machine_model.specs.HandleRequests.{Answer}
 use Rattle.machine_model.specs.TreeAnswers.{apply, first_choice, limits_reply}
 use Rattle.machine_model.specs.declared.opened.Opened.{Opened}
 use Rattle.machine_model.proofs.GrantingLaws.{unopened_stays}
-use Rattle.sftp_machine.specs.MachineState.{MAX_HANDLES, MachineState, answer as answer_of, counted, numbered_handle, with_grant, with_tree}
+use Rattle.machine_tree.specs.Numbers.{numbered_handle}
+use Rattle.sftp_machine.specs.MachineState.{MAX_HANDLES, MachineState, answer as answer_of, counted, with_grant, with_tree}
 use Rattle.session_model.specs.declared.event.Owner.{Owner}
 use Rattle.session_model.specs.declared.event.Owner.TheVariants as owner
 use Rattle.session_model.specs.declared.event.Event.TheVariants.{Submit, Send, Take, Cancel, End}

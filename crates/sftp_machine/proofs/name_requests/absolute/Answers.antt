@@ -1,7 +1,7 @@
 use Rattle.std.proofs.Common.{rules, ◌≡◌, ◌∙◌}
 use Rattle.std.specs.Prelude.{flat_map}
-use Rattle.sftp_machine.specs.Names.{slashed}
-use Rattle.sftp_machine.proofs.PathLaws.{slashed_name}
+use Rattle.machine_tree.specs.Names.{slashed}
+use Rattle.machine_tree.proofs.PathLaws.{slashed_name}
 use Rattle.sftp_machine.proofs.name_requests.absolute.Goals as goal
 
 pub returns : goal.returns

@@ -1,7 +1,8 @@
 use Rattle.std.proofs.Common.{rules, ◌≡◌, ◌<◌, true}
 use Rattle.machine_model.specs.TreeAnswers.{apply}
+use Rattle.machine_tree.specs.Numbers.{numbered_handle}
 use Rattle.sftp_machine.specs.Changes.{is_grant}
-use Rattle.sftp_machine.specs.MachineState.{IsConsistent, MAX_HANDLES, Makes, numbered_handle}
+use Rattle.sftp_machine.specs.MachineState.{IsConsistent, MAX_HANDLES, Makes}
 use Rattle.sftp_machine.proofs.ReplyLaws.{consistent_committed}
 use Rattle.sftp_machine.proofs.machine.Machine.find.Goals as goal
 

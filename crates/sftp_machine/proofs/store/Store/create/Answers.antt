@@ -1,9 +1,10 @@
 use Rattle.std.proofs.Common.{rules, ◌≡◌, ◌∙◌, ◌<◌, ◌^◌, List, ℕ, [], ◌∷◌, ◌++◌, ap, sym, subst, arith}
 use Rattle.machine_model.specs.FileTree.{FileTree}
 use Rattle.machine_model.specs.declared.opened.Opened.{Opened}
-use Rattle.sftp_machine.specs.MachineState.{AllBelow, MachineState, numbered_handle}
+use Rattle.machine_tree.specs.Numbers.{AllBelow, numbered_handle}
+use Rattle.machine_tree.proofs.NumberLaws.{put_back}
+use Rattle.sftp_machine.specs.MachineState.{MachineState}
 use Rattle.sftp_machine.proofs.KeptLaws.{below_push}
-use Rattle.sftp_machine.proofs.NumberLaws.{put_back}
 use Rattle.sftp_machine.proofs.store.Store.create.Goals as goal
 
 pub invariant_of-self-then-is_err : goal.invariant_of-self-then-is_err

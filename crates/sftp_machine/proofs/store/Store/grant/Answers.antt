@@ -1,5 +1,6 @@
 use Rattle.std.proofs.Common.{rules, ◌≡◌, [], ◌∷◌, ◌++◌, ap, arith}
-use Rattle.sftp_machine.specs.MachineState.{MachineState, numbered_handle}
+use Rattle.machine_tree.specs.Numbers.{numbered_handle}
+use Rattle.sftp_machine.specs.MachineState.{MachineState}
 use Rattle.sftp_machine.proofs.KeptLaws.{below_push}
 use Rattle.sftp_machine.proofs.store.Store.grant.Goals as goal
 

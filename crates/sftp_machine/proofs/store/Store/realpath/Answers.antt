@@ -1,6 +1,6 @@
 use Rattle.std.proofs.Common.{rules, ◌<◌, ◌≤◌, ◌∷◌, length}
 use Rattle.machine_model.specs.Components.{written}
-use Rattle.sftp_machine.proofs.PathLaws.{path_over, path_within}
+use Rattle.sftp_machine.proofs.PathLens.{path_over, path_within}
 use Rattle.sftp_machine.proofs.store.Store.realpath.Goals as goal
 
 pub returns-then-as_bytes-gt-MAX_PATH_LEN : goal.returns-then-as_bytes-gt-MAX_PATH_LEN

@@ -1,7 +1,0 @@
-use Rattle.std.proofs.Common.{◌≡◌, ◌≤◌, take, length}
-use Rattle.std.specs.Prelude.{filter}
-use Rattle.machine_model.specs.Listing.{has_directory}
-use Rattle.sftp_machine.proofs.counts.count_directories.Given as goal
-
-abbrev pub invariant-loop-pair : goal.invariant-loop-pair
-invariant-loop-pair l = (l.count ≡ length (filter has_directory (take l.pair-index l.pairs))) × (l.count ≤ l.pair-index)

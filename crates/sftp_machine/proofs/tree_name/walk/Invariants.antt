@@ -1,8 +1,0 @@
-use Rattle.std.proofs.Common.{◌≡◌, drop}
-use Rattle.machine_model.specs.Components.{components, walked, parts_of}
-use Rattle.sftp_machine.proofs.WalkLaws.{with_prefix}
-use Rattle.sftp_machine.proofs.tree_name.walk.Given as goal
-
--- where one stands, with the bytes of the part that was begun, and what is left lead to the name
-abbrev pub invariant-loop-b : goal.invariant-loop-b
-invariant-loop-b l = walked l.at.items (with_prefix l.part.items (parts_of (drop l.b-index l.path))) ≡ components l.path
