@@ -68,7 +68,7 @@ use Rattle.sftp_lanes.specs.Events.{
 }
 use Rattle.sftp_lanes.specs.Seen.{SessionValue, given_of, seen_of, setting_at}
 use Rattle.session_work.specs.Working.{LanesValue, past_of, progress_of}
-use Rattle.session_work.specs.SoFar.{kept_past, refused_past}
+use Rattle.session_work.specs.SoFar.{refused_past}
 use Rattle.session_work.specs.declared.lanes.Lanes.{Lanes}
 use Rattle.session_seats.specs.Sights.{FitsStage, Rises, StaysThere}
 use Rattle.session_seats.specs.Holds.{GoesBy, no_allowance, passes}
@@ -362,14 +362,9 @@ takes_extended Failed body_reads lane old new h = absurd h
 abbrev pub LetsKeep : (Entry → Bool) → Type 0
 LetsKeep test = (f : Fault) → test (entry.Kept f) ≡ true
 
-kept_extend : (test : Entry → Bool) → LetsKeep test → (first : Option Fault) (f : Fault) (past now : List Entry) → now
-    ≡ kept_past first f past → Extends test past now
-kept_extend test lets None f past now is = subst (Extends test past) (sym is) (extends_one test (entry.Kept f) past (lets f))
-kept_extend test lets (Some g) f past now is = subst (Extends test past) (sym is) (extends_none test past)
-
 pub kept_extended : (test : Entry → Bool) → LetsKeep test → (f : Fault) (old new : SessionValue) → IsKept f old new → Extended test old new
 kept_extended test lets f old new h = record {
-  past = kept_extend test lets old.work.core.fault f (past_of old.work) (past_of new.work) h.past;
+  past = subst (Extends test (past_of old.work)) (sym h.past) (extends_one test (entry.Kept f) (past_of old.work) (lets f));
   lanes = h.lanes;
   options = h.options;
   version = subst (StaysThere old.version) (sym h.version) (stays_same old.version);

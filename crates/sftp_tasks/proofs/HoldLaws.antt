@@ -60,7 +60,7 @@ use Rattle.sftp_model.specs.ReplyReadings.{reply_at}
 use Rattle.std.specs.Option.{option_map}
 use Rattle.plan_model.specs.declared.call.Call.{Call}
 use Rattle.sftp_lanes.specs.Adding.{AddsCall, IsSame}
-use Rattle.sftp_tasks.specs.SessionEvents.{GivesUp, IsKept, RefusesCall, RefusesToAdd, SubmitsCall, TakeStops}
+use Rattle.sftp_tasks.specs.SessionEvents.{GivesUp, KeepsFault, RefusesCall, RefusesToAdd, SubmitsCall, TakeStops}
 use Rattle.sftp_tasks.specs.LockedEvents.{
   Finishing,
   HandingOut,
@@ -161,12 +161,13 @@ pub taking_goes : (lane : Option ℕ) (body : List ℕ) (y z : Locked) (r : Resu
     ≡ record y { session = z.session; counts = record y.counts { taken = z.counts.taken } }
     → y.counts.taken ≤ z.counts.taken
     → Taking body y z r → GoesBy (passes by_read lane) no_allowance (shown_of y) (shown_of z)
-taking_goes lane body y z (Ok u) rest more h = taken_goes _ y z rest more (takes_extended y.session.phase _ lane y.session z.session h)
-taking_goes lane body y z (Err e) rest more h = taken_goes _ y z rest more (stops_extended _ (λ f. refl) _ e y.session z.session h)
+taking_goes lane body y z (Ok u) rest more h = taken_goes _ y z rest more (takes_extended y.session.phase _ lane y.session z.session h.0)
+taking_goes lane body y z (Err e) rest more h = taken_goes _ y z rest more (stops_extended _ (λ f. refl) _ e y.session z.session h.0)
 
-pub failing_goes : (lane : Option ℕ) (f : Fault) (y z : Locked) → z ≡ record y { session = z.session }
-    → IsKept f y.session z.session → GoesBy (passes by_failing lane) no_allowance (shown_of y) (shown_of z)
-failing_goes lane f y z rest h = session_goes _ y z rest (kept_extended _ (λ g. refl) f y.session z.session h)
+pub failing_goes : (lane : Option ℕ) (f : Fault) (y z : Locked) (r : Result (Unit {0}) Error) → z ≡ record y { session = z.session }
+    → KeepsFault f y.session z.session r → GoesBy (passes by_failing lane) no_allowance (shown_of y) (shown_of z)
+failing_goes lane f y z (Ok u) rest h = session_goes _ y z rest (kept_extended _ (λ g. refl) f y.session z.session h)
+failing_goes lane f y z (Err e) rest h = session_goes _ y z rest (same_extended _ y.session z.session h.1.1.1)
 
 hands_from : (y z : Locked) (handed : Option Handed) → MatchOption handed (z.counts.handed ≡ y.counts.handed)
     (λ h. z.counts.handed ≡ y.counts.handed + h.frames)
@@ -188,8 +189,8 @@ pub taking_from : (body : List ℕ) (y z : Locked) (r : Result (Unit {0}) Error)
     → OnOk r (TakesIn y.session.phase (reply_at body) y.session z.session)
     → OnOk r ((z.counts.taken ≡ min (y.counts.taken + 1) (2 ^ 64 - 1)) × (y.counts.taken ≤ z.counts.taken))
     → IfErr r (λ e. TakeStops (reply_at body) e y.session z.session × (z.counts.taken ≡ y.counts.taken)) → Taking body y z r × (y.counts.taken ≤ z.counts.taken)
-taking_from body y z (Ok u) a b c = (a, b.1)
-taking_from body y z (Err e) a b c = (c.0, let same = c.1 in omega arith)
+taking_from body y z (Ok u) a b c = ((a, b.0), b.1)
+taking_from body y z (Err e) a b c = (c, let same = c.1 in omega arith)
 
 pub gives_up_goes : (lane : Option ℕ) (y z : Locked) → z ≡ record y { session = z.session }
     → GivesUp y.session z.session → GoesBy (passes by_nothing lane) no_allowance (shown_of y) (shown_of z)
@@ -333,15 +334,6 @@ got_or body (Some b) = b
 
 -- a frame's body is the one that was taken
 pub taking_frame : (frame : Received) (body : List ℕ) (y z : Locked) (r : Result (Unit {0}) Error) → body_of frame ≡ Some body → IsFrame frame body
-    → OnOk r (TakesIn y.session.phase (reply_at body) y.session z.session)
-    → IfErr r (λ e. TakeStops (reply_at body) e y.session z.session × (z.counts.taken ≡ y.counts.taken)) → TakingFrame frame y z r
-taking_frame frame body y z r is spelled takes stops other same =
-    subst (λ (b : List ℕ). IsFrame frame b × Taking b y z r) (some_same (sym is ∙ same)) (spelled, by_result r takes stops)
-  where
-    some_same : Some body ≡ Some other → body ≡ other
-    some_same e = ap (got_or body) e
-
-    by_result : (r : Result (Unit {0}) Error) → OnOk r (TakesIn y.session.phase (reply_at body) y.session z.session)
-        → IfErr r (λ e. TakeStops (reply_at body) e y.session z.session × (z.counts.taken ≡ y.counts.taken)) → Taking body y z r
-    by_result (Ok u) a b = a
-    by_result (Err e) a b = b.0
+    → Taking body y z r → TakingFrame frame y z r
+taking_frame frame body y z r is spelled takes other same =
+    subst (λ (b : List ℕ). IsFrame frame b × Taking b y z r) (ap (got_or body) (sym is ∙ same)) (spelled, takes)

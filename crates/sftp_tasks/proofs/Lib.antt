@@ -2,6 +2,7 @@ pub mod EntryLaws
 pub mod HoldLaws
 pub mod CallLaws
 pub mod RoundLaws
+pub mod StopLaws
 pub mod LaneLaws
 pub mod CloseLaws
 pub mod SameLocked

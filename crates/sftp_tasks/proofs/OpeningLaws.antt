@@ -1,5 +1,5 @@
 -- How a seat opens the session.
-use Rattle.std.proofs.Common.{◌≡◌, ◌≤◌, ◌+◌, ◌-◌, ℕ, List, [], drop, Bool, true, false, true≢false, refl, sym, ap, ◌∙◌, subst, inl, inr, arith, Option, Some, None, Ok, Err}
+use Rattle.std.proofs.Common.{◌≡◌, ◌⊎◌, ◌≤◌, ◌+◌, ◌-◌, ℕ, List, [], drop, Bool, true, false, true≢false, refl, sym, ap, ◌∙◌, subst, inl, inr, arith, Option, Some, None, Ok, Err}
 use Rattle.std.specs.Prelude.{IfErr, OnOk, Result}
 use Rattle.session_driver.specs.declared.session.Phase.TheVariants.{Fresh, Greeted}
 use Rattle.session_driver.specs.Session.{Seen}
@@ -36,9 +36,9 @@ use Rattle.sftp_tasks.specs.declared.locked.Locked.{Locked}
 use Rattle.sftp_tasks.specs.Calls.{settled}
 use Rattle.sftp_tasks.specs.Entries.{by_failing, by_nothing}
 use Rattle.sftp_tasks.specs.LockedEvents.{HandingOut, IsFrame, Taking, UnlessFault, tells}
-use Rattle.sftp_tasks.specs.Opening.{FindsHello, GetsSomeVersion, HandingHello, HandsOutHello, TakingVersion, TakingVersionFrame, VersionStops, by_opening}
+use Rattle.sftp_tasks.specs.Opening.{FindsHello, GetsSomeVersion, HandingHello, HandsOutHello, IsUnasked, TakingVersion, TakingVersionFrame, VersionStops, by_opening}
 use Rattle.sftp_tasks.specs.Rounds.{RefusesRound, Token}
-use Rattle.sftp_tasks.specs.SessionEvents.{HasNoFault}
+use Rattle.sftp_tasks.specs.SessionEvents.{HasNoFault, RefusesCall, TakeStops}
 use Rattle.sftp_tasks.specs.Shows.{shown_of}
 use Rattle.sftp_tasks.proofs.EntryLaws.{
   Extended,
@@ -123,18 +123,22 @@ version_extended body_reads asks lane old new h = record {
   version = subst (λ (v : Option Reply). StaysThere v new.version) (sym h.untold) tt;
 }
 
+-- a frame that is not taken as VERSION adds at most a fault
+untaken_extended : (lane : Option ℕ) (body : List ℕ) (e : Error) (old new : SessionValue)
+    → RefusesCall e old new ⊎ (TakeStops (reply_at body) e old new ⊎ IsUnasked e old new) → Extended (passes by_opening lane) old new
+untaken_extended lane body e old new (inl h) = refuses_extended _ e old new h
+untaken_extended lane body e old new (inr (inl h)) = stops_extended _ (λ f. refl) _ e old new h
+untaken_extended lane body e old new (inr (inr h)) = kept_extended _ (λ f. refl) (fault.Response None) old new h.kept
+
 pub version_goes : (lane : Option ℕ) (body : List ℕ) (y z : Locked) (r : Result (Unit {0}) Error) → z
     ≡ record y { session = z.session; counts = record y.counts { taken = z.counts.taken } }
     → y.counts.taken ≤ z.counts.taken → TakingVersion body y z r → GoesBy (passes by_opening lane) no_allowance (shown_of y) (shown_of z)
-version_goes lane body y z (Ok u) rest more h = taken_goes _ y z rest more (version_extended _ h.0 lane y.session z.session h.1)
-version_goes lane body y z (Err e) rest more (inl h) = taken_goes _ y z rest more (refuses_extended _ e y.session z.session h)
-version_goes lane body y z (Err e) rest more (inr (inl h)) = taken_goes _ y z rest more (stops_extended _ (λ f. refl) _ e y.session z.session h)
-version_goes lane body y z (Err e) rest more (inr (inr h)) =
-    taken_goes _ y z rest more (kept_extended _ (λ f. refl) (fault.Response None) y.session z.session h.kept)
+version_goes lane body y z (Ok u) rest more h = taken_goes _ y z rest more (version_extended _ h.0.0 lane y.session z.session h.0.1)
+version_goes lane body y z (Err e) rest more h = taken_goes _ y z rest more (untaken_extended lane body e y.session z.session h.0)
 
 pub version_awaited : (body : List ℕ) (y z : Locked) (r : Result (Unit {0}) Error) → y.session.phase ≡ Greeted → Taking body y z r → TakingVersion body y z r
-version_awaited body y z (Ok u) greeted h = subst (λ (p : Phase). TakesIn p (reply_at body) y.session z.session) greeted h
-version_awaited body y z (Err e) greeted h = inr (inl h)
+version_awaited body y z (Ok u) greeted h = (subst (λ (p : Phase). TakesIn p (reply_at body) y.session z.session) greeted h.0, h.1)
+version_awaited body y z (Err e) greeted h = (inr (inl h.0), h.1)
 
 abbrev got_or : List ℕ → Option (List ℕ) → List ℕ
 got_or body None = body
@@ -154,7 +158,7 @@ module _ {X Y Service : Type 0} {test : Entry → Bool} {needs : Allowance} {old
   version_got whole got caused h =
       let body = drop 4 frame.bytes in
       let t = h.did.does.0 body (whole_body frame whole) in
-      let v = t.1.1 in (
+      let v = t.1.0.1 in (
         greeting v.extensions,
         record {
           frame = frame;
@@ -162,7 +166,7 @@ module _ {X Y Service : Type 0} {test : Entry → Bool} {needs : Allowance} {old
           caused = caused;
           reads = record { body = body; framed = t.0.0; short = t.0.1; reads = v.reads };
           takes = hold_map shown_of m n h
-              ((t.1.0, subst (λ x. TakesVersion x t.1.0 h.before.session h.after.session) v.reads v), h.did.does.1);
+              (((t.1.0.0, subst (λ x. TakesVersion x t.1.0.0 h.before.session h.after.session) v.reads v), t.1.1), h.did.does.1);
           sees = sees_version shown_of m n h ∙ v.told;
         },
       )

@@ -50,7 +50,7 @@ use Rattle.sftp_tasks.specs.declared.workers.Shift.TheVariants.{Over}
 use Rattle.sftp_tasks.specs.Calls.{InOneHold}
 use Rattle.sftp_tasks.specs.Entries.{by_failing}
 use Rattle.sftp_tasks.specs.LockedEvents.{TellsStage, Writing}
-use Rattle.sftp_tasks.specs.Rounds.{FlushStops, FlushesRound, Flushed, HoldsOnce, Stopping, Stops, Token, Unsent, fault_for}
+use Rattle.sftp_tasks.specs.Rounds.{FlushStops, FlushesRound, Flushed, HoldsOnce, KeepsFirst, Stopping, Stops, Token, Unsent, fault_for}
 use Rattle.sftp_tasks.specs.Sent.{SeesVersion, SentUnless, WroteSends, sent_by, taken_by}
 use Rattle.sftp_tasks.specs.SessionEvents.{RefusesCall}
 use Rattle.sftp_tasks.specs.Shows.{shown_of}
@@ -94,12 +94,17 @@ module _ {Did : Locked → Locked → List Entry → Type 0} (m n : Token) (h : 
 pub same_refused : (e : Error) (m n : Token) → HoldsOnce (λ y z more. RefusesCall e y.session z.session) m n → SameSent m n
 same_refused e m n h = same_if m n h (refuses_extended (by_failing None) e h.before.session h.after.session h.did).past
 
-stopping_extends : (o : Option Fault) (y z : Locked) → Stopping o y z → Extends (by_failing None) (past_of y.session.work) (past_of z.session.work)
-stopping_extends (Some fault) y z h = (kept_extended (by_failing None) (λ f. refl) fault y.session z.session h).past
-stopping_extends None y z h = ([], ap (λ (s : SessionValue). past_of s.work) h, refl)
+first_extends : (o : Option Fault) (y z : Locked) → KeepsFirst o y z → Extends (by_failing None) (past_of y.session.work) (past_of z.session.work)
+first_extends (Some fault) y z h = (kept_extended (by_failing None) (λ f. refl) fault y.session z.session h).past
+first_extends None y z h = absurd h
 
-pub same_stopped : (e : Error) (m n : Token) → Stops e m n → SameSent m n
-same_stopped e m n h = same_if m n h (stopping_extends (fault_for e) h.before h.after h.did)
+stopping_extends : (why e : Error) (y z : Locked) → Stopping why e y z → Extends (by_failing None) (past_of y.session.work) (past_of z.session.work)
+stopping_extends why error.OutOfMemory y z h = ([], ap (λ (s : SessionValue). past_of s.work) h.1, refl)
+stopping_extends why (error.BackgroundTaskFailure first) y z h = ([], ap (λ (x : Locked). past_of x.session.work) h.1, refl)
+stopping_extends why other y z h = first_extends (fault_for why) y z h.1
+
+pub same_stopped : (why e : Error) (m n : Token) → Stops why e m n → SameSent m n
+same_stopped why e m n h = same_if m n h (stopping_extends why e h.before h.after h.did)
 
 pub same_noted : (frames : ℕ) (m n : Token) → HoldsOnce (λ y z more. (more ≡ []) × Writing frames y z) m n → SameSent m n
 same_noted frames m n h = same_past m n h (ap (λ (x : Locked). past_of x.session.work) h.did.1)
@@ -215,7 +220,7 @@ module _ {Service : Type 0} where
 
   unsent_wrote : {T : Type 0} (e : Error) (hello : Reply) (m n : Token) (v w : LinkView Service) → SeesVersion hello (sight_by m) → Unsent e m n v w → Wrote {T = T} hello (Err e) m n v w
   unsent_wrote e hello m n v w sees u =
-      let stops = same_stopped e u.mid n u.stops in (
+      let stops = same_stopped u.why e u.mid n u.stops in (
         wrote_same (Err e) m u.mid n v w
             (record {
               bytes = u.bytes;

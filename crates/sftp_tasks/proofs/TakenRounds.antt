@@ -152,7 +152,7 @@ module _ {Service : Type 0} where
       let body = drop 4 o.frame.bytes in
       let taken = h.did.0 body (whole_body o.frame o.whole) in
       let told = version_before shown_of o.mid n h hello (looked.version hello sees) in
-      let r = takes_reply h.before.session.phase (reply_at body) h.before.session h.after.session hello told taken.1 in
+      let r = takes_reply h.before.session.phase (reply_at body) h.before.session h.after.session hello told taken.1.0 in
       let is : h.more ≡ r.closes ++ entry.Event (Take r.id r.reply) ∷ [] =
       append_cancel_right h.more (r.closes ++ entry.Event (Take r.id r.reply) ∷ []) (past_of h.before.session.work)
       (sym h.past ∙ r.past ∙ sym (append_assoc r.closes (entry.Event (Take r.id r.reply) ∷ []) (past_of h.before.session.work))) in
@@ -177,7 +177,7 @@ module _ {Service : Type 0} where
       let same = same_idle m n v w h in (got_idle t m n v w same h.1, same.version hello sees)
 
   unread_same : (e : Error) (m n : Token) (v w : LinkView Service) → Unread e m n v w → SameSent m n
-  unread_same e m n v w u = same_on m u.mid n (same_value m u.mid u.looks u.looks.did.0.0) (same_stopped e u.mid n u.stops)
+  unread_same e m n v w u = same_on m u.mid n (same_value m u.mid u.looks u.looks.did.0.0) (same_stopped u.why e u.mid n u.stops)
 
   untaken_same : (e : Error) (m n : Token) (v w : LinkView Service) → Untaken e m n v w → SameSent m n
   untaken_same e m n v w u =
@@ -185,7 +185,7 @@ module _ {Service : Type 0} where
       let body = drop 4 u.frame.bytes in
       let stops = h.did body (whole_body u.frame u.whole) in
       same_on m u.mid n (same_value m u.mid u.looks u.looks.did.0.0)
-      (same_if u.mid n h (stops_extended (by_failing None) (λ f. refl) (reply_at body) e h.before.session h.after.session stops.1).past)
+      (same_if u.mid n h (stops_extended (by_failing None) (λ f. refl) (reply_at body) e h.before.session h.after.session stops.1.0).past)
 
   stops_got : {T : Type 0} (e : Error) (hello : Reply) (m n : Token) (v w : LinkView Service) → SeesVersion hello (sight_by m)
       → ReadStops e m n v w → Got {T = T} hello (Err e) m n v w
@@ -194,8 +194,8 @@ module _ {Service : Type 0} where
   stops_got e hello m n v w sees (inr (inl u)) =
       let same = unread_same e m n v w u in (
         got_bytes e m n v w same
-            (told_as (ReadFails e) GotSome v.log w.log u.fails
-            (λ x y g. (g.0, (one_frame e g.0 g.1.0, g.1.1)))),
+            (told_as (ReadFails u.why) GotSome v.log w.log u.fails
+            (λ x y g. (g.0, (one_frame u.why g.0 g.1.0, g.1.1)))),
         same.version hello sees,
       )
   stops_got e hello m n v w sees (inr (inr (inl u))) =

@@ -51,7 +51,7 @@ use Rattle.sftp_tasks.specs.declared.polls.Polled.{Polled}
 use Rattle.sftp_tasks.specs.SessionEvents.{
   GivesUp,
   HasNoFault,
-  IsKept,
+  KeepsFault,
   LetsLaneGoIn,
   PollsIn,
   RefusesCall,
@@ -110,9 +110,14 @@ HandingOut y z (Ok handed) =
     × (z.counts.written ≡ y.counts.written))
 HandingOut y z (Err e) = RefusesCall e y.session z.session × (z.counts.handed ≡ y.counts.handed)
 
+-- one frame more is counted as taken
+abbrev pub CountsFrame : Locked → Locked → Type 0
+CountsFrame y z = z.counts.taken ≡ min (y.counts.taken + 1) (2 ^ 64 - 1)
+
+-- a frame that is taken is counted, and one that is refused is not
 abbrev pub Taking : List ℕ → Locked → Locked → Result (Unit {0}) Error → Type 0
-Taking body y z (Ok u) = TakesIn y.session.phase (reply_at body) y.session z.session
-Taking body y z (Err e) = TakeStops (reply_at body) e y.session z.session
+Taking body y z (Ok u) = TakesIn y.session.phase (reply_at body) y.session z.session × CountsFrame y z
+Taking body y z (Err e) = TakeStops (reply_at body) e y.session z.session × (z.counts.taken ≡ y.counts.taken)
 
 -- what came is this body behind its length
 abbrev pub IsFrame : Received → List ℕ → Type 0
@@ -126,8 +131,8 @@ abbrev pub Writing : ℕ → Locked → Locked → Type 0
 Writing frames y z =
     z ≡ record y { counts = record y.counts { written = min (y.counts.written + frames) (2 ^ 64 - 1) } }
 
-abbrev pub Failing : Fault → Locked → Locked → Type 0
-Failing fault y z = IsKept fault y.session z.session
+abbrev pub Failing : Fault → Locked → Locked → Result (Unit {0}) Error → Type 0
+Failing fault y z r = (z ≡ record y { session = z.session }) × KeepsFault fault y.session z.session r
 
 abbrev pub GivingUp : Locked → Locked → Type 0
 GivingUp y z = GivesUp y.session z.session

@@ -41,7 +41,7 @@ use Rattle.sftp_model.specs.ReplyReadings.{reply_at}
 use Rattle.sftp_wire.specs.FrameReader.{Received, body_of}
 use Rattle.sftp_tasks.specs.declared.frames.Handed.{Handed}
 use Rattle.sftp_tasks.specs.declared.locked.Locked.{Locked}
-use Rattle.sftp_tasks.specs.LockedEvents.{Hands, IsFrame, Writing}
+use Rattle.sftp_tasks.specs.LockedEvents.{CountsFrame, Hands, IsFrame, Writing}
 use Rattle.sftp_tasks.specs.Rounds.{HoldsOnce, RefusesRound, Stops, Token}
 use Rattle.sftp_tasks.specs.Sent.{SeesVersion}
 use Rattle.sftp_tasks.specs.SessionEvents.{HasNoFault, IsKept, RefusesCall, TakeStops}
@@ -73,12 +73,14 @@ pub record IsUnasked (e : Error) (old new : SessionValue) : Type 0 where
   pub is : e ≡ error.InvalidResponse None
   pub kept : IsKept (fault.Response None) old new
 
--- VERSION is taken
+-- VERSION is taken and counted; another frame is refused, and not counted
 abbrev pub TakingVersion : List ℕ → Locked → Locked → Result (Unit {0}) Error → Type 0
-TakingVersion body y z (Ok u) = (asks : Bool) × TakesVersion (reply_at body) asks y.session z.session
+TakingVersion body y z (Ok u) =
+    ((asks : Bool) × TakesVersion (reply_at body) asks y.session z.session) × CountsFrame y z
 TakingVersion body y z (Err e) =
-    RefusesCall e y.session z.session
-    ⊎ (TakeStops (reply_at body) e y.session z.session ⊎ IsUnasked e y.session z.session)
+    (RefusesCall e y.session z.session
+    ⊎ (TakeStops (reply_at body) e y.session z.session ⊎ IsUnasked e y.session z.session))
+    × (z.counts.taken ≡ y.counts.taken)
 
 abbrev pub TakingVersionFrame : Received → Locked → Locked → Result (Unit {0}) Error → Type 0
 TakingVersionFrame received y z r =
@@ -106,24 +108,25 @@ SendsHelloOrNot false m n before now = FindsHello m n × (now ≡ before)
 -- it could not be sent whole, and the session stops by that
 pub record HelloUnsent {Service : Type 0} (e : Error) (m n : Token) (before now : LinkView Service) : Type 0 where
   pub mid : Token
+  pub why : Error
   pub hands : HoldsOnce (λ y z more. HandsHello y.session z.session × HasNoFault y.session) m mid
-  pub sent : SentBy {T = Unit {0}} hello_frame before now (Err e)
-  pub stops : Stops e mid n
+  pub sent : SentBy {T = Unit {0}} hello_frame before now (Err why)
+  pub stops : Stops why e mid n
 
 abbrev pub HelloStops : {Service : Type 0} → Error → Token → Token → LinkView Service → LinkView Service → Type 0
 HelloStops e m n before now = RefusesRound e m n before now ⊎ HelloUnsent e m n before now
 
 -- ---- VERSION
 
--- one frame was got that reads as this VERSION, the session took it in one hold, and the seat has seen it
+-- one frame was got that reads as this VERSION, the session took and counted it in one hold, and the seat has seen it
 pub record GetsVersion {Service : Type 0} (hello : Reply) (m n : Token) (before now : LinkView Service) : Type 0 where
   pub frame : Received
   pub got : Told (GotAll frame.bytes) before.log now.log
   pub caused : Caused {T = Received} before now (Ok frame)
   pub reads : IsFrameOf None hello frame.bytes
   pub takes : HoldsOnce
-      (λ y z more. ((asks : Bool) × TakesVersion (Ok (None, hello)) asks y.session z.session) × HasNoFault y.session)
-      m n
+      (λ y z more. (((asks : Bool) × TakesVersion (Ok (None, hello)) asks y.session z.session) × CountsFrame y z)
+      × HasNoFault y.session) m n
   pub sees : SeesVersion hello (sight_by n)
 
 abbrev pub GetsSomeVersion : {Service : Type 0} → Token → Token → LinkView Service → LinkView Service → Type 0
@@ -131,9 +134,10 @@ GetsSomeVersion m n before now = (hello : Reply) × GetsVersion hello m n before
 
 -- no whole frame was got, and the session stops by it
 pub record VersionUnread {Service : Type 0} (e : Error) (m n : Token) (before now : LinkView Service) : Type 0 where
-  pub fails : Told (ReadFails e) before.log now.log
-  pub caused : Caused {T = Received} before now (Err e)
-  pub stops : Stops e m n
+  pub why : Error
+  pub fails : Told (ReadFails why) before.log now.log
+  pub caused : Caused {T = Received} before now (Err why)
+  pub stops : Stops why e m n
 
 -- one was got, and it was refused
 pub record VersionRefused {Service : Type 0} (e : Error) (m n : Token) (before now : LinkView Service) : Type 0 where

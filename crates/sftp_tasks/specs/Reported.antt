@@ -21,10 +21,11 @@ use Rattle.std.specs.Prelude.{
   vec_capacity,
 }
 use Rattle.std.specs.declared.vec.Vec.{Vec}
-use Rattle.std.proofs.Common.{Global}
+use Rattle.std.proofs.Common.{Global, arith, refl}
 use Rattle.session_driver.specs.declared.session.Phase.TheVariants.{Failed}
 use Rattle.session_driver.specs.Session.{IsFixed}
 use Rattle.session_model.specs.declared.entry.Entry.{Entry}
+use Rattle.session_model.specs.declared.entry.Entry.TheVariants as entry
 use Rattle.session_model.specs.declared.event.Event.{Event}
 use Rattle.session_model.specs.Grants.{next_due}
 use Rattle.session_model.specs.Journals.{IsJournal}
@@ -104,6 +105,23 @@ abbrev pub HaveLanes : List Entry → List (Option ℕ) → List (List Receipt) 
 HaveLanes past [] [] = Unit {0}
 HaveLanes past (lane ∷ lanes) (list ∷ lists) = IfSome lane (λ l. HasLane past l list) × HaveLanes past lanes lists
 HaveLanes past lanes lists = ⊥
+
+-- ---- worked rows: lane 0 was let go, and then lane 1
+
+abbrev journal : List Entry
+journal = entry.LetGo 1 ∷ entry.LetGo 0 ∷ []
+
+pub entry_is_listed : HasLane journal 1 (receipt 1 (entry.LetGo 1) ∷ [])
+entry_is_listed = (λ its. (0, omega arith, refl), (λ its. absurd (cc its), tt))
+
+pub entry_is_missing : HasLane journal 1 [] → ⊥
+entry_is_missing h = let listed = (h.0 refl).1 in omega (arith, listed)
+
+pub lanes_are_listed : HaveLanes journal (Some 1 ∷ None ∷ []) ((receipt 1 (entry.LetGo 1) ∷ []) ∷ [] ∷ [])
+lanes_are_listed = (entry_is_listed, (tt, tt))
+
+pub list_is_missing : HaveLanes journal (Some 1 ∷ []) [] → ⊥
+list_is_missing h = h
 
 -- ---- the report
 

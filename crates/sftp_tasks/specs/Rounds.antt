@@ -15,8 +15,8 @@ use Rattle.sftp_lanes.specs.Events.{HandsOutIn}
 use Rattle.session_seats.specs.declared.view.View.{View}
 use Rattle.session_seats.specs.Holds.{Hold}
 use Rattle.sftp_tasks.specs.declared.locked.Locked.{Locked}
-use Rattle.sftp_tasks.specs.LockedEvents.{Failing, GivingUp, Hands, Looking, TakingFrame, UnlessFault, Writing}
-use Rattle.sftp_tasks.specs.SessionEvents.{HasNoFault, RefusesCall}
+use Rattle.sftp_tasks.specs.LockedEvents.{GivingUp, Hands, Looking, TakingFrame, UnlessFault, Writing}
+use Rattle.sftp_tasks.specs.SessionEvents.{HasFault, HasNoFault, IsKept, RefusesCall}
 use Rattle.sftp_tasks.specs.Shows.{shown_of}
 
 abbrev pub Token : Type 0
@@ -38,13 +38,20 @@ fault_for (error.InvalidResponse id) = Some (fault.Response id)
 fault_for (error.SftpError code message language) = Some (fault.Limits code)
 fault_for other = None
 
--- the fault is kept, or the session given up
-abbrev pub Stopping : Option Fault → Locked → Locked → Type 0
-Stopping (Some fault) y z = Failing fault y z
-Stopping None y z = GivingUp y z
+-- a fault is kept, the session's first one
+abbrev pub KeepsFirst : Option Fault → Locked → Locked → Type 0
+KeepsFirst None y z = ⊥
+KeepsFirst (Some fault) y z = IsKept fault y.session z.session
 
-abbrev pub Stops : Error → Token → Token → Type 0
-Stops e m n = HoldsOnce (λ y z more. Stopping (fault_for e) y z) m n
+-- What a round answers where this went wrong: the same, and its fault is the first that the session keeps; or the fault
+-- that was kept before, and nothing has changed; or want of memory, and the session is given up.
+abbrev pub Stopping : Error → Error → Locked → Locked → Type 0
+Stopping why error.OutOfMemory y z = (fault_for why ≡ None) × GivingUp y z
+Stopping why (error.BackgroundTaskFailure first) y z = HasFault first y.session × (z ≡ y)
+Stopping why e y z = (e ≡ why) × KeepsFirst (fault_for why) y z
+
+abbrev pub Stops : Error → Error → Token → Token → Type 0
+Stops why e m n = HoldsOnce (λ y z more. Stopping why e y z) m n
 
 -- ---- a round that sends
 
@@ -69,11 +76,12 @@ FlushesRound false m n before now =
 -- what was handed out could not all be sent, and the session stops by it
 pub record Unsent {Service : Type 0} (e : Error) (m n : Token) (before now : LinkView Service) : Type 0 where
   pub mid : Token
+  pub why : Error
   pub bytes : List ℕ
   pub hands : HoldsOnce
       (λ y z more. HandsOutIn y.session.phase y.session z.session (Some bytes) × HasNoFault y.session) m mid
-  pub sent : SentBy {T = Unit {0}} bytes before now (Err e)
-  pub stops : Stops e mid n
+  pub sent : SentBy {T = Unit {0}} bytes before now (Err why)
+  pub stops : Stops why e mid n
 
 -- the session refused to hand out, and nothing was sent
 abbrev pub RefusesRound : {Service : Type 0} → Error → Token → Token → LinkView Service → LinkView Service → Type 0
@@ -104,10 +112,11 @@ ReadsRound false m n before now = HoldsOnce (λ y z more. UnlessFault Looking y 
 -- no whole frame was got, and the session stops by it
 pub record Unread {Service : Type 0} (e : Error) (m n : Token) (before now : LinkView Service) : Type 0 where
   pub mid : Token
+  pub why : Error
   pub looks : HoldsOnce (λ y z more. UnlessFault Looking y z (Ok true)) m mid
-  pub fails : Told (ReadFails e) before.log now.log
-  pub caused : Caused {T = Received} before now (Err e)
-  pub stops : Stops e mid n
+  pub fails : Told (ReadFails why) before.log now.log
+  pub caused : Caused {T = Received} before now (Err why)
+  pub stops : Stops why e mid n
 
 -- one was got, and it was refused
 pub record Untaken {Service : Type 0} (e : Error) (m n : Token) (before now : LinkView Service) : Type 0 where

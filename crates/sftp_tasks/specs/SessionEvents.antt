@@ -8,6 +8,7 @@ use Rattle.std.specs.Prelude.{
   true,
   false,
   List,
+  ◌∷◌,
   ◌++◌,
   length,
   Option,
@@ -27,6 +28,7 @@ use Rattle.session_driver.specs.declared.session.Stepped.{Stepped}
 use Rattle.session_driver.specs.declared.session.Stepped.TheVariants as stepped
 use Rattle.session_exchange.specs.Refusals.{error_of}
 use Rattle.session_model.specs.declared.entry.Entry.{Entry}
+use Rattle.session_model.specs.declared.entry.Entry.TheVariants as entry
 use Rattle.session_model.specs.Calls.{added, calls_of, current}
 use Rattle.session_model.specs.Readings.{ended, was_let_go}
 use Rattle.sftp_model.specs.declared.error.Fault.{Fault}
@@ -38,7 +40,7 @@ use Rattle.sftp_model.specs.declared.reply.Reply.{Reply}
 use Rattle.sftp_lanes.specs.Adding.{AddsCall, CannotAdd, IsSame}
 use Rattle.sftp_lanes.specs.Events.{HasFailed, IsRefused, LetsGoIn, StepsIn, first_wrong, takes_frames}
 use Rattle.sftp_lanes.specs.Seen.{SessionValue, setting_at}
-use Rattle.session_work.specs.SoFar.{kept_in, kept_past}
+use Rattle.session_work.specs.SoFar.{kept_in}
 use Rattle.session_work.specs.Working.{past_of}
 use Rattle.sftp_tasks.specs.declared.polls.Polled.{Polled}
 use Rattle.sftp_tasks.specs.declared.polls.Polled.TheVariants as polled
@@ -63,12 +65,19 @@ RefusesCall error.OutOfMemory old new = IsUnmoved old new
 RefusesCall (error.BackgroundTaskFailure fault) old new = HasFault fault old × (new ≡ old)
 RefusesCall other old new = ⊥
 
--- a fault is kept, unless one was before
+-- a fault is kept, the session's first one
 pub record IsKept (f : Fault) (old new : SessionValue) : Type 0 where
+  pub first : HasNoFault old
   pub lanes : new.lanes ≡ old.lanes
   pub options : new.options ≡ old.options
   pub version : new.version ≡ old.version
-  pub past : past_of new.work ≡ kept_past old.work.core.fault f (past_of old.work)
+  pub past : past_of new.work ≡ entry.Kept f ∷ past_of old.work
+
+-- a fault is kept, unless one was before, which is told then
+abbrev pub KeepsFault : Fault → SessionValue → SessionValue → Result (Unit {0}) Error → Type 0
+KeepsFault fault old new (Ok u) = IsKept fault old new
+KeepsFault fault old new (Err e) =
+    (first : Fault) × ((e ≡ error.BackgroundTaskFailure first) × (HasFault first old × (new ≡ old)))
 
 -- no call of the lanes can be made any more, and nothing else has changed
 abbrev pub GivesUp : SessionValue → SessionValue → Type 0
@@ -122,11 +131,13 @@ SubmitsCall lane call old new (Err e) =
 
 -- ---- frames
 
--- a frame is refused: by the first thing that is wrong with it, which is kept, or for want of memory
+-- a frame is refused where no fault was kept: by the first thing that is wrong with it, which is kept, or for want of
+-- memory
 pub record IsRefusedBy (body_reads : Result (Option ℕ × Reply) FrameError) (e : Error) (old new : SessionValue) : Type
     0 where
   pub error : TakeError
   pub is : e ≡ error_of error
+  pub unfailed : HasNoFault old
   pub first : IsFirst error (first_wrong old.phase (past_of old.work) body_reads)
   pub kept : IsRefused error old new
 

@@ -129,7 +129,7 @@ pub struct Fail {
     pub fault: Fault,
 }
 
-impl Event<Locked, ()> for Fail {
+impl Event<Locked, Result<(), Error>> for Fail {
     ghost use Rattle.session_seats.specs.Holds.{no_allowance};
     ghost use Rattle.sftp_tasks.specs.Entries.{by_failing};
     ghost use Rattle.sftp_tasks.specs.LockedEvents.{Failing};
@@ -138,11 +138,11 @@ impl Event<Locked, ()> for Fail {
 
     ghost needs = { λ _. no_allowance };
 
-    ghost does = { λ e lane y z a. Failing e.fault y z };
+    ghost does = { λ e lane. Failing e.fault };
 
-    fn act(self, value: &mut Locked, lane: Option<u32>) {
+    fn act(self, value: &mut Locked, lane: Option<u32>) -> Result<(), Error> {
         let _ = lane;
-        value.fail(self.fault);
+        value.fail(self.fault)
     }
 }
 

@@ -27,7 +27,7 @@ pub use locked::Locked;
 pub use opening::{HandHello, TakeVersion};
 pub use polls::Polled;
 pub use report::{NotClosed, SharedReport};
-pub use rounds::{flush_round, read_round};
+pub use rounds::{fault_for, flush_round, read_round};
 pub use session_driver::{Phase, Stepped};
 pub use session_model::{Call, Entry, Lane, Report, lanes_ok};
 pub use session_seats::Receipt;

@@ -1,7 +1,7 @@
 //! What lies behind the lock, and what each call of its session is.
 ghost use Rattle.std.specs.Prelude.{◌≡◌, ◌≤◌, ◌+◌, IfOk, IfErr, OnOk};
 ghost use Rattle.sftp_lanes.specs.Events.{CancelsIn, StepsIn};
-ghost use Rattle.sftp_tasks.specs.SessionEvents.{GivesUp, HasNoFault, IsKept, LetsLaneGoIn, RefusesCall};
+ghost use Rattle.sftp_tasks.specs.SessionEvents.{GivesUp, HasNoFault, KeepsFault, LetsLaneGoIn, RefusesCall};
 
 use session_driver::{Phase, RunsLanes, Stepped};
 use session_model::Entry;
@@ -127,12 +127,17 @@ impl Locked {
         }
     }
 
-    /// Keeps a fault, also as an entry of the journal, unless one is kept.
-    pub fn fail(&mut self, fault: Fault)
+    /// Keeps a fault as the session's first, also as an entry of the journal. `BackgroundTaskFailure` with the one that is kept, where one
+    /// is, and nothing has changed then.
+    pub fn fail(&mut self, fault: Fault) -> Result<(), Error>
         ensures rest { self.new ≡ record self.old { session = self.new.session } }
-        ensures kept { IsKept fault self.old.session self.new.session }
+        ensures keeps { KeepsFault fault self.old.session self.new.session result }
     {
+        if let Some(first) = self.session.fault() {
+            return Err(Error::BackgroundTaskFailure(first));
+        }
         self.session.fail(fault);
+        Ok(())
     }
 
     /// Lets each later call of the lanes answer `OutOfMemory`, as where a link found no memory. Nothing is added to the journal.

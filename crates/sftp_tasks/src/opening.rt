@@ -48,10 +48,10 @@ impl Locked {
         }
         match self.session.phase() {
             Phase::Greeted => self.take(body),
-            _ => {
-                self.fail(Fault::Response { id: None });
-                Err(Error::InvalidResponse { id: None })
-            }
+            _ => match self.fail(Fault::Response { id: None }) {
+                Ok(()) => Err(Error::InvalidResponse { id: None }),
+                Err(e) => Err(e),
+            },
         }
     }
 }
@@ -128,10 +128,7 @@ fn send_hello<O: LinkOut, R: Wait>(
     };
     match send_pieces(out, chunk.pieces()) {
         Ok(()) => {}
-        Err(e) => {
-            stop(rt, shared, seat, &e);
-            return Err(e);
-        }
+        Err(e) => return Err(stop(rt, shared, seat, e)),
     }
     let _ = seat.apply(rt, shared.alloc, &shared.shared, Written { frames });
     Ok(true)
@@ -154,10 +151,7 @@ fn take_version<I: LinkIn, R: Wait>(
 {
     let frame = match read_frame(shared.alloc, input) {
         Ok(frame) => frame,
-        Err(e) => {
-            stop(rt, shared, seat, &e);
-            return Err(e);
-        }
+        Err(e) => return Err(stop(rt, shared, seat, e)),
     };
     let (did, copied) = seat.apply(rt, shared.alloc, &shared.shared, TakeVersion { frame });
     settle(did, copied)

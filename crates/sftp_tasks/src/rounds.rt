@@ -13,8 +13,9 @@ use sftp_model::{Error, Fault};
 use ssh_encoding::OutOfMemory;
 use std::sync::Wait;
 
-/// The fault that a session keeps where a round ends so; None for want of memory.
-fn fault_for(e: &Error) -> Option<Fault>
+/// The fault that a session keeps where this went wrong in a round; None for want of memory, for a fault that was kept before, and for
+/// what a round never answers.
+pub fn fault_for(e: &Error) -> Option<Fault>
     ensures { result ≡ fault_for e.now }
 {
     match e {
@@ -30,20 +31,22 @@ fn fault_for(e: &Error) -> Option<Fault>
     }
 }
 
-/// Stops the session by what ended a round: its fault is kept, or for want of memory the session is given up.
-pub(crate) fn stop<R: Wait>(rt: &R, shared: &SharedSftp, seat: &mut Seat, e: &Error)
+/// Stops the session by what went wrong in a round, and tells what the round answers: its fault is kept where it is the session's first,
+/// and else the one that was kept before is answered; for want of memory the session is given up.
+pub(crate) fn stop<R: Wait>(rt: &R, shared: &SharedSftp, seat: &mut Seat, why: Error) -> Error
     requires own { seat.old.inner.table_id ≡ shared.now.shared.table.shared.table_id }
     ensures own { (seat.new.inner.table_id ≡ seat.old.inner.table_id) × (seat.new.lane ≡ seat.old.lane) }
     ensures only { Grew (by_failing seat.old.lane) (claim_of seat.old.inner.me) (claim_of seat.new.inner.me) }
-    ensures stops { Stops e.now seat.old.inner.me seat.new.inner.me }
+    ensures stops { Stops why result seat.old.inner.me seat.new.inner.me }
 {
-    match fault_for(e) {
-        Some(fault) => {
-            let _ = seat.apply(rt, shared.alloc, &shared.shared, Fail { fault });
-        }
-        None => {
-            let _ = seat.apply(rt, shared.alloc, &shared.shared, GiveUp);
-        }
+    let Some(fault) = fault_for(&why) else {
+        let _ = seat.apply(rt, shared.alloc, &shared.shared, GiveUp);
+        return Error::OutOfMemory;
+    };
+    let (did, _) = seat.apply(rt, shared.alloc, &shared.shared, Fail { fault });
+    match did {
+        Ok(()) => why,
+        Err(told) => told,
     }
 }
 
@@ -71,10 +74,7 @@ pub fn flush_round<O: LinkOut, R: Wait>(
     };
     match send_pieces(out, chunk.pieces()) {
         Ok(()) => {}
-        Err(e) => {
-            stop(rt, shared, seat, &e);
-            return Err(e);
-        }
+        Err(e) => return Err(stop(rt, shared, seat, e)),
     }
     let (_, told) = seat.apply(rt, shared.alloc, &shared.shared, Written { frames });
     match copied {
@@ -107,10 +107,7 @@ pub fn read_round<I: LinkIn, R: Wait>(
     }
     let frame = match read_frame(shared.alloc, input) {
         Ok(frame) => frame,
-        Err(e) => {
-            stop(rt, shared, seat, &e);
-            return Err(e);
-        }
+        Err(e) => return Err(stop(rt, shared, seat, e)),
     };
     let (did, copied) = seat.apply(rt, shared.alloc, &shared.shared, TakeFrame { frame });
     match did {

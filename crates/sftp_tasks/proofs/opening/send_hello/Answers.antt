@@ -57,6 +57,7 @@ returns-in-Err-send_pieces-clause-stops g c =
     let pieces : c.pieces.result.now ≡ c.in-Ok-Some.handed.chunk = search rules in
     inr record {
       mid = n;
+      why = c.in-Err-send_pieces.e;
       hands = hold_map shown_of m n h (r.0.hands, r.1);
       sent = subst (λ (l : List ℕ). SentBy {T = Unit {0}} l (g.O.LinkState.state c.args.out.now) (g.O.LinkState.state c.send_pieces.new.link)
           (Err c.in-Err-send_pieces.e)) (ap joined pieces ∙ r.0.hello) c.in-Err-send_pieces.ensures;

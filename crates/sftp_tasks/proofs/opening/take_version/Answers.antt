@@ -13,6 +13,7 @@ returns-in-Err-clause-only g c = opening_failing c.args.seat.now.lane _ _ c.stop
 
 pub returns-in-Err-clause-stops : goal.returns-in-Err-clause-stops
 returns-in-Err-clause-stops g c = inl record {
+  why = c.in-Err.e;
   fails = c.in-Err.ensures.stops;
   caused = c.in-Err.ensures.caused;
   stops = c.stop.ensures.stops;

@@ -65,6 +65,7 @@ returns-in-Err-send_pieces-clause-stops g c =
     let pieces : c.pieces.result.now ≡ c.in-Ok-Some.handed.chunk = search rules in
     inr (inl record {
       mid = n;
+      why = c.in-Err-send_pieces.e;
       bytes = joined c.in-Ok-Some.handed.chunk;
       hands = hold_map shown_of m n h (r.0.0, r.1);
       sent = subst (λ (l : List (List ℕ)). SentBy {T = Unit {0}} (joined l) (g.O.LinkState.state c.args.out.now)

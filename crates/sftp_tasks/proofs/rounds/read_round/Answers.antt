@@ -53,6 +53,7 @@ returns-in-Err-read_frame-clause-stops g c =
     let looks = look_true m n c.apply-may.result.0 is c.apply-may.ensures.held in
     inr (inl record {
       mid = n;
+      why = c.in-Err-read_frame.e;
       looks = looks;
       fails = c.in-Err-read_frame.ensures.stops;
       caused = c.in-Err-read_frame.ensures.caused;
