@@ -1,22 +1,24 @@
 -- How the program ends with a script, at each of its exits.
-use Rattle.std.proofs.Common.{◌≡◌, ℕ, Bool, false, List, inl, refl}
-use Rattle.std.specs.Prelude.{Option, Err}
+use Rattle.std.proofs.Common.{◌≡◌, ℕ, Bool, false, List, inl, inr, refl}
+use Rattle.std.specs.Prelude.{Option, Ok, Err}
 use Rattle.program_ends.specs.declared.ending.Answered.{Answered}
+use Rattle.program_ends.specs.declared.ending.Answered.TheVariants.{Done, Stopped, Refused}
 use Rattle.program_ends.specs.declared.ending.Failure.{Failure}
 use Rattle.program_ends.specs.declared.ending.Failure.TheVariants.{SourceFailed, SinkFailed, OutOfMemory, DialFailed}
-use Rattle.program_ends.specs.Ended.{AnswersSource, End, EndsAtSink, Only}
+use Rattle.program_ends.specs.Ended.{AnswersSource, End, EndsAtSink, GaveValue, Only, ReadAs}
 use Rattle.program_ends.specs.Replies.{GivesBytes}
 use Rattle.program_ends.proofs.Exits.{Read}
-use Rattle.program_ends.proofs.Reading.{RefusesLong, gave}
+use Rattle.program_ends.proofs.Reading.{RefusesLong, gave, gave_value}
 use Rattle.program_ends.proofs.Writing.{at_sink, just, nothing_new, source_stays, wrote_as}
 use Rattle.sftp_link.specs.Views.{SinkView, SourceView}
+use Rattle.sftp_script.specs.declared.script.Script.{Script}
 use Rattle.sftp_script.specs.Scripts.{script_of}
 use Rattle.shared_map.specs.Halves.{Halves}
-use Rattle.sftp_share.specs.Ended.{ShareEnds, share_status}
-use Rattle.sftp_share.specs.Shared.{RightShared}
+use Rattle.sftp_share.specs.Ended.{PairAfter, ShareEnds, share_status}
+use Rattle.sftp_share.specs.Shared.{RightShared, Starves}
 
 -- what is too long is no script
-refuses_long : RefusesLong script_of
+pub refuses_long : RefusesLong script_of
 refuses_long bytes long = rw long refl
 
 -- the source was not read
@@ -29,7 +31,7 @@ unread A B SourceFailed before from now to g = record {
   wrote = nothing_new to.written;
   source = g.cause;
   sink = refl;
-  only = ((λ e. cc e), (λ e. refl));
+  pair = refl;
 }
 unread A B SinkFailed before from now to g = absurd (g.only.0 refl)
 unread A B OutOfMemory before from now to g = record {
@@ -39,24 +41,46 @@ unread A B OutOfMemory before from now to g = record {
   wrote = inl (nothing_new to.written);
   source = g.cause;
   sink = refl;
-  only = ((λ e. cc e), (λ e. refl));
+  pair = inl refl;
 }
 unread A B DialFailed before from now to g = absurd (g.only.1 refl)
 
--- there was no memory for the answer
-pub starved : (A B : Type 0) (before last : Option Halves) (from now : SourceView) (to : SinkView) → now.faults ≡ from.faults
+-- ---- what the pair has back
+
+-- a script that was read is one that the source gave
+starves_given : (A B : Type 0) (before last : Option Halves) (bytes : List ℕ) (from now : SourceView) → Read bytes from now
+    → Starves A B (λ script. script_of bytes ≡ Ok script) before last → Starves A B (λ script. GaveValue script_of script from now) before last
+starves_given A B before last bytes from now t (inl same) = inl same
+starves_given A B before last bytes from now t (inr h) = inr (h.0, gave_value script_of bytes h.0 from now refuses_long h.1 t, h.2)
+
+-- what is right to write says it
+right_starves : (A B : Type 0) (before last : Option Halves) (differs : Bool) (r : ReadAs Script) (bytes text : List ℕ) (says : Answered)
+    → script_of bytes ≡ r → RightShared A B before last differs r says text
+    → Starves A B (λ script. script_of bytes ≡ Ok script) before last
+right_starves A B before last differs (Ok script) bytes text Done e h = inr (script, e, inl (h.report, h.run))
+right_starves A B before last differs (Ok script) bytes text Stopped e h = inr (script, e, inr (h.why, h.stops))
+right_starves A B before last differs (Ok script) bytes text Refused e h = absurd h
+right_starves A B before last differs (Err why) bytes text Done e h = absurd h
+right_starves A B before last differs (Err why) bytes text Stopped e h = absurd h
+right_starves A B before last differs (Err why) bytes text Refused e h = inl h.1
+
+-- ---- an answer
+
+-- there was no memory for it
+pub starved : (A B : Type 0) (before last : Option Halves) (bytes : List ℕ) (from now : SourceView) (to : SinkView) → Read bytes from now
+    → now.faults ≡ from.faults → Starves A B (λ script. script_of bytes ≡ Ok script) before last
     → ShareEnds A B before last (share_status false (Err OutOfMemory)) from now to to
-starved A B before last from now to same = record {
+starved A B before last bytes from now to t same s = record {
   end = Err OutOfMemory;
   differs = false;
   is = refl;
   wrote = inl (nothing_new to.written);
   source = same;
   sink = refl;
-  only = ((λ e. cc e), (λ e. absurd cc));
+  pair = starves_given A B before last bytes from now t s;
 }
 
--- the answer was to be written
+-- it was to be written
 pub answered : (A B : Type 0) (before last : Option Halves) (differs : Bool) (bytes text : List ℕ) (says : Answered) (end : End)
     (from now : SourceView) (to to_now : SinkView) → Read bytes from now → now.faults ≡ from.faults
     → RightShared A B before last differs (script_of bytes) says text → EndsAtSink (Only says text) end to to_now
@@ -71,6 +95,6 @@ answered A B before last differs bytes text says end from now to to_now t same r
       wrote = wrote_as (Only says text) whole (just whole says text all) end to to_now w.wrote;
       source = source_stays (Only says text) end to to_now from.faults now.faults w same;
       sink = w.cause;
-      only = at_sink (λ why. (why ≡ DialFailed → ⊥) × (why ≡ SourceFailed → last ≡ before)) (Only says text) end to to_now w
-          ((λ e. cc e), (λ e. absurd cc)) ((λ e. cc e), (λ e. absurd cc));
+      pair = at_sink (PairAfter A B before last from now) (Only says text) end to to_now w tt
+          (starves_given A B before last bytes from now t (right_starves A B before last differs (script_of bytes) bytes text says refl r));
     }

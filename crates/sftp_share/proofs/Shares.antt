@@ -1,6 +1,6 @@
 -- A run of a script's lanes in threads, and what its replay says of it.
-use Rattle.std.proofs.Common.{◌≡◌, ◌<◌, ◌∙◌, ◌++◌, ℕ, Bool, List, length, refl, ap, sym, subst, inr}
-use Rattle.std.specs.Prelude.{Option, Some, Result, Ok, Err, IfErr, IfOk, reverse}
+use Rattle.std.proofs.Common.{◌≡◌, ◌<◌, ◌∙◌, ◌++◌, ℕ, Bool, List, length, refl, ap, sym, subst, inl, inr, ◌⊎◌}
+use Rattle.std.specs.Prelude.{Option, Some, None, Result, Ok, Err, IfErr, IfOk, OnErr, reverse}
 use Rattle.machine_model.specs.FirstTree.{first_tree}
 use Rattle.plan_model.specs.declared.call.Lane.{Lane}
 use Rattle.session_model.specs.Served.{Serves}
@@ -13,8 +13,12 @@ use Rattle.sftp_machine.specs.MachineState.{MAX_HANDLES, MachineState}
 use Rattle.sftp_model.specs.declared.error.Error.{Error}
 use Rattle.sftp_model.specs.declared.options.SftpOptions.{SftpOptions}
 use Rattle.sftp_script.specs.declared.script.Script.{Script}
+use Rattle.sftp_script.specs.Scripts.{script_of}
+use Rattle.ssh_encoding.specs.declared.out_of_memory.OutOfMemory.{OutOfMemory}
 use Rattle.sftp_tasks.specs.declared.report.SharedReport.{SharedReport}
-use Rattle.program_ends.specs.Texts.{error_line, error_name}
+use Rattle.program_ends.specs.declared.ending.Answered.{Answered}
+use Rattle.program_ends.specs.declared.ending.Answered.TheVariants.{Stopped}
+use Rattle.program_ends.specs.Texts.{IsErrorLine, error_name}
 use Rattle.share_replay.specs.declared.outcome.Replay.TheVariants as replay
 use Rattle.share_replay.specs.Replays.{NoHello, machine_of, replay_of}
 use Rattle.share_replay.proofs.HelloLaws.{no_hello}
@@ -22,7 +26,19 @@ use Rattle.share_replay.proofs.ServedLaws.{serves_sent}
 use Rattle.shared_map.specs.Halves.{Halves, IsNewHalf, halves_of}
 use Rattle.tasks_run.specs.Reports.{Ended, RunsShared, StopsBy}
 use Rattle.tasks_run.specs.RunEnds.{IsEnded}
-use Rattle.sftp_share.specs.Shared.{HasRun, HasStopped, IsShared, IsStopped, differs_by, replay_text, report_text}
+use Rattle.sftp_share.specs.Shared.{
+  HasBack,
+  HasRun,
+  HasStopped,
+  IsShared,
+  IsStopped,
+  RightFor,
+  Starves,
+  StoppedOver,
+  differs_by,
+  replay_text,
+  report_text,
+}
 
 -- ---- a run
 
@@ -45,9 +61,9 @@ has_run out out' input input' last script lanes report same fresh input_fresh ba
   };
 }
 
-pub has_stopped : {A B : Type 0} (out out' : LinkView A) (input input' : LinkView B) (last : Option Halves) (e : Error) → IsNewHalf out
-    → IsNewHalf input → last ≡ Some (halves_of out' input') → StopsBy out out' input input' e → HasStopped A B last e
-has_stopped out out' input input' last e fresh input_fresh back stops = inr (record {
+pub stopped_over : {A B : Type 0} (out out' : LinkView A) (input input' : LinkView B) (last : Option Halves) (e : Error) → IsNewHalf out
+    → IsNewHalf input → last ≡ Some (halves_of out' input') → StopsBy out out' input input' e → StoppedOver A B last e
+stopped_over out out' input input' last e fresh input_fresh back stops = record {
   out = out;
   out_now = out';
   input = input;
@@ -56,7 +72,7 @@ has_stopped out out' input input' last e fresh input_fresh back stops = inr (rec
   input_fresh = input_fresh;
   did = stops;
   is = back;
-})
+}
 
 -- whatever it answered
 pub ran_if : {A B : Type 0} (out out' : LinkView A) (input input' : LinkView B) (last : Option Halves) (script : Script) (lanes : List Lane)
@@ -68,11 +84,41 @@ ran_if out out' input input' last script lanes (Ok report) same fresh input_fres
     has_run out out' input input' last script lanes report same fresh input_fresh back runs over ends
 ran_if out out' input input' last script lanes (Err e) same fresh input_fresh back runs over ends = tt
 
-pub stopped_if : {A B : Type 0} (out out' : LinkView A) (input input' : LinkView B) (last : Option Halves) (result : Result SharedReport Error)
-    → IsNewHalf out → IsNewHalf input → last ≡ Some (halves_of out' input') → IfErr result (StopsBy out out' input input')
-    → IfErr result (λ e. HasStopped A B last e)
+pub stopped_if : {A B : Type 0} (out out' : LinkView A) (input input' : LinkView B) (last : Option Halves)
+    (result : Result SharedReport Error) → IsNewHalf out → IsNewHalf input → last ≡ Some (halves_of out' input')
+    → IfErr result (StopsBy out out' input input') → IfErr result (λ e. StoppedOver A B last e)
 stopped_if out out' input input' last (Ok report) fresh input_fresh back stops = tt
-stopped_if out out' input input' last (Err e) fresh input_fresh back stops = has_stopped out out' input input' last e fresh input_fresh back stops
+stopped_if out out' input input' last (Err e) fresh input_fresh back stops =
+    stopped_over out out' input input' last e fresh input_fresh back stops
+
+pub has_stopped_if : (A B : Type 0) (before last : Option Halves) (result : Result SharedReport Error)
+    → IfErr result (λ e. StoppedOver A B last e) → IfErr result (λ e. HasStopped A B before last e)
+has_stopped_if A B before last (Ok report) stops = tt
+has_stopped_if A B before last (Err e) stops = inr stops
+
+-- ---- want of memory
+
+-- there was none for the answer to a run, or to an error
+pub on_err : {T E : Type 0} (result : Result T E) (P : Type 0) → P → OnErr result P
+on_err (Ok x) P p = tt
+on_err (Err e) P p = p
+
+pub run_back : {A B : Type 0} (before last : Option Halves) (script : Script) (report : SharedReport) → HasRun A B last script report
+    → (last ≡ before) ⊎ HasBack A B last script
+run_back before last script report run = inr (inl (report, run))
+
+pub stop_back : {A B : Type 0} (before last : Option Halves) (script : Script) (e : Error) → HasStopped A B before last e
+    → (last ≡ before) ⊎ HasBack A B last script
+stop_back before last script e (inl h) = inl h.1
+stop_back before last script e (inr h) = inr (inr (e, h))
+
+-- of a script that was read
+pub read_starves : (A B : Type 0) {T : Type 0} (before last : Option Halves) (bytes : List ℕ) (script : Script)
+    (result : Result T OutOfMemory) → script_of bytes ≡ Ok script → OnErr result ((last ≡ before) ⊎ HasBack A B last script)
+    → OnErr result (Starves A B (λ s. script_of bytes ≡ Ok s) before last)
+read_starves A B before last bytes script (Ok x) e h = tt
+read_starves A B before last bytes script (Err why) e (inl same) = inl same
+read_starves A B before last bytes script (Err why) e (inr back) = inr (script, e, back)
 
 -- ---- its replay
 
@@ -101,6 +147,14 @@ is_shared last script r differs text h d t = record {
   is = t;
 }
 
-pub is_stopped : {A B : Type 0} (last : Option Halves) (e : Error) (name text : List ℕ) → HasStopped A B last e → Some name ≡ error_name e
-    → text ≡ error_line name → IsStopped A B last text
-is_stopped last e name text stops named is = record { why = e; name = name; named = sym named; stops = stops; is = is }
+-- an error with a line stopped over the halves
+pub is_stopped : {A B : Type 0} (before last : Option Halves) (e : Error) (text : List ℕ) → HasStopped A B before last e
+    → IsErrorLine e text → IsStopped A B last text
+is_stopped before last e text (inl h) line =
+    absurd (let none : Some line.0 ≡ None = sym line.1 ∙ ap error_name h.0 in cc)
+is_stopped before last e text (inr h) line = record { why = e; stops = h; is = line }
+
+pub stopped_right : {A B : Type 0} (before last : Option Halves) (script : Script) (e : Error) (differs : Bool) (says : Answered)
+    (text : List ℕ) → HasStopped A B before last e → says ≡ Stopped → IsErrorLine e text → RightFor A B last script differs says text
+stopped_right {A = A} {B = B} before last script e differs says text stopped is line =
+    subst (λ (a : Answered). RightFor A B last script differs a text) (sym is) (is_stopped before last e text stopped line)

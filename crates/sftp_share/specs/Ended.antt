@@ -1,7 +1,6 @@
 -- How the program ends.
 use Rattle.std.specs.Prelude.{
   ◌≡◌,
-  ◌≢◌,
   ℕ,
   ◌==◌,
   Bool,
@@ -17,18 +16,39 @@ use Rattle.std.specs.Prelude.{
   if◌then◌else◌,
 }
 use Rattle.program_ends.specs.declared.ending.Answered.TheVariants.{Done}
-use Rattle.program_ends.specs.declared.ending.Failure.TheVariants.{SourceFailed, DialFailed}
-use Rattle.program_ends.specs.Ended.{AnswersSource, End, EndsAtSink, Only, SinkCause, SourceCause, Wrote, status_of}
+use Rattle.program_ends.specs.declared.ending.Failure.{Failure}
+use Rattle.program_ends.specs.declared.ending.Failure.TheVariants.{SourceFailed, SinkFailed, OutOfMemory, DialFailed}
+use Rattle.program_ends.specs.Ended.{
+  AnswersSource,
+  End,
+  EndsAtSink,
+  GaveValue,
+  Only,
+  SinkCause,
+  SourceCause,
+  Wrote,
+  status_of,
+}
 use Rattle.program_ends.specs.Texts.{answered_of, text_of}
 use Rattle.sftp_link.specs.Views.{SinkView, SourceView}
 use Rattle.sftp_script.specs.Scripts.{script_of}
 use Rattle.shared_map.specs.Halves.{Halves}
-use Rattle.sftp_share.specs.Shared.{RightShared}
+use Rattle.sftp_share.specs.Shared.{RightShared, Starves}
 
 -- the status: 7 where the whole text was written of a run whose replay differs
 abbrev pub share_status : Bool → End → ℕ
 share_status true (Ok Done) = 7
 share_status differs end = status_of end
+
+-- What the pair has back where no answer was written whole, by the failure. It is as before where the source failed.
+-- For want of memory it is as before, or has the halves back of a run of the script that the source gave. Where the
+-- sink failed, what was written tells it.
+abbrev pub PairAfter : (A B : Type 0) → Option Halves → Option Halves → SourceView → SourceView → Failure → Type 0
+PairAfter A B before last from from_now SourceFailed = last ≡ before
+PairAfter A B before last from from_now SinkFailed = Unit {0}
+PairAfter A B before last from from_now OutOfMemory =
+    Starves A B (λ script. GaveValue script_of script from from_now) before last
+PairAfter A B before last from from_now DialFailed = ⊥
 
 -- The program ends with this status: what was written is right for what the source gave and for the halves that were
 -- put back, as far as it came; the counts of faults of source and sink rose where these failed, and only there.
@@ -41,7 +61,7 @@ pub record ShareEnds (A B : Type 0) (before last : Option Halves) (status : ℕ)
   pub wrote : Wrote (AnswersSource script_of (RightShared A B before last differs) from from_now) end to to_now
   pub source : SourceCause end from.faults from_now.faults
   pub sink : SinkCause end to.faults to_now.faults
-  pub only : IfErr end (λ why. (why ≢ DialFailed) × (why ≡ SourceFailed → last ≡ before))
+  pub pair : IfErr end (PairAfter A B before last from from_now)
 
 -- ---- words
 

@@ -1,3 +1,5 @@
 pub mod Shared
 pub mod Ended
 pub mod DiffersRows
+pub mod Completed
+pub mod CompletedRows

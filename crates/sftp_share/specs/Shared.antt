@@ -21,7 +21,7 @@ use Rattle.machine_model.specs.FirstTree.{first_tree}
 use Rattle.program_ends.specs.declared.ending.Answered.{Answered}
 use Rattle.program_ends.specs.declared.ending.Answered.TheVariants.{Done, Stopped, Refused}
 use Rattle.program_ends.specs.Ended.{ReadAs}
-use Rattle.program_ends.specs.Texts.{error_line, error_name, refusal_line}
+use Rattle.program_ends.specs.Texts.{IsErrorLine, refusal_line}
 use Rattle.session_model.specs.declared.report.Report.{Report}
 use Rattle.session_model.specs.Served.{Serves}
 use Rattle.sftp_link.specs.Views.{LinkView}
@@ -90,10 +90,23 @@ pub record HasRun (A B : Type 0) (last : Option Halves) (script : Script) (repor
   pub over : IsEnded (length script.lanes) (reverse report.journal.items)
   pub halves : PutBack A B (λ out out_now input input_now. Ended out out_now input input_now report) last
 
--- An error stopped the run: memory was wanting, or the opening or one of the workers stopped by this over its half.
-abbrev pub HasStopped : (A B : Type 0) → Option Halves → Error → Type 0
-HasStopped A B last e =
-    (e ≡ error.OutOfMemory) ⊎ PutBack A B (λ out out_now input input_now. StopsBy out out_now input input_now e) last
+-- Halves were given, this error stopped the run over them, in the opening or by one of the workers, and they were put
+-- back.
+abbrev pub StoppedOver : (A B : Type 0) → Option Halves → Error → Type 0
+StoppedOver A B last e = PutBack A B (λ out out_now input input_now. StopsBy out out_now input input_now e) last
+
+-- An error stopped the run: memory was wanting, and the pair is as before; or halves were given, and put back after it.
+abbrev pub HasStopped : (A B : Type 0) → Option Halves → Option Halves → Error → Type 0
+HasStopped A B before last e = ((e ≡ error.OutOfMemory) × (last ≡ before)) ⊎ StoppedOver A B last e
+
+-- the halves were put back of a run of a script's lanes to its end, or of one that an error stopped
+abbrev pub HasBack : (A B : Type 0) → Option Halves → Script → Type 0
+HasBack A B last script =
+    ((report : SharedReport) × HasRun A B last script report) ⊎ ((e : Error) × StoppedOver A B last e)
+
+-- Memory was wanting: the pair is as before, or it has the halves back of a run of a script that was given so.
+abbrev pub Starves : (A B : Type 0) → (Script → Type 0) → Option Halves → Option Halves → Type 0
+Starves A B Given before last = (last ≡ before) ⊎ ((script : Script) × Given script × HasBack A B last script)
 
 -- ---- what is right
 
@@ -114,10 +127,8 @@ pub record IsShared (A B : Type 0) (last : Option Halves) (script : Script) (dif
 -- an error other than want of memory stopped the run, and the line names it
 pub record IsStopped (A B : Type 0) (last : Option Halves) (text : List ℕ) : Type 0 where
   pub why : Error
-  pub name : List ℕ
-  pub named : error_name why ≡ Some name
-  pub stops : HasStopped A B last why
-  pub is : text ≡ error_line name
+  pub stops : StoppedOver A B last why
+  pub is : IsErrorLine why text
 
 -- what is right for a script
 abbrev pub RightFor : (A B : Type 0) → Option Halves → Script → Bool → Answered → List ℕ → Type 0

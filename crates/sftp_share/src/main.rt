@@ -3,6 +3,7 @@
 
 mod answer;
 mod ending;
+mod laws;
 mod left;
 mod replayed;
 mod share;
@@ -10,6 +11,7 @@ mod share;
 mod tests;
 mod threads;
 
+pub use laws::{a_difference_is_told, runs_are_complete, statuses_have_causes};
 use sftp_link::{ReadSource, WriteSink};
 pub use share::share;
 use shared_map::MapPair;

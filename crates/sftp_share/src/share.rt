@@ -1,16 +1,14 @@
 //! Does all that the program does with a script.
-ghost use Rattle.std.specs.Prelude.{◌≡◌, ◌<◌, ◌-◌, ◌^◌, IfOk};
+ghost use Rattle.std.specs.Prelude.{◌≡◌, ◌⊎◌, ◌<◌, ◌-◌, ◌^◌, IfOk, Ok, OnErr};
 ghost use Rattle.sftp_script.specs.CanRun.{CanRun};
 ghost use Rattle.sftp_script.specs.Scripts.{script_of};
 ghost use Rattle.sftp_share.specs.Ended.{ShareEnds};
-ghost use Rattle.sftp_share.specs.Shared.{RightFor, RightShared};
+ghost use Rattle.sftp_share.specs.Shared.{HasBack, RightFor, RightShared, Starves};
 
 use crate::ending::share_status;
 use crate::replayed::text_of_run;
 use crate::threads::run_lanes;
-use program_ends::{
-    Answered, Failure, Printed, error_line, error_name, read_bytes, refuse, write_answer,
-};
+use program_ends::{Answered, Failure, Printed, read_bytes, refuse, stop_reply, write_answer};
 use sftp_link::{Sink, Source};
 use sftp_script::{Script, ScriptError, read_script};
 use shared_map::Pair;
@@ -27,7 +25,8 @@ pub(crate) struct Replayed {
     pub(crate) differs: bool,
 }
 
-/// The answer to a script: the text of the run of its lanes and of its replay, or the line of the error that stopped it.
+/// The answer to a script: the text of the run of its lanes and of its replay, or the line of the error that stopped it. The error
+/// is want of memory: the pair is as before, or has the halves of the run back.
 fn reply_to_script<P: Pair<R>, R: Threads + Wait + Clock + Sync>(
     rt: &R,
     alloc: Global,
@@ -35,8 +34,10 @@ fn reply_to_script<P: Pair<R>, R: Threads + Wait + Clock + Sync>(
     pair: &mut P,
 ) -> Result<Replayed, OutOfMemory>
     requires { CanRun script.now }
-    ensures { IfOk result (λ reply. RightFor (P.Out.LinkState.Service) (P.In.LinkState.Service) (P.last pair.new) script.now
+    ensures right { IfOk result (λ reply. RightFor (P.Out.LinkState.Service) (P.In.LinkState.Service) (P.last pair.new) script.now
         reply.differs reply.printed.answered reply.printed.text.items) }
+    ensures starved { OnErr result ((P.last pair.new ≡ P.last pair.old)
+        ⊎ HasBack (P.Out.LinkState.Service) (P.In.LinkState.Service) (P.last pair.new) script.now) }
 {
     match run_lanes(rt, alloc, script, pair) {
         Ok(report) => {
@@ -49,28 +50,28 @@ fn reply_to_script<P: Pair<R>, R: Threads + Wait + Clock + Sync>(
                 differs,
             })
         }
-        Err(error) => match error_name(&error) {
-            Some(name) => Ok(Replayed {
-                printed: Printed {
-                    answered: Answered::Stopped,
-                    text: error_line(alloc, name)?,
-                },
+        Err(error) => {
+            let printed = stop_reply(alloc, &error)?;
+            Ok(Replayed {
+                printed,
                 differs: false,
-            }),
-            None => Err(OutOfMemory),
-        },
+            })
+        }
     }
 }
 
-/// The answer to the bytes of a script. What is none is refused, and the pair is untouched.
+/// The answer to the bytes of a script. What is none is refused, and the pair is untouched. The error is want of memory, as of
+/// `reply_to_script`.
 fn reply_to<P: Pair<R>, R: Threads + Wait + Clock + Sync>(
     rt: &R,
     alloc: Global,
     bytes: &[u8],
     pair: &mut P,
 ) -> Result<Replayed, OutOfMemory>
-    ensures { IfOk result (λ reply. RightShared (P.Out.LinkState.Service) (P.In.LinkState.Service) (P.last pair.old) (P.last pair.new)
+    ensures right { IfOk result (λ reply. RightShared (P.Out.LinkState.Service) (P.In.LinkState.Service) (P.last pair.old) (P.last pair.new)
         reply.differs (script_of bytes.now) reply.printed.answered reply.printed.text.items) }
+    ensures starved { OnErr result (Starves (P.Out.LinkState.Service) (P.In.LinkState.Service) (λ script. script_of bytes.now ≡ Ok script)
+        (P.last pair.old) (P.last pair.new)) }
 {
     match read_script(alloc, bytes) {
         Ok(script) => reply_to_script(rt, alloc, &script, pair),
@@ -93,7 +94,8 @@ fn reply_to<P: Pair<R>, R: Threads + Wait + Clock + Sync>(
 /// The status is 0 where the whole text was written; 1 where an error stopped the run and the line that names it was written; 2
 /// where the bytes are no script, and the line that says why was written; 3 where the source failed, 4 where the sink failed,
 /// and 5 where there was no memory: then a prefix of the text was written, or nothing. It is 7 where a reply that was taken is
-/// another than the machine's, and the whole text was written, whose last line tells the machine's in place of the files.
+/// another than the machine's, and the whole text was written, whose last line tells the machine's in place of the files. With 5
+/// the pair is as before, or has the halves back of a run of the script that the source gave.
 pub fn share<S: Source, K: Sink, P: Pair<R>, R: Threads + Wait + Clock + Sync>(
     rt: &R,
     alloc: Global,

@@ -1,7 +1,8 @@
 //! The lanes of a script are run in threads over the two halves of its server.
 ghost use Rattle.std.specs.Prelude.{◌≡◌, IfErr, IfOk, OnOk, true};
 ghost use Rattle.sftp_script.specs.CanRun.{CanRun};
-ghost use Rattle.sftp_share.specs.Shared.{HasRun, HasStopped};
+ghost use Rattle.shared_map.specs.Halves.{IsNewHalf};
+ghost use Rattle.sftp_share.specs.Shared.{HasRun, HasStopped, StoppedOver};
 
 use program_ends::new_server_of;
 use sftp_script::Script;
@@ -13,8 +14,28 @@ use std::thread::Threads;
 use std::time::Clock;
 use tasks_run::run_shared;
 
+/// Runs the lanes of a script over two halves, and gives these back to the pair, whatever came of the run. Errors as of `run_shared`.
+fn run_over<P: Pair<R>, R: Threads + Wait + Clock + Sync>(
+    rt: &R,
+    alloc: Global,
+    script: &Script,
+    pair: &mut P,
+    out: P::Out,
+    input: P::In,
+) -> Result<SharedReport, Error>
+    requires script { CanRun script.now }
+    requires halves { IsNewHalf (P.Out.LinkState.state out) × IsNewHalf (P.In.LinkState.state input) }
+    ensures ok { IfOk result (λ report. HasRun (P.Out.LinkState.Service) (P.In.LinkState.Service) (P.last pair.new) script.now report) }
+    ensures err { IfErr result (λ e. StoppedOver (P.Out.LinkState.Service) (P.In.LinkState.Service) (P.last pair.new) e) }
+{
+    let lanes = script.lanes.as_slice();
+    let (result, out, input) = run_shared(rt, alloc, out, input, lanes, &script.options);
+    pair.put_back(out, input);
+    result
+}
+
 /// Runs the lanes of a script over the halves that a pair gives of the script's server, and gives these back to the pair,
-/// whatever came of the run.
+/// whatever came of the run. Errors as of `run_shared`; where memory was wanting for the server or its halves the pair is as before.
 pub(crate) fn run_lanes<P: Pair<R>, R: Threads + Wait + Clock + Sync>(
     rt: &R,
     alloc: Global,
@@ -23,7 +44,7 @@ pub(crate) fn run_lanes<P: Pair<R>, R: Threads + Wait + Clock + Sync>(
 ) -> Result<SharedReport, Error>
     requires { CanRun script.now }
     ensures ok { IfOk result (λ report. HasRun (P.Out.LinkState.Service) (P.In.LinkState.Service) (P.last pair.new) script.now report) }
-    ensures err { IfErr result (λ e. HasStopped (P.Out.LinkState.Service) (P.In.LinkState.Service) (P.last pair.new) e) }
+    ensures err { IfErr result (λ e. HasStopped (P.Out.LinkState.Service) (P.In.LinkState.Service) (P.last pair.old) (P.last pair.new) e) }
 {
     let Ok(server) = new_server_of(alloc, script) else {
         return Err(Error::OutOfMemory);
@@ -31,8 +52,5 @@ pub(crate) fn run_lanes<P: Pair<R>, R: Threads + Wait + Clock + Sync>(
     let Ok((out, input)) = pair.split(rt, alloc, server) else {
         return Err(Error::OutOfMemory);
     };
-    let lanes = script.lanes.as_slice();
-    let (result, out, input) = run_shared(rt, alloc, out, input, lanes, &script.options);
-    pair.put_back(out, input);
-    result
+    run_over(rt, alloc, script, pair, out, input)
 }

@@ -49,7 +49,7 @@ fn eight_lanes(alloc: Global) -> Result<Vec<Lane>, AllocError> {
     Ok(lanes)
 }
 
-pub(crate) fn server(alloc: Global) -> Result<MapServer, Fail> {
+fn server(alloc: Global) -> Result<MapServer, Fail> {
     if !may_begin(alloc, &[], &[])? {
         return Err(Fail::new("it may not begin"));
     }
@@ -72,7 +72,7 @@ fn receipts_of(lists: &[Vec<Receipt>]) -> usize {
 }
 
 /// How many outcomes there are of all lanes, how many entries the journal has, and how many receipts there are.
-pub(crate) fn numbers(report: &SharedReport) -> (usize, usize, usize) {
+fn numbers(report: &SharedReport) -> (usize, usize, usize) {
     let mut outcomes: usize = 0;
     for lane in report.report.outcomes.as_slice() {
         outcomes = outcomes.saturating_add(lane.as_slice().len());

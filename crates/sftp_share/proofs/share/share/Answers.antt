@@ -21,7 +21,7 @@ returns-in-Ok-reply_to g c =
     reply.field-0.differs c.deref.result.now c.deref-in-Ok-reply_to.result.now reply.field-0.printed.answered c.write_answer-end.result
     (g.S.Source.state c.args.source.now) (g.S.Source.state c.read_bytes.new.source) (g.K.Sink.state c.args.sink.now)
     (g.K.Sink.state c.write_answer-end.new.sink) (rw (c.deref.ensures.value) c.in-Ok.ensures.bytes) c.in-Ok.ensures.cause
-    (rw (c.deref-in-Ok-reply_to.ensures.value) reply.ensures) c.write_answer-end.ensures)
+    (rw (c.deref-in-Ok-reply_to.ensures.value) reply.ensures.right) c.write_answer-end.ensures)
 
 pub returns : goal.returns
 returns g c =
@@ -29,4 +29,5 @@ returns g c =
     (g.P.Pair.last c.reply_to.new.pair) n (g.S.Source.state c.args.source.now) (g.S.Source.state c.read_bytes.new.source)
     (g.K.Sink.state c.args.sink.now) (g.K.Sink.state c.args.sink.now)) (sym c.share_status-in-Err-reply_to.ensures)
     (starved g.P.Out.LinkState.Service g.P.In.LinkState.Service (g.P.Pair.last c.args.pair.now) (g.P.Pair.last c.reply_to.new.pair)
-    (g.S.Source.state c.args.source.now) (g.S.Source.state c.read_bytes.new.source) (g.K.Sink.state c.args.sink.now) c.in-Ok.ensures.cause)
+    c.deref.result.now (g.S.Source.state c.args.source.now) (g.S.Source.state c.read_bytes.new.source) (g.K.Sink.state c.args.sink.now)
+    (rw (c.deref.ensures.value) c.in-Ok.ensures.bytes) c.in-Ok.ensures.cause c.in-Err-reply_to.ensures.starved)
