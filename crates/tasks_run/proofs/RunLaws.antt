@@ -2,6 +2,7 @@
 use Rattle.std.proofs.Common.{
   ◌≡◌,
   ◌≢◌,
+  ◌⊎◌,
   ◌<◌,
   ◌≤◌,
   ◌+◌,
@@ -66,9 +67,10 @@ use Rattle.sftp_tasks.specs.Rounds.{Token}
 use Rattle.sftp_tasks.specs.Sent.{SeesVersion}
 use Rattle.sftp_tasks.specs.Shows.{shown_of}
 use Rattle.sftp_tasks.specs.Workers.{FlushWorks, Post, ReadWorks}
+use Rattle.tasks_run.proofs.FaultLaws.{flush_works_first, read_works_first}
 use Rattle.tasks_run.proofs.MoveLaws.{opening_moves}
 use Rattle.tasks_run.specs.Crews.{IsHome, lanes_below, named_in_order}
-use Rattle.tasks_run.specs.Reports.{IsCause, RunsOf, RunsShared, Works, WorkersStop}
+use Rattle.tasks_run.specs.Reports.{IsCause, IsFirstFault, RunsOf, RunsShared, Works, WorkersStop}
 use Rattle.sftp_tasks.specs.Opening.{by_opening}
 use Rattle.tasks_run.specs.Running.{
   AllMadeNothing,
@@ -469,7 +471,12 @@ works_of Did (Err e) a b h = (a.0, (h.0, h.1))
 pub stops_by : {A B : Type 0} (a b : Post A) (c d : Post B) (sent got : Result (Unit {0}) Error) (e : Error)
     → Worked FlushWorks sent a b → Worked ReadWorks got c d → IsCause sent got e → WorkersStop a.1 b.1 c.1 d.1 e
 stops_by a b c d sent got e s r (inl memory) = inl memory
-stops_by a b c d sent got e s r (inr (inl is)) =
-    inr (inl (subst (λ (x : Result (Unit {0}) Error). Works FlushWorks x a.1 b.1) is (works_of FlushWorks sent a b s)))
-stops_by a b c d sent got e s r (inr (inr is)) =
-    inr (inr (subst (λ (x : Result (Unit {0}) Error). Works ReadWorks x c.1 d.1) is (works_of ReadWorks got c d r)))
+stops_by {A} {B} a b c d sent got e s r (inr h) = inr (by_worker h.1)
+  where
+    by_worker : (sent ≡ Err e) ⊎ (got ≡ Err e) → IsFirstFault e × (Works FlushWorks (Err e) a.1 b.1 ⊎ Works ReadWorks (Err e) c.1 d.1)
+    by_worker (inl is) =
+        let w = subst (λ (x : Result (Unit {0}) Error). Works FlushWorks x a.1 b.1) is (works_of FlushWorks sent a b s) in
+        (flush_works_first e h.0 a.1 b.1 w, inl w)
+    by_worker (inr is) =
+        let w = subst (λ (x : Result (Unit {0}) Error). Works ReadWorks x c.1 d.1) is (works_of ReadWorks got c d r) in
+        (read_works_first e h.0 c.1 d.1 w, inr w)

@@ -16,13 +16,15 @@ use Rattle.sftp_lanes.specs.Seen.{given, setting_by}
 use Rattle.sftp_link.specs.Views.{LinkView}
 use Rattle.sftp_model.specs.declared.error.Error.{Error}
 use Rattle.sftp_model.specs.declared.error.Error.TheVariants as error
+use Rattle.sftp_model.specs.declared.error.Fault.{Fault}
 use Rattle.sftp_model.specs.declared.options.SftpOptions.{SftpOptions}
 use Rattle.sftp_model.specs.declared.reply.Reply.{Reply}
 use Rattle.sftp_tasks.specs.declared.report.SharedReport.{SharedReport}
 use Rattle.sftp_tasks.specs.Reported.{HaveLanes}
 use Rattle.sftp_tasks.specs.Opening.{GreetStops, HasGreeted}
-use Rattle.sftp_tasks.specs.Rounds.{Token}
+use Rattle.sftp_tasks.specs.Rounds.{HoldsOnce, Token, fault_for}
 use Rattle.sftp_tasks.specs.Sent.{SeesVersion}
+use Rattle.sftp_tasks.specs.SessionEvents.{HasFault, HasNoFault}
 use Rattle.sftp_tasks.specs.Workers.{FlushWorks, Post, ReadWorks}
 use Rattle.tasks_run.specs.Crews.{named_in_order}
 use Rattle.tasks_run.specs.Halves.{HalvesShow, WorkersShow}
@@ -52,9 +54,17 @@ pub record RunsShared (lanes : List Lane) (options : SftpOptions) (r : SharedRep
 abbrev pub RunsOf : Sight → SharedReport → Type 0
 RunsOf s r = RunsShared s.lanes s.options r
 
--- one of the workers answered so, or memory was wanting
+-- one of the workers answered so, by what it found wrong itself; or memory was wanting
 abbrev pub IsCause : Result (Unit {0}) Error → Result (Unit {0}) Error → Error → Type 0
-IsCause sent got e = (e ≡ error.OutOfMemory) ⊎ ((sent ≡ Err e) ⊎ (got ≡ Err e))
+IsCause sent got e = (e ≡ error.OutOfMemory) ⊎ ((fault_for e ≢ None) × ((sent ≡ Err e) ⊎ (got ≡ Err e)))
+
+-- In one hold of a seat the session, which had kept no fault, kept the one of this error: it is the session's first.
+pub record IsFirstFault (e : Error) : Type 0 where
+  pub m : Token
+  pub n : Token
+  pub fault : Fault
+  pub is : fault_for e ≡ Some fault
+  pub keeps : HoldsOnce (λ y z more. HasNoFault y.session × HasFault fault z.session) m n
 
 -- what a worker did over its half
 abbrev pub Works : {Service : Type 0} → (Result (Unit {0}) Error → Post Service → Post Service → Type 0)
@@ -66,14 +76,15 @@ abbrev pub Opens : {A B : Type 0} → Token → LinkView A → LinkView A → Li
 Opens n out out' input input' = (m : Token) × HasGreeted m n out out' input input'
 
 module _ {A B : Type 0} (out out' : LinkView A) (input input' : LinkView B) where
-  -- memory was wanting, or the opening was stopped by this
+  -- memory was wanting, or the opening was stopped by this, the session's first fault
   abbrev pub OpeningStops : Error → Type 0
-  OpeningStops e =
-      (e ≡ error.OutOfMemory) ⊎ ((m : Token) × ((n : Token) × GreetStops e m n out out' input input'))
+  OpeningStops e = (e ≡ error.OutOfMemory)
+      ⊎ (IsFirstFault e × ((m : Token) × ((n : Token) × GreetStops e m n out out' input input')))
 
-  -- memory was wanting, or one of the workers stopped by this, over its half of the link
+  -- memory was wanting, or one of the workers stopped by this, the session's first fault, over its half of the link
   abbrev pub WorkersStop : Error → Type 0
-  WorkersStop e = (e ≡ error.OutOfMemory) ⊎ (Works FlushWorks (Err e) out out' ⊎ Works ReadWorks (Err e) input input')
+  WorkersStop e = (e ≡ error.OutOfMemory)
+      ⊎ (IsFirstFault e × (Works FlushWorks (Err e) out out' ⊎ Works ReadWorks (Err e) input input'))
 
   -- Both workers came to the end, each over its half of the link, which shows the journal's Sends or Takes. The report
   -- has the VERSION that the worker that sends had seen.

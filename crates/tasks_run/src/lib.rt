@@ -2,8 +2,10 @@
 #![tactic(auto)]
 
 mod ends;
+mod laws;
 mod running;
 mod seats;
 
+pub use laws::link_faults_are_counted;
 pub use running::run_shared;
 pub use sftp_tasks::SharedReport;

@@ -1,13 +1,13 @@
 // The threads of a run, and its report.
-ghost use Rattle.std.specs.Prelude.{◌≡◌, ◌⊎◌, ◌<◌, ◌-◌, ◌^◌, ◌&&◌, ◌∷◌, ◌++◌, [], true, is_some, length, map, reverse, Err, Ok, IfErr, IfOk, MatchOption};
+ghost use Rattle.std.specs.Prelude.{◌≡◌, ◌≢◌, ◌<◌, ◌-◌, ◌^◌, ◌&&◌, ◌∷◌, ◌++◌, [], true, is_some, length, map, reverse, Err, None, Ok, IfErr, IfOk, IfSome, MatchOption};
 ghost use Rattle.std.specs.Thread.{IsSync};
 ghost use Rattle.plan_model.specs.Lanes.{are_ok};
 ghost use Rattle.session_seats.specs.Closes.{AllOf, claims_of};
 ghost use Rattle.session_seats.specs.Covers.{Complete};
 ghost use Rattle.session_seats.specs.Holds.{sight_by};
-ghost use Rattle.sftp_model.specs.declared.error.Error.TheVariants as error;
 ghost use Rattle.sftp_model.specs.declared.reply.Reply.{Reply};
 ghost use Rattle.sftp_tasks.specs.Reported.{Reported, lane_named};
+ghost use Rattle.sftp_tasks.specs.Rounds.{fault_for};
 ghost use Rattle.sftp_tasks.specs.Workers.{FlushWorks, ReadWorks};
 ghost use Rattle.tasks_run.specs.Crews.{IsCrew, named_in_order};
 ghost use Rattle.tasks_run.specs.RunEnds.{IsEnded};
@@ -17,7 +17,9 @@ ghost use Rattle.tasks_run.specs.Running.{AllReady, AllRan, HasRun, IsReady, Wor
 use crate::ends::is_ended;
 use crate::seats::{Crew, Told, open_session, run_lane, run_reader, run_sender, start, stop};
 use sftp_link::{LinkIn, LinkOut};
-use sftp_tasks::{Error, Lane, OutOfMemory, Seat, SftpOptions, SharedReport, SharedSftp};
+use sftp_tasks::{
+    Error, Lane, OutOfMemory, Seat, SftpOptions, SharedReport, SharedSftp, fault_for,
+};
 use std::alloc::{AllocError, Global};
 use std::sync::Wait;
 use std::thread;
@@ -130,29 +132,42 @@ fn run_threads<O: LinkOut + Send + Drop, I: LinkIn + Send + Drop, R: Threads + W
     )
 }
 
+/// The error of a worker that found something wrong itself, which is the session's first fault. None where it came to its end, or was
+/// stopped by want of memory or by a fault that was kept before.
+fn own_error(did: Result<(), Error>) -> Option<Error>
+    ensures { IfSome result (λ e. (did ≡ Err e) × (fault_for e ≢ None)) }
+{
+    match did {
+        Ok(()) => None,
+        Err(e) => match fault_for(&e) {
+            Some(_) => Some(e),
+            None => None,
+        },
+    }
+}
+
+/// Why a run stopped of which a worker answered an error.
+fn cause_of(sent: Result<(), Error>, got: Result<(), Error>) -> Error
+    ensures { IsCause sent got result }
+{
+    match own_error(sent) {
+        Some(e) => return e,
+        None => {}
+    }
+    match own_error(got) {
+        Some(e) => e,
+        None => Error::OutOfMemory,
+    }
+}
+
 /// Why a run ended whose workers answered so. None where both came to the end.
 fn first_error(sent: Result<(), Error>, got: Result<(), Error>) -> Option<Error>
     ensures { MatchOption result ((sent ≡ Ok tt) × (got ≡ Ok tt)) (IsCause sent got) }
 {
-    match sent {
-        Ok(()) => {}
-        Err(Error::BackgroundTaskFailure(_)) => return Some(own_error(got)),
-        Err(e) => return Some(e),
+    if sent.is_ok() && got.is_ok() {
+        return None;
     }
-    match got {
-        Ok(()) => None,
-        Err(e) => Some(e),
-    }
-}
-
-/// The error of a worker; want of memory where it has none.
-fn own_error(did: Result<(), Error>) -> Error
-    ensures { (result ≡ error.OutOfMemory) ⊎ (did ≡ Err result) }
-{
-    match did {
-        Ok(()) => Error::OutOfMemory,
-        Err(e) => e,
-    }
+    Some(cause_of(sent, got))
 }
 
 /// The first of the seats, and the others.
@@ -274,8 +289,9 @@ fn run_crew<O: LinkOut + Send + Drop, I: LinkIn + Send + Drop, R: Threads + Wait
 /// then come those of the home seat, which sends and takes none, of the worker that sends and of the one that reads. Both workers came to
 /// the end: each lane was let go, each request has its reply, and no call was added or cancelled. Where the halves tell it, the one was
 /// sent the hello's frame and then the frames of all Sends of the journal, in order, and from the other came a frame that reads as VERSION
-/// and then one for each Take, in order. With an Err the opening or one of the workers stopped by it, or memory was wanting; it is
-/// `OutOfMemory` too for a run whose journal isn't that of such an end. Where no thread can be made, the run may wait for good.
+/// and then one for each Take, in order. With an Err memory was wanting, or the opening or one of the workers stopped by it, and it is the
+/// session's first fault; it is `OutOfMemory` too for a run whose journal isn't that of such an end. Where no thread can be made, the run
+/// may wait for good.
 pub fn run_shared<
     O: LinkOut + Send + Drop,
     I: LinkIn + Send + Drop,

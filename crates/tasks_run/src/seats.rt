@@ -15,7 +15,7 @@ ghost use Rattle.tasks_run.specs.Running.{IsOf};
 
 use sftp_link::{LinkIn, LinkOut};
 use sftp_tasks::{
-    Error, Lane, OutOfMemory, Seat, SftpOptions, SharedSftp, flush_worker, read_worker,
+    Error, Lane, OutOfMemory, Seat, SftpOptions, SharedSftp, fault_for, flush_worker, read_worker,
 };
 use std::alloc::Global;
 use std::sync::Wait;
@@ -63,7 +63,10 @@ pub(crate) fn open_session<O: LinkOut, I: LinkIn, R: Wait>(
     match shared.greet(rt, &mut home, out, input) {
         Ok(true) => Ok((shared, home)),
         Ok(false) => Err(Error::OutOfMemory), // nobody else has a seat yet
-        Err(e) => Err(e),
+        Err(e) => match fault_for(&e) {
+            Some(_) => Err(e),
+            None => Err(Error::OutOfMemory), // no fault was kept before
+        },
     }
 }
 
