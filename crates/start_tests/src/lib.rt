@@ -9,7 +9,6 @@ mod copies;
 mod files;
 #[cfg(test)]
 mod paths;
-#[cfg(test)]
-mod scene;
+pub mod scene;
 #[cfg(test)]
 mod tickets;

@@ -1,13 +1,15 @@
-// A core that a script talks to, and a file of it.
-ghost use Rattle.std.specs.Prelude.{◌≡◌, true, IfOk, IsSome};
+//! A core that a script talks to, and a file of it.
+ghost use Rattle.std.specs.Prelude.{◌≡◌, true, IfOk, IsSome, Some};
+ghost use Rattle.sftp_core.specs.Core.{at};
 ghost use Rattle.sftp_core.specs.Info.{info_of};
+ghost use Rattle.sftp_core.specs.declared.id_record.IdRecord.TheVariants.{Granted};
 ghost use Rattle.call_state.specs.Asked.{IsReady};
 ghost use Rattle.call_state.specs.Calls.{IsUnderWay};
 ghost use Rattle.call_state.specs.Keeping.{KeepsHeld};
 
 use bytes::Bytes;
 use call_state::{PendingCall, PlanRunner};
-use sftp_core::Core;
+use sftp_core::{Chunk, Core};
 use sftp_file::{Error, File, IoKind, Poll, StartOpen};
 use sftp_model::{Extensions, Fault, OpenOptions, SftpOptions};
 use std::alloc::Global;
@@ -15,29 +17,34 @@ use std::test::Fail;
 
 /// What a start gave.
 #[derive(Clone, Copy, Debug, PartialEq, Eq)]
-pub(crate) enum Seen {
+pub enum Seen {
     /// It was not refused.
     Started,
+    /// By this kind of `IOError`.
     Io(IoKind),
+    /// The server doesn't offer this.
     Unsupported(Extensions),
+    /// By this fault, which is kept.
     Failed(Fault),
+    /// By a STATUS of this code.
+    Refused(u32),
+    /// Another error.
     Other,
 }
 
-pub(crate) fn error_seen(e: &Error) -> Seen {
+/// What an error is.
+pub fn error_seen(e: &Error) -> Seen {
     match e {
         Error::IOError(kind) => Seen::Io(*kind),
         Error::UnsupportedExtension(extension) => Seen::Unsupported(*extension),
         Error::BackgroundTaskFailure(fault) => Seen::Failed(*fault),
+        Error::SftpError { code, .. } => Seen::Refused(*code),
         _ => Seen::Other,
     }
 }
 
 /// What a start gave. The call is given up.
-pub(crate) fn start_seen<M: PlanRunner>(
-    core: &mut Core,
-    started: Result<PendingCall<M>, Error>,
-) -> Seen
+pub fn start_seen<M: PlanRunner>(core: &mut Core, started: Result<PendingCall<M>, Error>) -> Seen
     requires { IfOk started (IsUnderWay M.meaning core.old) }
 {
     match started {
@@ -49,9 +56,13 @@ pub(crate) fn start_seen<M: PlanRunner>(
     }
 }
 
-/// A core whose hello was sent and that took a VERSION. READs ask for 4 bytes at most, and WRITEs carry 2.
-pub(crate) fn greeted(alloc: Global, version: &[u8]) -> Result<Core, Fail> {
-    let options = SftpOptions::new().max_write_len(2).max_read_len(4);
+/// A core whose hello was sent and that took a VERSION. READs ask for 4 bytes at most, WRITEs carry 2, and of a buffered
+/// file 4 bytes may be written whose status is left for later.
+pub fn greeted(alloc: Global, version: &[u8]) -> Result<Core, Fail> {
+    let options = SftpOptions::new()
+        .tokio_compat_file_write_limit(4)
+        .max_write_len(2)
+        .max_read_len(4);
     let mut core = Core::new(alloc, &options)?;
     let hello = core.hand_out()?;
     core.give_back(hello);
@@ -62,56 +73,69 @@ pub(crate) fn greeted(alloc: Global, version: &[u8]) -> Result<Core, Fail> {
 }
 
 /// Whether a request may be submitted.
-pub(crate) fn may_ask(core: &Core) -> bool
+pub fn may_ask(core: &Core) -> bool
     ensures { result ≡ true → IsReady core.now }
 {
     core.info().is_some() && core.kept() < 100
 }
 
-/// Hands out what is queued.
-fn send(core: &mut Core)
-    requires { IsSome (info_of core.old.phase) }
-    ensures keeps { KeepsHeld core.old core.new }
-    ensures opened { IsSome (info_of core.new.phase) }
-{
-    let Ok(chunk) = core.hand_out() else {
-        return;
-    };
-    core.give_back(chunk);
-}
-
-/// Whether a body was taken.
-fn takes(core: &mut Core, body: &[u8]) -> bool
-    requires { IsSome (info_of core.old.phase) }
+/// Hands out what is queued: whether it is these frames.
+pub fn sends(core: &mut Core, frames: &[u8]) -> bool
     ensures { KeepsHeld core.old core.new }
 {
-    core.fault().is_none() && core.take(body).is_ok()
+    let Ok(chunk) = core.hand_out() else {
+        return false;
+    };
+    let same = is_chunk(&chunk, frames);
+    core.give_back(chunk);
+    same
+}
+
+/// Whether the pieces of a chunk are these bytes, joined.
+fn is_chunk(chunk: &Chunk, frames: &[u8]) -> bool {
+    let mut rest = frames;
+    for piece in chunk.pieces() {
+        if !rest.starts_with(piece) {
+            return false;
+        }
+        rest = &rest[piece.len()..];
+    }
+    rest.is_empty()
+}
+
+/// Whether a body was taken, once the session is open.
+pub fn takes(core: &mut Core, body: &[u8]) -> bool
+    ensures { KeepsHeld core.old core.new }
+{
+    if core.info().is_none() || core.fault().is_some() {
+        return false;
+    }
+    core.take(body).is_ok()
 }
 
 /// Hands out what is queued, and takes a body: whether it was taken.
-pub(crate) fn exchange(core: &mut Core, body: &[u8]) -> bool
-    requires { IsSome (info_of core.old.phase) }
+pub fn exchange(core: &mut Core, body: &[u8]) -> bool
     ensures { KeepsHeld core.old core.new }
 {
-    send(core);
+    let _ = sends(core, b"");
     takes(core, body)
 }
 
 /// What a file may be used for.
 #[derive(Clone, Copy)]
-pub(crate) enum Rights {
+pub enum Rights {
+    /// It is read.
     Read,
+    /// It is written.
     Write,
+    /// Both.
     Both,
 }
 
 /// A file that is opened with these rights by this HANDLE.
-pub(crate) fn opened(
-    alloc: Global,
-    core: &mut Core,
-    rights: Rights,
-    handle: &[u8],
-) -> Result<File, Fail> {
+pub fn opened(alloc: Global, core: &mut Core, rights: Rights, handle: &[u8]) -> Result<File, Fail>
+    ensures { IfOk result (λ file. at core.new file.grant.id ≡ Some (Granted file.grant.handle 1)) }
+{
     if !may_ask(core) {
         return Err("no session")?;
     }
@@ -132,20 +156,20 @@ pub(crate) fn opened(
 }
 
 /// Two pieces of one byte each.
-pub(crate) fn pieces() -> [Bytes; 2] {
+pub fn pieces() -> [Bytes; 2] {
     [Bytes::from_static(b"x"), Bytes::from_static(b"y")]
 }
 
 /// Bodies of a VERSION without extensions, and of one that offers `fsync@openssh.com` and `copy-data`.
-pub(crate) const PLAIN: &[u8] = b"\x02\0\0\0\x03";
+pub const PLAIN: &[u8] = b"\x02\0\0\0\x03";
 
-pub(crate) const OFFERS: &[u8] =
+pub const OFFERS: &[u8] =
     b"\x02\0\0\0\x03\0\0\0\x11fsync@openssh.com\0\0\0\x011\0\0\0\x09copy-data\0\0\0\x011";
 
 /// The handle `h`, to the request 0, and `g`, to the request 1.
-pub(crate) const H: &[u8] = b"\x66\0\0\0\0\0\0\0\x01h";
+pub const H: &[u8] = b"\x66\0\0\0\0\0\0\0\x01h";
 
-pub(crate) const G: &[u8] = b"\x66\0\0\0\x01\0\0\0\x01g";
+pub const G: &[u8] = b"\x66\0\0\0\x01\0\0\0\x01g";
 
 /// The greatest offset.
-pub(crate) const MAX: u64 = 18446744073709551615;
+pub const MAX: u64 = 18446744073709551615;

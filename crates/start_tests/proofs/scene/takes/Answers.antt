@@ -1,5 +1,9 @@
+use Rattle.std.proofs.Common.{rules, IsSome}
+use Rattle.sftp_core.specs.Info.{info_of}
 use Rattle.start_tests.proofs.Keeping.{came}
 use Rattle.start_tests.proofs.scene.takes.Goals as goal
 
-pub returns-then-is_none : goal.returns-then-is_none
-returns-then-is_none c = came c.args.core.now c.take.new.self _ c.take.result c.requires c.take.ensures.ok c.take.ensures.only c.take.ensures.refused
+pub returns : goal.returns
+returns c =
+    let open_now : IsSome (info_of c.args.core.now.phase) = search rules in
+    came c.args.core.now c.take.new.self _ c.take.result open_now c.take.ensures.ok c.take.ensures.only c.take.ensures.refused
