@@ -1,10 +1,10 @@
 // Sessions that go wrong behind their opening (draft-ietf-secsh-filexfer-02, sections 3, 6 and 7).
-ghost use Rattle.std.specs.Prelude.{◌≡◌, true, IfOk, IsSome};
+ghost use Rattle.std.specs.Prelude.{IfOk, IsSome};
 ghost use Rattle.sftp_core.specs.Info.{info_of};
 ghost use Rattle.call_state.specs.Calls.{IsUnderWay};
 ghost use Rattle.sftp_file.specs.Tells.{telling};
 
-use crate::peer::{NEVER, Peer, Seen, answer_seen, error_seen};
+use crate::peer::{NEVER, Peer, Seen, answer_seen, error_seen, is_open, opened};
 use sftp_client::{AttrsCall, Core, Ended, Error, Fault, FormatKind, Sftp, SftpOptions};
 use std::alloc::Global;
 use std::test::Fail;
@@ -18,23 +18,6 @@ enum First {
     /// A flush, and then a take.
     Round,
     Finish,
-}
-
-/// Whether a session is open.
-fn is_open(sftp: &mut Sftp<Peer>) -> bool
-    ensures { result ≡ true → IsSome (info_of sftp.new.core.phase) }
-{
-    sftp.core().info().is_some()
-}
-
-/// A session over a peer that says VERSION, and then this.
-fn opened(alloc: Global, says: &[u8], fails: u32) -> Result<Sftp<Peer>, Fail> {
-    let mut bytes = Vec::from_slice(alloc, b"\0\0\0\x05\x02\0\0\0\x03")?;
-    bytes.extend_from_slice(says)?;
-    match Sftp::new(alloc, Peer::new(bytes, fails), &SftpOptions::new()) {
-        Ok(sftp) => Ok(sftp),
-        Err((_e, _peer)) => Err("it didn't open")?,
-    }
 }
 
 /// Asks for the attributes of `a`.

@@ -5,5 +5,4 @@
 mod calls;
 #[cfg(test)]
 mod opening;
-#[cfg(test)]
-mod peer;
+pub mod peer;

@@ -1,15 +1,19 @@
-// A peer that says what it is told to, whatever it is asked.
-ghost use Rattle.std.specs.Prelude.{◌≡◌, false, true};
+//! A peer that says what it is told to, whatever it is asked, and sessions with it.
+ghost use Rattle.std.specs.Prelude.{◌≡◌, false, true, IsSome};
+ghost use Rattle.sftp_core.specs.Info.{info_of};
 
+use sftp_client::{Sftp, SftpOptions};
 use sftp_link::{DeviceError, Link, LinkIn, LinkOut, LinkState};
 use sftp_model::{Error, Fault};
+use std::alloc::Global;
+use std::test::Fail;
 
 /// No call fails.
-pub(crate) const NEVER: u32 = 1000;
+pub const NEVER: u32 = 1000;
 
 /// A peer of whose calls the one with this number fails, and no other. It tells nothing of what it moves.
 #[derive(Drop)]
-pub(crate) struct Peer {
+pub struct Peer {
     says: Vec<u8>,
     at: usize,
     fails: u32,
@@ -20,7 +24,7 @@ pub(crate) struct Peer {
 
 impl Peer {
     /// A peer that says these bytes.
-    pub(crate) fn new(says: Vec<u8>, fails: u32) -> Peer {
+    pub fn new(says: Vec<u8>, fails: u32) -> Peer {
         Peer {
             says,
             at: 0,
@@ -82,16 +86,19 @@ impl Link for Peer {}
 
 /// What a call answered.
 #[derive(Clone, Copy, Debug, PartialEq, Eq)]
-pub(crate) enum Seen {
+pub enum Seen {
+    /// It went.
     Done,
     /// The error of the call that met this fault.
     Met(Fault),
     /// This fault was met before.
     Kept(Fault),
+    /// Another error.
     Other,
 }
 
-pub(crate) fn error_seen(e: &Error) -> Seen {
+/// What an error is.
+pub fn error_seen(e: &Error) -> Seen {
     match e {
         Error::LinkFault => Seen::Met(Fault::Link),
         Error::LinkEnded => Seen::Met(Fault::Ended),
@@ -108,9 +115,27 @@ pub(crate) fn error_seen(e: &Error) -> Seen {
     }
 }
 
-pub(crate) fn answer_seen<T>(answer: &Result<T, Error>) -> Seen {
+/// What an answer is.
+pub fn answer_seen<T>(answer: &Result<T, Error>) -> Seen {
     match answer {
         Ok(_) => Seen::Done,
         Err(e) => error_seen(e),
     }
+}
+
+/// A session over a peer that says VERSION, and then this.
+pub fn opened(alloc: Global, says: &[u8], fails: u32) -> Result<Sftp<Peer>, Fail> {
+    let mut bytes = Vec::from_slice(alloc, b"\0\0\0\x05\x02\0\0\0\x03")?;
+    bytes.extend_from_slice(says)?;
+    match Sftp::new(alloc, Peer::new(bytes, fails), &SftpOptions::new()) {
+        Ok(sftp) => Ok(sftp),
+        Err((_e, _peer)) => Err("it didn't open")?,
+    }
+}
+
+/// Whether a session is open.
+pub fn is_open(sftp: &mut Sftp<Peer>) -> bool
+    ensures { result ≡ true → IsSome (info_of sftp.new.core.phase) }
+{
+    sftp.core().info().is_some()
 }

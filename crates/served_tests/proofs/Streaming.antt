@@ -45,7 +45,7 @@ contents_kept old new parts k h = keeps_parts content_kind old new parts k h
 pub statuses_kept : (old new : Core) (parts : List Part) → KeepsHeld old new → AreAwaited status_kind old parts → AreAwaited status_kind new parts
 statuses_kept old new parts k h = keeps_parts status_kind old new parts k h
 
-writing_kept : (old new : Core) (u : UploadValue) → KeepsHeld old new → u.ended ≡ false → IsWriting old u → MayWrite new u
+pub writing_kept : (old new : Core) (u : UploadValue) → KeepsHeld old new → u.ended ≡ false → IsWriting old u → MayWrite new u
 writing_kept old new u k over h =
     record {
       over = over;
