@@ -50,12 +50,7 @@ impl<'a> LocalFile for SystemFile<'a> {
     }
 
     fn create(&mut self, name: &str) -> Result<(), LocalError> {
-        // what has the name is taken away, so that a symbolic link there isn't followed
-        match fs::remove_file(self.runtime, name) {
-            Err(e) if e.kind() != ErrorKind::NotFound => return Err(e.into()),
-            _ => {}
-        }
-        self.file = Some(File::create_new(self.runtime, name)?);
+        self.file = Some(create_anew(self.runtime, name)?);
         Ok(())
     }
 
@@ -88,6 +83,17 @@ impl<'a> LocalFile for SystemFile<'a> {
 
     fn rename(&mut self, from: &str, to: &str) -> Result<(), LocalError> {
         Ok(fs::rename(self.runtime, from, to)?)
+    }
+}
+
+/// Makes a file. What has the name is taken away, so that a symbolic link there isn't followed.
+fn create_anew(rt: &HostRuntime, name: &str) -> io::Result<File> {
+    match File::create_new(rt, name) {
+        Err(e) if e.kind() == ErrorKind::AlreadyExists => {
+            fs::remove_file(rt, name)?;
+            File::create_new(rt, name)
+        }
+        made => made,
     }
 }
 

@@ -8,6 +8,7 @@ use crate::ended::{Reach, ended_by};
 use crate::listing::list;
 use crate::local_side::{is_folder, make_local_folder};
 use crate::reason::{Reason, is_starved, tell, tell_of};
+use buffered_link::BufferedLink;
 use sftp_client::Sftp;
 use sftp_link::Link;
 use sftp_model::SftpOptions;
@@ -71,10 +72,11 @@ fn folder_of(path: &str) -> &str {
     }
 }
 
-/// Does what is asked for over a link, which is dropped then, and answers what it came to.
+/// Does what is asked for over a link, which is read ahead and dropped then, and answers what it came to.
 pub(crate) fn over<L: Link + Drop>(rt: &HostRuntime, link: L, work: Work<'_>) -> Reach
     requires { (L.LinkState.state link).faults < 2 ^ 64 - 1 }
 {
+    let link = BufferedLink::new(rt.alloc(), link);
     match Sftp::new(rt.alloc(), link, &SftpOptions::new()) {
         Ok(sftp) => match work {
             Work::Copy(transfer) => {
