@@ -2,7 +2,7 @@
 use Rattle.std.specs.Prelude.{Ok, Err, refl}
 use Rattle.std.proofs.Common.{inl, inr}
 use Rattle.program_ends.specs.Completed.{EndsFor}
-use Rattle.sftp_script.specs.declared.reason.Reason.TheVariants as reason
+use Rattle.script_words.specs.declared.reason.Reason.TheVariants as reason
 use Rattle.sftp_script.specs.declared.script.Script.{Script}
 use Rattle.sftp_share.specs.Completed.{IsSharedStatus}
 
