@@ -13,7 +13,7 @@ use Rattle.sftp_link.specs.declared.piece.Piece.{Piece}
 use Rattle.sftp_link.specs.declared.piece.Piece.TheVariants.{Got, Sent}
 use Rattle.sftp_link.proofs.Telling.{got_more, sent_more, sent_nothing, told_on, told_self}
 use Rattle.buffered_link.specs.Buffers.{Buffering, ReadsOver, RecvDid, SendDid, SentThenGot, buffered_view}
-use Rattle.buffered_link.specs.Rooms.{GivesSome, PassesAll}
+use Rattle.buffered_link.specs.Rooms.{GivesPrefix, PassesAll}
 
 -- ---- causes
 
@@ -105,7 +105,7 @@ sends_after state bytes old new mid (Err e) p sent is = (
 
 -- some of what was ahead was given
 pub gives_ahead : {L S : Type 0} (state : L → LinkView S) (room : List ℕ) (old new : Buffering L) (n : ℕ) → 0 < length room
-    → 0 < length old.ahead → GivesSome old.ahead new.ahead room n
+    → 0 < length old.ahead → GivesPrefix old.ahead new.ahead room n
     → new ≡ record old { ahead = new.ahead; ended = false }
     → HasReceived S room (buffered_view state old) (buffered_view state new) (Ok n) × RecvDid state room old new (Ok n)
 gives_ahead state room old new zero some any gives is = absurd (omega (arith, gives.0))

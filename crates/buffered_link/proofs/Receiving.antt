@@ -10,7 +10,7 @@ use Rattle.sftp_link.specs.declared.device_error.DeviceError.{DeviceError}
 use Rattle.sftp_link.specs.declared.device_error.DeviceError.TheVariants.{OutOfMemory}
 use Rattle.sftp_link.specs.declared.piece.Piece.TheVariants.{Got}
 use Rattle.sftp_link.proofs.Telling.{told_self}
-use Rattle.buffered_link.specs.Rooms.{Fills, GivesSome, ReceivesFor}
+use Rattle.buffered_link.specs.Rooms.{Fills, GivesPrefix, ReceivesFor}
 
 take_take : (n k : ℕ) (xs : List ℕ) → n ≤ length (take k xs) → take n (take k xs) ≡ take n xs
 take_take n k xs le = sym (take-append-le n (take k xs) (drop k xs) le) ∙ ap (λ (w : List ℕ). take n w) (take-append-drop k xs)
@@ -18,7 +18,7 @@ take_take n k xs le = sym (take-append-le n (take k xs) (drop k xs) le) ∙ ap (
 -- bytes were copied to the start of a room from a list, of which some were given before
 pub gave : (items copied room : List ℕ) (given came n : ℕ) → given ≤ came → came ≤ length items → n ≡ min (length room) (came - given)
     → copied ≡ take n (drop given items)
-    → GivesSome (drop given (take came items)) (drop (given + n) (take came items)) (copied ++ drop n room) n
+    → GivesPrefix (drop given (take came items)) (drop (given + n) (take came items)) (copied ++ drop n room) n
 gave items copied room given came n le fits is copy =
     let whole : came ≡ given + (came - given) = omega arith in
     let ahead : drop given (take came items) ≡ take (came - given) (drop given items) =
@@ -91,7 +91,7 @@ end_both ended (suc m) (suc n) f g h = h
 
 -- or through the room
 pub receives_through : {S : Type 0} (first later room : List ℕ) (m n : ℕ) {x y : LinkView S} → Fills first x y (Ok m)
-    → GivesSome first later room n → 0 < length room → ReceivesFor later room x y (Ok n)
+    → GivesPrefix first later room n → 0 < length room → ReceivesFor later room x y (Ok n)
 receives_through first later room m n {x = x} {y = y} filled gives some = record {
   within = omega (arith, gives.0);
   came = (first, gives.1, subst (λ (w : List ℕ). Told (OneMore Got w) x.log y.log) (take_all m first (omega (arith, filled.came))) filled.log);

@@ -5,6 +5,7 @@ use Rattle.std.specs.Prelude.{
   ℕ,
   List,
   [],
+  ◌∷◌,
   ◌++◌,
   length,
   min,
@@ -17,6 +18,7 @@ use Rattle.std.specs.Prelude.{
   OnOk,
   Option,
 }
+use Rattle.std.proofs.Common.{refl}
 use Rattle.sftp_link.specs.Causes.{Cause}
 use Rattle.sftp_link.specs.Told.{IsEnd, OneMore, Receives, Same, SentAll, Told}
 use Rattle.sftp_link.specs.Views.{LinkView}
@@ -25,8 +27,8 @@ use Rattle.sftp_link.specs.declared.piece.Piece.{Piece}
 use Rattle.sftp_link.specs.declared.piece.Piece.TheVariants.{Got}
 
 -- the first bytes were given, as many as there are and the room has place for
-abbrev pub GivesSome : List ℕ → List ℕ → List ℕ → ℕ → Type 0
-GivesSome old new room n = (n ≡ min (length room) (length old)) × (old ≡ take n room ++ new)
+abbrev pub GivesPrefix : List ℕ → List ℕ → List ℕ → ℕ → Type 0
+GivesPrefix old new room n = (n ≡ min (length room) (length old)) × (old ≡ take n room ++ new)
 
 -- a recv, of which all that came is ahead; or it failed, and none is
 pub record Fills {S : Type 0} (ahead : List ℕ) (before now : LinkView S) (result : Result ℕ DeviceError) : Type 0 where
@@ -62,3 +64,11 @@ pub record PassesAll {S : Type 0} (old new : List ℕ) (before now : LinkView S)
   pub all : OnOk result (new ≡ [])
   pub cause : Cause before.faults now.faults result
   pub same : now.service ≡ before.service
+
+-- ---- worked rows: of two bytes a room for one is given the first, and a room for three both
+
+pub first_is_given : GivesPrefix (7 ∷ 8 ∷ []) (8 ∷ []) (7 ∷ []) 1
+first_is_given = (refl, refl)
+
+pub both_are_given : GivesPrefix (7 ∷ 8 ∷ []) [] (7 ∷ 8 ∷ 0 ∷ []) 2
+both_are_given = (refl, refl)

@@ -1,6 +1,6 @@
 //! Bytes that came and were not given yet.
 ghost use Rattle.std.specs.Prelude.{◌≡◌, ◌<◌, ◌-◌, ◌^◌, [], length};
-ghost use Rattle.buffered_link.specs.Rooms.{Fills, GivesSome, ReceivesFor};
+ghost use Rattle.buffered_link.specs.Rooms.{Fills, GivesPrefix, ReceivesFor};
 
 use sftp_link::{DeviceError, LinkIn};
 use std::alloc::Global;
@@ -48,7 +48,7 @@ impl ReadAhead {
 
     /// Gives the first of them, as many as there are and the room has place for.
     pub(crate) fn give(&mut self, room: &mut [u8]) -> usize
-        ensures { GivesSome self.old self.new room.new result }
+        ensures { GivesPrefix self.old self.new room.new result }
     {
         let n = room.len().min(self.came - self.given);
         room[..n].copy_from_slice(&self.room[self.given..self.given + n]);
