@@ -1,10 +1,11 @@
 #!/usr/bin/env python3
 """How much a reader has to believe for one definition: all definitions of specs/ that it cites, and those that they cite.
 
-    python3 tools/believe.py [CRATE FILE NAME]      the headline of the program: sftp_cli Printed IsPrinted
+    python3 tools/believe.py [CRATE FILE NAME]      by crates, for one definition: sftp_cli Printed IsPrinted if it is left out
+    python3 tools/believe.py --table                the table of docs/PROVED.md: a line for each headline
+    python3 tools/believe.py --check                whether docs/PROVED.md has this table
 
-Definitions of the standard library are not counted, and of Rust types that are named their number alone. Comments and imports
-are no lines.
+Definitions of the standard library are not counted, and of Rust types only their number. Comments and imports are no lines.
 """
 import os, re, sys
 from collections import defaultdict
@@ -89,17 +90,52 @@ def cited(files, module, name, types):
             yield at, word
 
 
-def main():
-    crate, file, name = sys.argv[1:4] if len(sys.argv) > 3 else ("sftp_cli", "Printed", "IsPrinted")
-    files, types = modules(), set()
+# What a program or a call of the library promises: who promises it, and the crate, the file and the name of its definition.
+HEADLINES = [
+    ("`sftp_cli script`, the text of a run", "sftp_cli", "Printed", "IsPrinted"),
+    ("`sftp_cli`, every ending", "sftp_cli", "Ended", "ProgramEnds"),
+    ("`sftp_mirror`", "sftp_mirror", "Ended", "ProgramEnds"),
+    ("`sftp_view`", "sftp_view", "Ended", "ProgramEnds"),
+    ("`sftp_share`", "sftp_share", "Ended", "ShareEnds"),
+    ("`sftp_serve`", "sftp_serve", "Logs", "ServesStream"),
+    ("`sftp_transfer`, its exit status", "sftp_transfer", "Ended", "ProgramEnds"),
+    ("`copy_all`, which copies the files of `sftp_transfer`", "transfer_pool", "Told", "CopiesAll"),
+    ("`run_lanes`", "sftp_lanes", "Reported", "IsReport"),
+    ("`run_shared`", "session_threads", "Reports", "RunsShared"),
+    ("`Sftp::finish`", "sftp_client", "Waits", "HasFinished"),
+    ("`Sftp::flush`", "sftp_client", "Sessions", "FlushesQueue"),
+    ("`Sftp::take`", "sftp_client", "Sessions", "TakesOrKept"),
+    ("a poll of any call of the library", "plan_state", "Calls", "StepsByPlan"),
+    ("`Core::poll`", "sftp_core", "Core", "after_poll"),
+]
+
+
+def cone(files, crate, file, name):
+    """The definitions below one, itself included, and the declared types that they name."""
+    seen, types, todo = set(), set(), [(f"{crate}.{file}", name)]
     if name not in files[f"{crate}.{file}"].definitions:
         sys.exit(f"believe: {crate}/specs/{file}.antt does not define {name}")
-    seen, todo = set(), [(f"{crate}.{file}", name)]
     while todo:
         one = todo.pop()
         if one not in seen:
             seen.add(one)
             todo += cited(files, *one, types)
+    return seen, types
+
+
+def table(files):
+    """The lines of the table of docs/PROVED.md."""
+    lines = ["| What is promised by | Its definition | Definitions | Lines |", "|---|---|---|---|"]
+    for who, crate, file, name in HEADLINES:
+        seen, _ = cone(files, crate, file, name)
+        count = sum(len(files[module].definitions[word]) for module, word in seen)
+        lines.append(f"| {who} | `{name}`, crates/{crate}/specs/{file}.antt | {len(seen)} | {count} |")
+    return "\n".join(lines)
+
+
+def by_crates(files, crate, file, name):
+    """Prints how many definitions, lines and files of each crate are below a definition."""
+    seen, types = cone(files, crate, file, name)
     rows = defaultdict(lambda: [0, 0, set()])
     for module, word in seen:
         row = rows[module.split(".")[0]]
@@ -110,7 +146,20 @@ def main():
     for one in sorted(rows):
         print(f"{one:18} {rows[one][0]:11}  {rows[one][1]:5}  {len(rows[one][2]):5}")
     total = [sum(r[0] for r in rows.values()), sum(r[1] for r in rows.values()), sum(len(r[2]) for r in rows.values())]
-    print(f"{'all':18} {total[0]:11}  {total[1]:5}  {total[2]:5}, of {len(rows)} crates, and {len({t.split('.TheVariants')[0] for t in types})} Rust types")
+    kinds = len({t.split(".TheVariants")[0] for t in types})
+    print(f"{'all':18} {total[0]:11}  {total[1]:5}  {total[2]:5}, of {len(rows)} crates, and {kinds} Rust types")
+
+
+def main():
+    files = modules()
+    if sys.argv[1:] == ["--table"]:
+        print(table(files))
+    elif sys.argv[1:] == ["--check"]:
+        if table(files) not in open(f"{ROOT}/docs/PROVED.md", encoding="utf-8").read():
+            sys.exit("believe: the table of docs/PROVED.md is not that of tools/believe.py --table")
+        print("believe: the table of docs/PROVED.md is up to date")
+    else:
+        by_crates(files, *(sys.argv[1:4] if len(sys.argv) > 3 else ("sftp_cli", "Printed", "IsPrinted")))
 
 
 main()

@@ -8,6 +8,7 @@ one driver of them, and in memory. It prints tables, is no part of the gate, and
     python3 tools/bench.py [FIRST] [LAST]     requests in flight, doubled from FIRST to LAST: from 5000 to 40000
     python3 tools/bench.py threads            the tables of threads alone
     python3 tools/bench.py copies             copies by sftp_transfer alone, beside those of `sftp`
+    python3 tools/bench.py counts             more and more small files over a late server, for tools/picture.py
 
 A ratio of 2 at a doubling is linear. `sftp` waits for each reply, so it is measured at FIRST alone where replies are late.
 BENCH_LIMIT is the most seconds that one run may take: 1200. Memory below that of python3 itself, some 15 MiB, shows as that.
@@ -16,12 +17,12 @@ import os, queue, resource, shutil, socket, subprocess, sys, tempfile, threading
 
 ROOT = os.path.dirname(os.path.dirname(os.path.abspath(__file__)))
 PROGRAM = ROOT + "/crates/sftp_cli/out/sftp_cli"
-LOAD = ROOT + "/crates/core_load/out/core_load"
+LOAD = ROOT + "/crates/bench_core/out/bench_core"
 OUR_SERVER = ROOT + "/crates/sftp_serve/out/sftp_serve"
 COPIER = ROOT + "/crates/sftp_transfer/out/sftp_transfer"
 VIEWER = ROOT + "/crates/sftp_view/out/sftp_view"
 SHARER = ROOT + "/crates/sftp_share/out/sftp_share"
-THREADED = ROOT + "/crates/share_examples/out/share_examples"
+THREADED = ROOT + "/crates/example_threads/out/example_threads"
 SERVER = "/usr/lib/openssh/sftp-server"
 LIMIT = float(os.environ.get("BENCH_LIMIT", "1200"))
 # seconds by which each way to a late server is late
@@ -37,6 +38,8 @@ HUGE_BYTES = 1 << 30
 # a folder of so many files of so many bytes comes down and goes up; and trees of so many folders, each with so many files
 TREE_FILES, TREE_BYTES = 1000, 10000
 TREE_FOLDERS, FOLDER_FILES = (50, 100), 100
+# how many files of TREE_BYTES come down from a late server, one row after another
+COUNTS = (1, 10, 30, 100, 300, 1000)
 # so many reads of one block each of a file of so many bytes, through a cache of so many blocks
 GETS, VIEWED_BYTES, VIEW_BLOCK, VIEW_CAPACITY = 10000, 1 << 20, 4096, 64
 # what OpenSSH's client does over either server: so many files of so many bytes up and down, so many directories made and removed
@@ -328,6 +331,26 @@ def table_of_copies(folder, path, large):
     copy_tree(folder, path, tree, f"{TREE_FILES} files of {TREE_BYTES} bytes")
 
 
+def table_of_counts(folder):
+    """More and more small files in one directory, down from a late server: a line `files N sftp_transfer S sftp S` for each."""
+    path = os.path.join(folder, "late")
+    serve(path, True)
+    copied = os.path.join(folder, "copied-count")
+    for count in COUNTS:
+        tree = os.path.join(folder, f"count-{count}")
+        os.makedirs(tree)
+        for k in range(count):
+            made(tree, str(k), TREE_BYTES)
+        seconds = []
+        for command, text in (
+            ([COPIER, "unix:" + path, "get", "-r", "-q", tree + "/.", copied], ""),
+            (client_of(path), f"get -r {tree} {copied}\n"),
+        ):
+            shutil.rmtree(copied, ignore_errors=True)
+            seconds.append(measure(folder, command, text)[0])
+        print(f"files {count} sftp_transfer {seconds[0]:.2f} sftp {seconds[1]:.2f}", flush=True)
+
+
 def table_of_trees(folder, path):
     """Trees of many folders over OpenSSH's server: what doubles with them."""
     for folders in TREE_FOLDERS:
@@ -409,6 +432,9 @@ def main():
     if sys.argv[1:] == ["copies"]:
         with tempfile.TemporaryDirectory() as folder:
             return tables_of_copies(folder)
+    if sys.argv[1:] == ["counts"]:
+        with tempfile.TemporaryDirectory() as folder:
+            return table_of_counts(folder)
     first = int(sys.argv[1]) if len(sys.argv) > 1 else 5000
     last = int(sys.argv[2]) if len(sys.argv) > 2 else 40000
     sizes = [first]

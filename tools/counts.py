@@ -5,16 +5,20 @@
     python3 tools/counts.py --crates     a table of the crates instead: lines, edits that must be refused, functions, clauses
 
 - functions with more than six clauses, premises counted, by crate; tests are left out
-- lines over 120 columns in documents and in specs/, over 200 in proofs/
+- lines over 120 columns in documents, in specs/ and, imports left out, in proofs/
 - files with more than 500 lines, in crates/ and tools/
 - crates with more than five edits that must be refused, and with more than 100 functions
 - words that were to go, and words that the specs/ of more than one crate define, worked rows left out
+- facts of one word, bare participles, and words of the old dialect; what public items lack
+- crates, the first words of their names, and those with edits that must be refused
 """
 import os, re, sys
 from collections import defaultdict
 
+from prose import dialect, lacking, bare_words
+
 ROOT = os.path.dirname(os.path.dirname(os.path.abspath(__file__)))
-CLAUSES, LINES, EDITS, FUNCTIONS, WIDTH, PROOF_WIDTH = 6, 500, 5, 100, 120, 200
+CLAUSES, LINES, EDITS, FUNCTIONS, WIDTH = 6, 500, 5, 100, 120
 FUNCTION = re.compile(r"^(\s*)(?:pub(?:\([a-z ]+\))? )?(?:final )?(?:const )?(?:unsafe )?fn (\w+)")
 WORD = re.compile(r"(?:(?:abbrev|unfoldable|opaque) )*pub (?:(record|data) )?([^\W\d][\w'\-]*)(?(1)|(?=.* :(?: |$)|$))")
 # Words that had two senses, verbs without their object, and names that nobody else uses: no definition has them.
@@ -36,7 +40,7 @@ def files(*ends):
 
 
 def is_test(crate, path):
-    return crate.endswith("_tests") or path.endswith("/tests.rt") or "/tests/" in path
+    return crate.startswith("test_") or path.endswith("/tests.rt") or "/tests/" in path
 
 
 def functions(lines):
@@ -135,7 +139,7 @@ def main():
                 for found in filter(None, map(WORD.match, lines)):
                     words[found[2]].add(crate)
         if part == "proofs":
-            broad_proofs += [(len(lines[k - 1]), f"{path}:{k}") for k in wide(lines, PROOF_WIDTH)]
+            broad_proofs += [(len(lines[k - 1]), f"{path}:{k}") for k in wide(lines, WIDTH) if "use Rattle" not in lines[k - 1]]
     broad = []
     for path in documents():
         lines = open(os.path.join(ROOT, path), encoding="utf-8").read().split("\n")
@@ -146,10 +150,16 @@ def main():
     told("of these by crate", [(n, crate) for crate, n in many.items()], sum(many.values()))
     told(f"lines over {WIDTH} columns in documents", broad)
     told(f"lines over {WIDTH} columns in specs/", broad_specs)
-    told(f"lines over {PROOF_WIDTH} columns in proofs/", broad_proofs)
+    told(f"lines over {WIDTH} columns in proofs/, but for imports", broad_proofs)
     told(f"files over {LINES} lines", long)
     told(f"crates with over {EDITS} edits that must be refused", [(n, crate) for crate, n in edits.items() if n > EDITS])
     told(f"crates with over {FUNCTIONS} functions", [(n, crate) for crate, n in has.items() if n > FUNCTIONS])
+    rooms = {crate.split("_")[0] for crate in os.listdir(f"{ROOT}/crates")}
+    told("crates", [(1, room) for room in rooms], len(os.listdir(f"{ROOT}/crates")))
+    told("first words of their names", [], len(rooms))
+    told("crates with edits that must be refused", [(n, crate) for crate, n in edits.items()])
+    for title, places in {**bare_words(ROOT), **dialect(ROOT), **lacking(ROOT)}.items():
+        told(title, places)
     told("words that were to go", gone)
     told("words that more than one crate defines", twice)
 

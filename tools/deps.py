@@ -1,52 +1,61 @@
 #!/usr/bin/env python3
-"""What each crate of crates.txt has to stand on, by what its files cite: the crates cited, and all that these stand on.
+"""Checks that crates.txt lists for each crate the crates that its own files cite, and no others.
 
-    python3 tools/deps.py ROOT [--write]
+    python3 tools/deps.py            prints the lines that differ; the status is 1 if there are any
+    python3 tools/deps.py --write    writes crates.txt
+
+The toolchain computes by itself what these crates stand on in turn.
 """
 import os, re, sys
 
-root = sys.argv[1]
-lines = open(f"{root}/crates.txt", encoding="utf-8").read().split("\n")
-heads, had = {}, {}
-for line in lines:
-    if line.strip() and not line.startswith("#"):
-        head, deps = line.split(":", 1)
-        heads[head.split()[0]], had[head.split()[0]] = head, deps.split()
-kit = {d for deps in had.values() for d in deps} - set(had)
+ROOT = os.path.dirname(os.path.dirname(os.path.abspath(__file__)))
+KIT = "arrayvec atomic_table bitflags bytes clap hex indexmap itoa jiff lru mio regex serde_json sha2 slab thiserror".split()
 
 
-def cited(crate):
+def crates():
+    """The heads of the lines of crates.txt by crate, in their order, and the crates that each lists."""
+    heads, listed = {}, {}
+    for line in open(f"{ROOT}/crates.txt", encoding="utf-8"):
+        if line.strip() and not line.startswith("#"):
+            head, deps = line.split(":", 1)
+            heads[head.split()[0]], listed[head.split()[0]] = head, deps.split()
+    return heads, listed
+
+
+def cited(crate, known):
     """The crates that a crate's own files name."""
     found = set()
-    for at, folders, names in os.walk(f"{root}/crates/{crate}"):
+    for at, folders, names in os.walk(f"{ROOT}/crates/{crate}"):
         folders[:] = [f for f in folders if f not in ("out", "must-fail", "data")]
         for name in names:
-            if not name.endswith((".rt", ".antt")): continue
+            if not name.endswith((".rt", ".antt")):
+                continue
             text = open(os.path.join(at, name), encoding="utf-8").read()
-            found |= set(re.findall(r"\bRattle\.([a-z_]+)\.", text))
-            if name.endswith(".rt"): found |= set(re.findall(r"\b([a-z_]+)::", text))
-    return found & (set(had) | kit) - {crate}
+            found |= set(re.findall(r"\bRattle\.([a-z_0-9]+)\.", text))
+            if name.endswith(".rt"):
+                code = re.sub(r"//.*", "", text)
+                found |= set(re.findall(r"(?<![\w:])([a-z_0-9]+)::", code))
+    return found & known - {crate}
 
 
-direct = {crate: cited(crate) for crate in had}
+def main():
+    heads, listed = crates()
+    order = list(heads)
+    known = set(order) | set(KIT) | {dep for deps in listed.values() for dep in deps}
+    lines, wrong = ["# Each crate and the crates that its own files cite."], 0
+    for crate in order:
+        needs = cited(crate, known)
+        deps = [dep for dep in reversed(order) if dep in needs] + sorted(needs - set(order))
+        lines.append(f"{heads[crate]}: {' '.join(deps)}".rstrip())
+        if set(deps) != set(listed[crate]):
+            wrong += 1
+            less, more = sorted(set(listed[crate]) - set(deps)), sorted(set(deps) - set(listed[crate]))
+            print(f"{crate}: drop {' '.join(less) or '-'}; add {' '.join(more) or '-'}")
+    if "--write" in sys.argv:
+        with open(f"{ROOT}/crates.txt", "w", encoding="utf-8") as out:
+            out.write("\n".join(lines) + "\n")
+    elif wrong:
+        sys.exit(1)
 
 
-def below(crate, seen):
-    for dep in direct.get(crate, ()):
-        if dep not in seen:
-            seen.add(dep)
-            below(dep, seen)
-    return seen
-
-
-order = list(had)
-changed = []
-for crate in order:
-    needs = below(crate, set())
-    deps = [d for d in reversed(order) if d in needs] + sorted(needs - set(order))
-    if set(deps) != set(had[crate]): changed.append((crate, sorted(set(had[crate]) - set(deps)), sorted(set(deps) - set(had[crate]))))
-    had[crate] = deps
-for crate, less, more in changed: print(f"{crate}: less {' '.join(less) or '-'}; more {' '.join(more) or '-'}")
-if "--write" in sys.argv:
-    out = [line if not line.strip() or line.startswith("#") else f"{heads[line.split(':')[0].split()[0]]}: {' '.join(had[line.split(':')[0].split()[0]])}".rstrip() for line in lines]
-    open(f"{root}/crates.txt", "w", encoding="utf-8").write("\n".join(out))
+main()

@@ -415,7 +415,7 @@ class Either:
 def main():
     program = os.path.abspath(sys.argv[1])
     line = lambda name: (b"/t/" + name + b" ") * 5000
-    get_tree(program, LeadsOut(), 1, "refused: the name would lead out of its folder", {"in/t/a": line(b"a"), "in/t/b": line(b"b")})
+    get_tree(program, LeadsOut(), 1, "skipped: the name leads out of its directory", {"in/t/a": line(b"a"), "in/t/b": line(b"b")})
     found = get_tree(program, Twice(), 1, "another file is copied to the same path", {"in/t/a": None, "in/t/b": None})
     expect("Twice", len(set(found.get("in/t/a", b"").split(b"/"))) <= 3, "the bytes of two files are mixed")
     get_tree(program, LeftPart(), 1, "another file is written under this name", {"in/t/a": line(b"a")})

@@ -4,7 +4,7 @@ set -u
 cd "$(dirname "$0")/.." || exit 1
 
 page=docs/sftp_cli.1
-scripts="crates/sftp_script/specs/Scripts.antt crates/script_words/specs/Fields.antt"
+scripts="crates/script_grammar/specs/Scripts.antt crates/script_words/specs/Fields.antt"
 missing=0
 words=$(sed -n 's/.*bytes_eq [a-z]* (codes "\([^"]*\)").*/\1/p' $scripts | sort -u)
 if [ -z "$words" ]; then

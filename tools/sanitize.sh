@@ -52,12 +52,12 @@ look() {
 lanes named >"$room/memory"
 lanes at >"$room/disk"
 look 'sixteen lanes over the server in memory' sftp_share <"$room/memory"
-look 'eight lanes over the server in memory, twice' share_examples runs 2 </dev/null
-look 'eight lanes over replies that are laid out' share_examples sheet </dev/null
+look 'eight lanes over the server in memory, twice' example_threads runs 2 </dev/null
+look 'eight lanes over replies that are laid out' example_threads sheet </dev/null
 if [ -x "$server" ] && command -v socat >/dev/null; then
     socat "UNIX-LISTEN:$room/socket,fork" "EXEC:$server" 2>/dev/null &
     listener=$!
-    look "sixteen lanes over OpenSSH's server" share_examples unix "$room/socket" <"$room/disk"
+    look "sixteen lanes over OpenSSH's server" example_threads unix "$room/socket" <"$room/disk"
 else
     echo "sanitize: over OpenSSH's server: skipped, the server or socat is missing"
 fi
@@ -77,7 +77,7 @@ check() {
 }
 
 for tool in helgrind drd; do
-    for crate in sftp_share share_examples; do
+    for crate in sftp_share example_threads; do
         program=crates/$crate/out/$crate
         if ! command -v valgrind >/dev/null || ! [ -x "$program" ]; then
             echo "sanitize: $tool, $crate: skipped, valgrind or $program is missing"

@@ -158,7 +158,7 @@ mixed() {
 }
 # one line of standard error, which says that a file differs
 differs() {
-    [ "$(cat "$room/err")" = "sftp_transfer: $1: what was read back differs" ]
+    [ "$(cat "$room/err")" = "sftp_transfer: $1: the bytes read back from the server differ" ]
 }
 head -c 100001 /dev/urandom >"$room/far/file"
 cp "$room/far/file" "$room/near/other"

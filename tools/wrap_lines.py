@@ -1,17 +1,17 @@
 #!/usr/bin/env python3
-"""Breaks long lines of .antt files: comments at words, imports between names, all else at spaces outside text in quotes, where
-the fewest brackets are open. What is told apart by white space stays as it is.
+"""Breaks long lines of .antt files: comments at words, all else at spaces outside text in quotes, where the fewest brackets
+are open. Imports stay on one line up to 200 columns: the toolchain's formatter gives a broken one a line for each name.
 
-    python3 tools/wrap_lines.py FOLDER [--limit N] [--width N]
+    python3 tools/wrap_lines.py FOLDER [--width N]
 
-Lines of specs/ over the width (120), and others over the limit (160), are laid out within the width.
+Lines over the width (120) are laid out within the width.
 """
 import os, re, sys
 
 def option(name, default):
     return int(sys.argv[sys.argv.index(name) + 1]) if name in sys.argv else default
 
-WIDTH, LIMIT = option("--width", 120), option("--limit", 160)
+WIDTH, IMPORTS = option("--width", 120), 200
 BEFORE = ("→", "×", "⊎", "∙", "++", "&&", "||", "≡", "|", "in")
 AFTER = ("=", "in", ",", ";", "then", "else", "↦", "→")
 
@@ -87,11 +87,11 @@ def import_line(line):
     return out + [now]
 
 
-def wrapped(lines, limit):
-    if max(len(line) for line in lines) <= limit: return lines
+def wrapped(lines):
+    if max(len(line) for line in lines) <= WIDTH: return lines
     line = lines[0]
     if line.lstrip().startswith("-- "): return comment(lines)
-    if line.startswith("use ") and "{" in line: return import_line(line)
+    if line.startswith(("use ", "pub use ")) and "{" in line: return lines if len(line) <= IMPORTS else import_line(line)
     return laid_out(line)
 
 
@@ -102,7 +102,7 @@ def main():
             if not name.endswith(".antt"): continue
             path = os.path.join(at, name)
             text = open(path, encoding="utf-8").read()
-            out = [part for lines in paragraphs(text.split("\n")) for part in wrapped(lines, WIDTH if "/specs" in at else LIMIT)]
+            out = [part for lines in paragraphs(text.split("\n")) for part in wrapped(lines)]
             now = "\n".join(out)
             strip = lambda t: re.sub(r"\s+", "", re.sub(r"(?m)^\s*--.*$", "", t))
             if strip(now) != strip(text): sys.exit(f"{path}: another text")

@@ -51,7 +51,7 @@ use Rattle.machine_model.specs.Changes.{
   ClosedFile,
   ClosesHandle,
   Created,
-  Denotes,
+  DenotesName,
   Granted,
   LeavesChanged,
   Listed,
@@ -59,9 +59,9 @@ use Rattle.machine_model.specs.Changes.{
   MadeDirectory,
   MayMove,
   MayStand,
-  Moves,
+  MovesName,
   OpensAsked,
-  Reaches,
+  ReachesFile,
   RemovedDirectory,
   RemovedFile,
   Renamed,
@@ -82,8 +82,8 @@ use Rattle.machine_model.specs.FileTree.{
   is_over,
   node_at,
   opened_at,
-  put,
-  resized,
+  written_at,
+  resized_bytes,
   size_of,
   with_bytes,
   with_file,
@@ -101,20 +101,20 @@ use Rattle.machine_model.specs.HandleRequests.{
   after_open,
   after_read,
   after_write,
-  capped,
-  copied,
+  capped_at,
+  copied_bytes,
   creates,
-  done,
-  grants,
+  ok_answer,
+  grant_answer,
   held_by,
   is_exclusive,
   offset_of,
-  refuses,
-  resizes,
+  refusal_answer,
+  resize_answer,
   sets_held,
   truncates,
   where_new,
-  writes,
+  answer_to_write,
 }
 use Rattle.machine_model.specs.Limits.{MAX_FILE_LEN, MAX_NAME_ENTRIES, MAX_TOTAL_LEN}
 use Rattle.machine_model.specs.NameRequests.{
@@ -131,10 +131,10 @@ use Rattle.machine_model.specs.NameRequests.{
   entries_at,
   has_child,
   path_reply,
-  replaces,
+  replace_answer,
   sets_node,
 }
-use Rattle.machine_model.specs.TreeAnswers.{answered, apply, limits_reply, where_offered}
+use Rattle.machine_model.specs.TreeAnswers.{tree_answer, apply, limits_reply, where_offered}
 use Rattle.machine_model.specs.declared.node.Node.{Node}
 use Rattle.machine_model.specs.declared.opened.Held.{Held}
 use Rattle.machine_model.specs.declared.opened.Opened.{Opened}
@@ -168,9 +168,9 @@ either_by tree r handle false x y h k = k refl
 new : (tree : FileTree) (r : Request) (handle : List ℕ) (name : Name) (x : Answer) → node_at tree name ≡ None
     → (MayStand tree name → LeavesChanged tree r handle x) → LeavesChanged tree r handle (where_new tree name x)
 new tree r handle name x none h =
-    either_by tree r handle (not (is_directory (node_at tree (parent_of name)))) (refuses tree SSH_FX_NO_SUCH_FILE)
-    (if is_long_name name then refuses tree SSH_FX_FAILURE else x) (λ t. same tree r handle refl)
-    (λ t. either_by tree r handle (is_long_name name) (refuses tree SSH_FX_FAILURE) x (λ v. same tree r handle refl)
+    either_by tree r handle (not (is_directory (node_at tree (parent_of name)))) (refusal_answer tree SSH_FX_NO_SUCH_FILE)
+    (if is_long_name name then refusal_answer tree SSH_FX_FAILURE else x) (λ t. same tree r handle refl)
+    (λ t. either_by tree r handle (is_long_name name) (refusal_answer tree SSH_FX_FAILURE) x (λ v. same tree r handle refl)
     (λ v. h (none, not-false (is_directory (node_at tree (parent_of name))) t, v)))
 
 -- a size that isn't over a limit
@@ -179,14 +179,14 @@ within_limit tree file size e = ltb-false MAX_FILE_LEN size (or_parts (nat_lt MA
     (nat_lt MAX_TOTAL_LEN (all_bytes tree - size_of tree file + size)) e).0
 
 open_leaves : (tree : FileTree) (r : Request) (handle : List ℕ) (flags : ℕ) (name : Name) (n : Option Node)
-    → AsksToOpen r name → ((file : ℕ) → OpensAsked r (held_by flags file)) → (makes_or_empties flags ≡ true → Denotes r name)
+    → AsksToOpen r name → ((file : ℕ) → OpensAsked r (held_by flags file)) → (makes_or_empties flags ≡ true → DenotesName r name)
     → node_at tree name ≡ n → LeavesChanged tree r handle (after_open tree handle flags name n)
 open_leaves tree r handle flags name (Some node.Directory) a h d e = same tree r handle refl
 open_leaves tree r handle flags name (Some (node.File file)) a h d e =
-    either tree r handle (creates flags && is_exclusive flags) (refuses tree SSH_FX_FAILURE)
-    (if truncates flags then grants (with_bytes tree file []) handle (held_by flags file) else
-    grants tree handle (held_by flags file)) (same tree r handle refl)
-    (either_by tree r handle (truncates flags) (grants (with_bytes tree file []) handle (held_by flags file)) (grants tree handle (held_by flags file))
+    either tree r handle (creates flags && is_exclusive flags) (refusal_answer tree SSH_FX_FAILURE)
+    (if truncates flags then grant_answer (with_bytes tree file []) handle (held_by flags file) else
+    grant_answer tree handle (held_by flags file)) (same tree r handle refl)
+    (either_by tree r handle (truncates flags) (grant_answer (with_bytes tree file []) handle (held_by flags file)) (grant_answer tree handle (held_by flags file))
     (λ t. record {
       change = Truncated file (held_by flags file);
       may =
@@ -199,10 +199,10 @@ open_leaves tree r handle flags name (Some (node.File file)) a h d e =
     })
     (λ t. record { change = Granted (held_by flags file); may = ((name, (a, e)), h file); checked = tt; is = refl; said = refl; named = λ t. refl }))
 open_leaves tree r handle flags name None a h d e =
-    either_by tree r handle (not (creates flags)) (refuses tree SSH_FX_NO_SUCH_FILE)
-    (where_new tree name (grants (with_file tree name) handle (held_by flags (length tree.files))))
+    either_by tree r handle (not (creates flags)) (refusal_answer tree SSH_FX_NO_SUCH_FILE)
+    (where_new tree name (grant_answer (with_file tree name) handle (held_by flags (length tree.files))))
     (λ t. same tree r handle refl)
-    (λ t. new tree r handle name (grants (with_file tree name) handle (held_by flags (length tree.files))) e
+    (λ t. new tree r handle name (grant_answer (with_file tree name) handle (held_by flags (length tree.files))) e
     (λ u. record {
       change = Created name (held_by flags (length tree.files));
       may =
@@ -225,21 +225,21 @@ read_leaves : (tree : FileTree) (r : Request) (handle : List ℕ) (cap offset le
     → LeavesChanged tree r handle (after_read tree cap offset len held)
 read_leaves tree r handle cap offset len None = same tree r handle refl
 read_leaves tree r handle cap offset len (Some held) =
-    let bytes : Answer = (reply.Content (take (capped cap len) (drop offset (bytes_of tree held.file))), tree) in
-    let some : Answer = if nat_le (size_of tree held.file) offset then refuses tree SSH_FX_EOF else bytes in
-    let readable : Answer = if len == 0 then refuses tree SSH_FX_FAILURE else some in
-    either tree r handle (not held.readable) (refuses tree SSH_FX_PERMISSION_DENIED) readable (same tree r handle refl)
-    (either tree r handle (len == 0) (refuses tree SSH_FX_FAILURE) some (same tree r handle refl)
-    (either tree r handle (nat_le (size_of tree held.file) offset) (refuses tree SSH_FX_EOF) bytes (same tree r handle refl) (same tree r handle refl)))
+    let bytes : Answer = (reply.Content (take (capped_at cap len) (drop offset (bytes_of tree held.file))), tree) in
+    let some : Answer = if nat_le (size_of tree held.file) offset then refusal_answer tree SSH_FX_EOF else bytes in
+    let readable : Answer = if len == 0 then refusal_answer tree SSH_FX_FAILURE else some in
+    either tree r handle (not held.readable) (refusal_answer tree SSH_FX_PERMISSION_DENIED) readable (same tree r handle refl)
+    (either tree r handle (len == 0) (refusal_answer tree SSH_FX_FAILURE) some (same tree r handle refl)
+    (either tree r handle (nat_le (size_of tree held.file) offset) (refusal_answer tree SSH_FX_EOF) bytes (same tree r handle refl) (same tree r handle refl)))
 
 writes_leave : (tree : FileTree) (r : Request) (handle : List ℕ) (file offset : ℕ) (piece : List ℕ)
-    → Reaches tree r file → LeavesChanged tree r handle (writes tree file offset piece)
+    → ReachesFile tree r file → LeavesChanged tree r handle (answer_to_write tree file offset piece)
 writes_leave tree r handle file offset piece h =
     either_by tree r handle (is_over tree file (max (size_of tree file) (offset + length piece)))
-    (refuses tree SSH_FX_FAILURE) (done (with_bytes tree file (put (bytes_of tree file) offset piece)))
+    (refusal_answer tree SSH_FX_FAILURE) (ok_answer (with_bytes tree file (written_at (bytes_of tree file) offset piece)))
     (λ t. same tree r handle refl)
     (λ t. record {
-      change = Rewritten file (put (bytes_of tree file) offset piece);
+      change = Rewritten file (written_at (bytes_of tree file) offset piece);
       may = h;
       checked = let l = length_put (bytes_of tree file) offset piece in let w =
           within_limit tree file (max (size_of tree file) (offset + length piece)) t in omega (arith, l, w);
@@ -248,12 +248,12 @@ writes_leave tree r handle file offset piece h =
       named = λ t. absurd cc;
     })
 
-resizes_leave : (tree : FileTree) (r : Request) (handle : List ℕ) (file size : ℕ) → Reaches tree r file → LeavesChanged tree r handle (resizes tree file size)
+resizes_leave : (tree : FileTree) (r : Request) (handle : List ℕ) (file size : ℕ) → ReachesFile tree r file → LeavesChanged tree r handle (resize_answer tree file size)
 resizes_leave tree r handle file size h =
-    either_by tree r handle (is_over tree file size) (refuses tree SSH_FX_FAILURE)
-    (done (with_bytes tree file (resized size (bytes_of tree file)))) (λ t. same tree r handle refl)
+    either_by tree r handle (is_over tree file size) (refusal_answer tree SSH_FX_FAILURE)
+    (ok_answer (with_bytes tree file (resized_bytes size (bytes_of tree file)))) (λ t. same tree r handle refl)
     (λ t. record {
-      change = Rewritten file (resized size (bytes_of tree file));
+      change = Rewritten file (resized_bytes size (bytes_of tree file));
       may = h;
       checked = let l = length_resized size (bytes_of tree file) in let w = within_limit tree file size t in omega (arith, l, w);
       is = refl;
@@ -262,11 +262,11 @@ resizes_leave tree r handle file size h =
     })
 
 write_leaves : (tree : FileTree) (r : Request) (handle : List ℕ) (offset : ℕ) (piece : List ℕ) (held : Option Held)
-    → ((h : Held) → held ≡ Some h → Reaches tree r h.file) → LeavesChanged tree r handle (after_write tree offset piece held)
+    → ((h : Held) → held ≡ Some h → ReachesFile tree r h.file) → LeavesChanged tree r handle (after_write tree offset piece held)
 write_leaves tree r handle offset piece None h = same tree r handle refl
 write_leaves tree r handle offset piece (Some held) h =
-    either tree r handle (not held.writable) (refuses tree SSH_FX_PERMISSION_DENIED)
-    (writes tree held.file (offset_of tree held offset) piece) (same tree r handle refl)
+    either tree r handle (not held.writable) (refusal_answer tree SSH_FX_PERMISSION_DENIED)
+    (answer_to_write tree held.file (offset_of tree held offset) piece) (same tree r handle refl)
     (writes_leave tree r handle held.file (offset_of tree held offset) piece (h held refl))
 
 fstat_leaves : (tree : FileTree) (r : Request) (handle : List ℕ) (o : Option Opened) → LeavesChanged tree r handle (after_fstat tree o)
@@ -275,14 +275,14 @@ fstat_leaves tree r handle (Some (opened.File held)) = same tree r handle refl
 fstat_leaves tree r handle (Some (opened.Directory entries)) = same tree r handle refl
 
 sets_held_leaves : (tree : FileTree) (r : Request) (handle : List ℕ) (held : Held) (size : Option ℕ)
-    → Reaches tree r held.file → LeavesChanged tree r handle (sets_held tree held size)
+    → ReachesFile tree r held.file → LeavesChanged tree r handle (sets_held tree held size)
 sets_held_leaves tree r handle held None h = same tree r handle refl
 sets_held_leaves tree r handle held (Some size) h =
-    either tree r handle (not held.writable) (refuses tree SSH_FX_PERMISSION_DENIED) (resizes tree held.file size)
+    either tree r handle (not held.writable) (refusal_answer tree SSH_FX_PERMISSION_DENIED) (resize_answer tree held.file size)
     (same tree r handle refl) (resizes_leave tree r handle held.file size h)
 
 fsetstat_leaves : (tree : FileTree) (r : Request) (handle : List ℕ) (attrs : FileAttrs) (held : Option Held)
-    → ((h : Held) → held ≡ Some h → Reaches tree r h.file) → LeavesChanged tree r handle (after_fsetstat tree attrs held)
+    → ((h : Held) → held ≡ Some h → ReachesFile tree r h.file) → LeavesChanged tree r handle (after_fsetstat tree attrs held)
 fsetstat_leaves tree r handle attrs None h = same tree r handle refl
 fsetstat_leaves tree r handle attrs (Some held) h = sets_held_leaves tree r handle held attrs.size (h held refl)
 
@@ -291,14 +291,14 @@ fsync_leaves tree r handle None = same tree r handle refl
 fsync_leaves tree r handle (Some held) = same tree r handle refl
 
 copy_leaves : (tree : FileTree) (r : Request) (handle : List ℕ) (from_offset len to_offset : ℕ) (from to : Option Held)
-    → ((h : Held) → to ≡ Some h → Reaches tree r h.file) → LeavesChanged tree r handle
+    → ((h : Held) → to ≡ Some h → ReachesFile tree r h.file) → LeavesChanged tree r handle
     (after_copy tree from_offset len to_offset from to)
 copy_leaves tree r handle from_offset len to_offset None to h = same tree r handle refl
 copy_leaves tree r handle from_offset len to_offset (Some from) None h = same tree r handle refl
 copy_leaves tree r handle from_offset len to_offset (Some from) (Some to) h =
-    let piece : List ℕ = copied (bytes_of tree from.file) from_offset len in
-    either tree r handle (not from.readable || not to.writable) (refuses tree SSH_FX_PERMISSION_DENIED)
-    (writes tree to.file (offset_of tree to to_offset) piece) (same tree r handle refl)
+    let piece : List ℕ = copied_bytes (bytes_of tree from.file) from_offset len in
+    either tree r handle (not from.readable || not to.writable) (refusal_answer tree SSH_FX_PERMISSION_DENIED)
+    (answer_to_write tree to.file (offset_of tree to to_offset) piece) (same tree r handle refl)
     (writes_leave tree r handle to.file (offset_of tree to to_offset) piece (h to refl))
 
 stat_leaves : (tree : FileTree) (r : Request) (handle : List ℕ) (n : Option Node) → LeavesChanged tree r handle (after_stat tree n)
@@ -306,36 +306,36 @@ stat_leaves tree r handle None = same tree r handle refl
 stat_leaves tree r handle (Some n) = same tree r handle refl
 
 setstat_leaves : (tree : FileTree) (r : Request) (handle : List ℕ) (name : Name) (size : Option ℕ) (n : Node)
-    → Denotes r name → node_at tree name ≡ Some n → LeavesChanged tree r handle (sets_node tree size n)
+    → DenotesName r name → node_at tree name ≡ Some n → LeavesChanged tree r handle (sets_node tree size n)
 setstat_leaves tree r handle name None n d e = same tree r handle refl
 setstat_leaves tree r handle name (Some size) node.Directory d e = same tree r handle refl
 setstat_leaves tree r handle name (Some size) (node.File file) d e = resizes_leave tree r handle file size (inr (name, (d, e)))
 
 any_setstat_leaves : (tree : FileTree) (r : Request) (handle : List ℕ) (name : Name) (attrs : FileAttrs)
-    (n : Option Node) → Denotes r name → node_at tree name ≡ n → LeavesChanged tree r handle (after_setstat tree attrs n)
+    (n : Option Node) → DenotesName r name → node_at tree name ≡ n → LeavesChanged tree r handle (after_setstat tree attrs n)
 any_setstat_leaves tree r handle name attrs None d e = same tree r handle refl
 any_setstat_leaves tree r handle name attrs (Some n) d e = setstat_leaves tree r handle name attrs.size n d e
 
-remove_leaves : (tree : FileTree) (r : Request) (handle : List ℕ) (name : Name) (n : Option Node) → Denotes r name
+remove_leaves : (tree : FileTree) (r : Request) (handle : List ℕ) (name : Name) (n : Option Node) → DenotesName r name
     → node_at tree name ≡ n → LeavesChanged tree r handle (after_remove tree name n)
 remove_leaves tree r handle name None d e = same tree r handle refl
 remove_leaves tree r handle name (Some node.Directory) d e = same tree r handle refl
 remove_leaves tree r handle name (Some (node.File file)) d e =
     record { change = RemovedFile name file; may = d; checked = e; is = refl; said = refl; named = λ t. absurd cc }
 
-mkdir_leaves : (tree : FileTree) (r : Request) (handle : List ℕ) (name : Name) (n : Option Node) → Denotes r name
+mkdir_leaves : (tree : FileTree) (r : Request) (handle : List ℕ) (name : Name) (n : Option Node) → DenotesName r name
     → node_at tree name ≡ n → LeavesChanged tree r handle (after_mkdir tree name n)
-mkdir_leaves tree r handle name None d e = new tree r handle name (done (with_name tree name node.Directory)) e
+mkdir_leaves tree r handle name None d e = new tree r handle name (ok_answer (with_name tree name node.Directory)) e
     (λ u. record { change = MadeDirectory name; may = d; checked = u; is = refl; said = refl; named = λ t. absurd cc })
 mkdir_leaves tree r handle name (Some n) d e = same tree r handle refl
 
-rmdir_leaves : (tree : FileTree) (r : Request) (handle : List ℕ) (name : Name) (n : Option Node) → Denotes r name
+rmdir_leaves : (tree : FileTree) (r : Request) (handle : List ℕ) (name : Name) (n : Option Node) → DenotesName r name
     → node_at tree name ≡ n → LeavesChanged tree r handle (after_rmdir tree name n)
 rmdir_leaves tree r handle name None d e = same tree r handle refl
 rmdir_leaves tree r handle name (Some (node.File file)) d e = same tree r handle refl
 rmdir_leaves tree r handle name (Some node.Directory) d e =
-    either_by tree r handle (same_name name [] || has_child tree name) (refuses tree SSH_FX_FAILURE)
-    (done (without_name tree name)) (λ t. same tree r handle refl)
+    either_by tree r handle (same_name name [] || has_child tree name) (refusal_answer tree SSH_FX_FAILURE)
+    (ok_answer (without_name tree name)) (λ t. same tree r handle refl)
     (λ t.
     let parts = or_parts (same_name name []) (has_child tree name) t in
     record { change = RemovedDirectory name; may = d; checked = (e, differ_by name [] parts.0, parts.1); is = refl; said = refl; named = λ t. absurd cc })
@@ -359,9 +359,9 @@ readdir_leaves tree r handle h cap None l e = same tree r handle refl
 readdir_leaves tree r handle h cap (Some []) l e = same tree r handle refl
 readdir_leaves tree r handle h cap (Some (first ∷ entries)) l e =
     record {
-      change = Listed h (drop (capped cap MAX_NAME_ENTRIES) (first ∷ entries));
+      change = Listed h (drop (capped_at cap MAX_NAME_ENTRIES) (first ∷ entries));
       may = (first ∷ entries, e, l);
-      checked = (first ∷ entries, capped cap MAX_NAME_ENTRIES, e, refl);
+      checked = (first ∷ entries, capped_at cap MAX_NAME_ENTRIES, e, refl);
       is = refl;
       said = refl;
       named = λ t. absurd cc;
@@ -369,28 +369,28 @@ readdir_leaves tree r handle h cap (Some (first ∷ entries)) l e =
 
 realpath_leaves : (tree : FileTree) (r : Request) (handle : List ℕ) (name : Name) → LeavesChanged tree r handle (after_realpath tree name)
 realpath_leaves tree r handle name =
-    either tree r handle (nat_lt MAX_BODY_LEN (length (reply_body (path_reply name) 0))) (refuses tree SSH_FX_FAILURE)
+    either tree r handle (nat_lt MAX_BODY_LEN (length (reply_body (path_reply name) 0))) (refusal_answer tree SSH_FX_FAILURE)
     (let x : Answer = (path_reply name, tree) in x) (same tree r handle refl) (same tree r handle refl)
 
-moved_leaves : (tree : FileTree) (r : Request) (handle : List ℕ) (old to : Name) → Moves r old to → MayMove tree old to
-    → MayStand tree to → LeavesChanged tree r handle (done (with_renamed tree old to))
+moved_leaves : (tree : FileTree) (r : Request) (handle : List ℕ) (old to : Name) → MovesName r old to → MayMove tree old to
+    → MayStand tree to → LeavesChanged tree r handle (ok_answer (with_renamed tree old to))
 moved_leaves tree r handle old to d m u = record { change = Renamed old to; may = d; checked = (m, u); is = refl; said = refl; named = λ t. absurd cc }
 
 rename_leaves : (tree : FileTree) (r : Request) (handle : List ℕ) (old to : Name) (n there : Option Node)
-    → Moves r old to → node_at tree old ≡ n → node_at tree to ≡ there
+    → MovesName r old to → node_at tree old ≡ n → node_at tree to ≡ there
     → LeavesChanged tree r handle (after_rename tree old to n there)
 rename_leaves tree r handle old to None there d e f = same tree r handle refl
 rename_leaves tree r handle old to (Some n) (Some there) d e f = same tree r handle refl
 rename_leaves tree r handle old to (Some n) None d e f =
-    either_by tree r handle (is_within old to) (refuses tree SSH_FX_FAILURE)
-    (where_new tree to (done (with_renamed tree old to))) (λ t. same tree r handle refl)
-    (λ t. new tree r handle to (done (with_renamed tree old to)) f (λ u. moved_leaves tree r handle old to d (n, e, t) u))
+    either_by tree r handle (is_within old to) (refusal_answer tree SSH_FX_FAILURE)
+    (where_new tree to (ok_answer (with_renamed tree old to))) (λ t. same tree r handle refl)
+    (λ t. new tree r handle to (ok_answer (with_renamed tree old to)) f (λ u. moved_leaves tree r handle old to d (n, e, t) u))
 
 replaces_leaves : (tree : FileTree) (r : Request) (handle : List ℕ) (old to : Name) (n : Node) (there : Option Node)
-    → Moves r old to → node_at tree old ≡ Some n → node_at tree to ≡ there → (is_within old to ≡ false)
+    → MovesName r old to → node_at tree old ≡ Some n → node_at tree to ≡ there → (is_within old to ≡ false)
     × (is_within to old ≡ false)
-    → LeavesChanged tree r handle (replaces tree old to n there)
-replaces_leaves tree r handle old to n None d e f apart = new tree r handle to (done (with_renamed tree old to)) f
+    → LeavesChanged tree r handle (replace_answer tree old to n there)
+replaces_leaves tree r handle old to n None d e f apart = new tree r handle to (ok_answer (with_renamed tree old to)) f
     (λ u. moved_leaves tree r handle old to d (n, e, apart.0) u)
 replaces_leaves tree r handle old to node.Directory (Some there) d e f apart = same tree r handle refl
 replaces_leaves tree r handle old to (node.File file) (Some node.Directory) d e f apart = same tree r handle refl
@@ -398,20 +398,20 @@ replaces_leaves tree r handle old to (node.File file) (Some (node.File gone)) d 
     record { change = Replaced old to gone; may = d; checked = (file, e, f, apart.0, apart.1); is = refl; said = refl; named = λ t. absurd cc }
 
 posix_leaves : (tree : FileTree) (r : Request) (handle : List ℕ) (old to : Name) (n there : Option Node)
-    → Moves r old to → node_at tree old ≡ n → node_at tree to ≡ there
+    → MovesName r old to → node_at tree old ≡ n → node_at tree to ≡ there
     → LeavesChanged tree r handle (after_posix_rename tree old to n there)
 posix_leaves tree r handle old to None there d e f = same tree r handle refl
 posix_leaves tree r handle old to (Some n) there d e f =
-    let rest : Answer = if is_within old to || is_within to old then refuses tree SSH_FX_FAILURE else replaces tree old to n there in
-    either tree r handle (same_name old to) (done tree) rest (same tree r handle refl)
-    (either_by tree r handle (is_within old to || is_within to old) (refuses tree SSH_FX_FAILURE) (replaces tree old to n there) (λ t. same tree r handle refl)
+    let rest : Answer = if is_within old to || is_within to old then refusal_answer tree SSH_FX_FAILURE else replace_answer tree old to n there in
+    either tree r handle (same_name old to) (ok_answer tree) rest (same tree r handle refl)
+    (either_by tree r handle (is_within old to || is_within to old) (refusal_answer tree SSH_FX_FAILURE) (replace_answer tree old to n there) (λ t. same tree r handle refl)
     (λ t. replaces_leaves tree r handle old to n there d e f (or_parts (is_within old to) (is_within to old) t)))
 
 offered : (tree : FileTree) (config : ServerConfig) (r : Request) (handle : List ℕ) (bit : ℕ) (x : Answer)
     → LeavesChanged tree r handle x → LeavesChanged tree r handle (where_offered tree config bit x)
-offered tree config r handle bit x h = either tree r handle (has_bit config.extensions.0 bit) x (refuses tree SSH_FX_OP_UNSUPPORTED) h (same tree r handle refl)
+offered tree config r handle bit x h = either tree r handle (has_bit config.extensions.0 bit) x (refusal_answer tree SSH_FX_OP_UNSUPPORTED) h (same tree r handle refl)
 
-answered_leaves : (tree : FileTree) (config : ServerConfig) (r : Request) (cap : ℕ) (handle : List ℕ) → LeavesChanged tree r handle (answered tree config r cap handle)
+answered_leaves : (tree : FileTree) (config : ServerConfig) (r : Request) (cap : ℕ) (handle : List ℕ) → LeavesChanged tree r handle (tree_answer tree config r cap handle)
 answered_leaves tree config (request.OpenFile path flags attrs) cap handle =
     open_leaves tree _ handle flags.0 (components path) (node_at tree (components path)) refl (λ file. refl) (λ t. (t, refl)) refl
 answered_leaves tree config (request.Close h) cap handle = close_leaves tree _ handle h (opened_at tree h) refl
@@ -451,5 +451,5 @@ answered_leaves tree config r cap handle = same tree r handle refl
 pub apply_leaves : (tree : FileTree) (config : ServerConfig) (r : Request) (choice : Choice) (handle : List ℕ)
     → LeavesChanged tree r handle (apply tree config r choice handle)
 apply_leaves tree config r choice handle =
-    either tree r handle (choice.refuse == 0) (answered tree config r choice.cap handle) (refuses tree choice.refuse)
+    either tree r handle (choice.refuse == 0) (tree_answer tree config r choice.cap handle) (refusal_answer tree choice.refuse)
     (answered_leaves tree config r choice.cap handle) (same tree r handle refl)

@@ -45,7 +45,7 @@ use Rattle.machine_model.specs.FirstTree.{
   may_hold,
   may_hold_all,
   name_of,
-  numbered,
+  numbered_files,
   stand_apart,
   with_directories,
   with_directory,
@@ -53,7 +53,7 @@ use Rattle.machine_model.specs.FirstTree.{
 }
 use Rattle.machine_model.specs.FitTrees.{IsFit}
 use Rattle.machine_model.specs.Limits.{MAX_COMPONENT_LEN, MAX_FILE_LEN}
-use Rattle.machine_model.specs.Pairs.{Has}
+use Rattle.machine_model.specs.Pairs.{HasEntry}
 use Rattle.machine_model.specs.declared.node.Node.{Node}
 use Rattle.machine_model.specs.declared.node.Node.TheVariants as node
 
@@ -72,7 +72,14 @@ begins files dirs h =
     let d = and_parts _ (differ (map components dirs)) e.0 in
     let c = and_parts _ (list_all may_be_named (map components dirs)) d.0 in
     let b = and_parts _ (list_all may_be_named (map name_of files)) c.0 in
-    record { sizes = (and_parts (list_all may_hold files) (may_hold_all files) b.0).0; files_named = b.1; dirs_named = c.1; apart = e.1; room = f.1 }
+    record {
+      sizes = (and_parts (list_all may_hold files) (may_hold_all files) b.0).0;
+      files_named = b.1;
+      dirs_named =
+          c.1;
+      apart = e.1;
+      room = f.1;
+    }
 
 -- ---- names whose components are short
 
@@ -85,7 +92,8 @@ AreShort name = list_all is_short name ≡ true
 parts_short : (name : Name) (k : ℕ) → AreShort name → length (get_or name k []) ≤ MAX_COMPONENT_LEN
 parts_short [] zero h = omega arith
 parts_short [] (suc k) h = omega arith
-parts_short (part ∷ name) zero h = leb-true (length part) MAX_COMPONENT_LEN (and_parts (is_short part) (list_all is_short name) h).0
+parts_short (part ∷ name) zero h = leb-true (length part) MAX_COMPONENT_LEN
+    (and_parts (is_short part) (list_all is_short name) h).0
 parts_short (part ∷ name) (suc k) h = parts_short name k (and_parts (is_short part) (list_all is_short name) h).1
 
 down_short : (at : Name) (part : List ℕ) → AreShort at → is_short part ≡ true → AreShort (at ++ part ∷ [])
@@ -103,7 +111,7 @@ named_short name h = (and_parts (not (length name == 0)) (list_all is_short name
 -- ---- lists of pairs whose names all are
 
 abbrev HasShort : List (Name × Node) → Type 0
-HasShort names = (name : Name) (n : Node) → Has names (name, n) → AreShort name
+HasShort names = (name : Name) (n : Node) → HasEntry names (name, n) → AreShort name
 
 way_short : (names : List (Name × Node)) (at : Name) (parts : List (List ℕ)) → HasShort names → AreShort at
     → AreShort parts → HasShort (with_way names at parts)
@@ -111,9 +119,11 @@ way_short names at [] s a h = s
 way_short names at (part ∷ parts) s a h =
     let both = and_parts (is_short part) (list_all is_short parts) h in
     let down = down_short at part a both.0 in
-    way_short (with_directory names (at ++ part ∷ [])) (at ++ part ∷ []) parts (by_test (has_name names (at ++ part ∷ [])) (at ++ part ∷ []) down) down both.1
+    way_short (with_directory names (at ++ part ∷ [])) (at ++ part ∷ []) parts
+    (by_test (has_name names (at ++ part ∷ [])) (at ++ part ∷ []) down) down both.1
   where
-    by_test : (b : Bool) (name : Name) → AreShort name → HasShort (if b then names else names ++ (name, node.Directory) ∷ [])
+    by_test : (b : Bool) (name : Name) → AreShort name → HasShort
+        (if b then names else names ++ (name, node.Directory) ∷ [])
     by_test true name h = s
     by_test false name h = λ a n has. elim (has_push names (name, node.Directory) (a, n) has) [
       | inl old ↦ s a n old
@@ -127,11 +137,14 @@ directories_short names (dir ∷ dirs) s h =
     let both = and_parts (list_all is_short dir) (list_all (list_all is_short) dirs) h in
     directories_short (with_way names [] dir) dirs (way_short names [] dir s refl both.0) both.1
 
-files_short : (n : ℕ) (files : List FirstFile) → list_all may_be_named (map name_of files) ≡ true → HasShort (numbered n files)
+files_short : (n : ℕ) (files : List FirstFile) → list_all may_be_named (map name_of files) ≡ true
+    → HasShort (numbered_files n files)
 files_short n [] h name k has = absurd has
 files_short n (file ∷ files) h name k (inl e) =
-    subst AreShort (ap (λ (w : Name × Node). w.0) e) (named_short (name_of file) (and_parts (may_be_named (name_of file)) _ h).0)
-files_short n (file ∷ files) h name k (inr has) = files_short (n + 1) files (and_parts (may_be_named (name_of file)) _ h).1 name k has
+    subst AreShort (ap (λ (w : Name × Node). w.0) e) (named_short (name_of file)
+    (and_parts (may_be_named (name_of file)) _ h).0)
+files_short n (file ∷ files) h name k (inr has) = files_short (n + 1) files
+    (and_parts (may_be_named (name_of file)) _ h).1 name k has
 
 names_short : (names : List Name) → list_all may_be_named names ≡ true → list_all (list_all is_short) names ≡ true
 names_short [] h = refl
@@ -143,17 +156,23 @@ parents_short : (files : List FirstFile) → list_all may_be_named (map name_of 
 parents_short [] h = refl
 parents_short (file ∷ files) h =
     let both = and_parts (may_be_named (name_of file)) _ h in
-    rw (take_short (length (name_of file) - 1) (name_of file) (named_short (name_of file) both.0), parents_short files both.1) refl
+    rw (
+      take_short (length (name_of file) - 1) (name_of file) (named_short (name_of file) both.0),
+      parents_short files both.1,
+    ) refl
 
 -- ---- sizes
 
-sizes_within : (files : List FirstFile) → list_all may_hold files ≡ true → (k : ℕ) → length (get_or (map (λ file. file.1) files) k []) ≤ MAX_FILE_LEN
+sizes_within : (files : List FirstFile) → list_all may_hold files ≡ true → (k : ℕ)
+    → length (get_or (map (λ file. file.1) files) k []) ≤ MAX_FILE_LEN
 sizes_within [] h zero = omega arith
 sizes_within [] h (suc k) = omega arith
-sizes_within (file ∷ files) h zero = leb-true (length file.1) MAX_FILE_LEN (and_parts (may_hold file) (list_all may_hold files) h).0
+sizes_within (file ∷ files) h zero = leb-true (length file.1) MAX_FILE_LEN
+    (and_parts (may_hold file) (list_all may_hold files) h).0
 sizes_within (file ∷ files) h (suc k) = sizes_within files (and_parts (may_hold file) (list_all may_hold files) h).1 k
 
-pub first_fits : (files : List FirstFile) (dirs : List (List ℕ)) → may_begin files dirs ≡ true → IsFit (first_tree files dirs)
+pub first_fits : (files : List FirstFile) (dirs : List (List ℕ)) → may_begin files dirs ≡ true
+    → IsFit (first_tree files dirs)
 first_fits files dirs h =
     let b = begins files dirs h in
     let all : List Name = map components dirs ++ map (λ file. parent_of (name_of file)) files in
@@ -165,9 +184,10 @@ first_fits files dirs h =
     ) refl in
     record {
       sizes = sizes_within files b.sizes;
-      short = λ name n has. parts_short name (length name - 1) (elim (has_append (first_directories files dirs) (numbered 0 files) (name, n) has) [
-        | inl old ↦ directories_short [] all (λ a k none. absurd none) ways name n old
-        | inr new ↦ files_short 0 files b.files_named name n new
-      ]);
+      short = λ name n has. parts_short name (length name - 1) (elim
+          (has_append (first_directories files dirs) (numbered_files 0 files) (name, n) has) [
+            | inl old ↦ directories_short [] all (λ a k none. absurd none) ways name n old
+            | inr new ↦ files_short 0 files b.files_named name n new
+          ]);
       entries = λ handle entries has. absurd has;
     }

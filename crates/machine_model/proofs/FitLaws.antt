@@ -63,7 +63,7 @@ use Rattle.machine_model.specs.Changes.{
   Truncated,
   Unchanged,
   WasChecked,
-  changed,
+  tree_after_change,
 }
 use Rattle.machine_model.specs.Components.{Name, is_child, is_long_name, is_within, last_of, moved_name, same_name}
 use Rattle.machine_model.specs.FileTree.{
@@ -71,7 +71,7 @@ use Rattle.machine_model.specs.FileTree.{
   after_loss,
   attributes_of,
   entries_of,
-  lives,
+  is_file_in_use,
   opened_at,
   with_bytes,
   with_file,
@@ -82,8 +82,8 @@ use Rattle.machine_model.specs.FileTree.{
 }
 use Rattle.machine_model.specs.FitTrees.{AreShort, IsFit, IsShort, IsTold}
 use Rattle.machine_model.specs.Limits.{MAX_COMPONENT_LEN, MAX_FILE_LEN}
-use Rattle.machine_model.specs.NameRequests.{entries_at, entry_of, in_order, is_before, placed, with_entries}
-use Rattle.machine_model.specs.Pairs.{Has}
+use Rattle.machine_model.specs.NameRequests.{entries_at, entry_of, in_order, is_before, insert_in_order, with_entries}
+use Rattle.machine_model.specs.Pairs.{HasEntry}
 use Rattle.machine_model.specs.TreeAnswers.{apply}
 use Rattle.machine_model.specs.declared.node.Node.{Node}
 use Rattle.machine_model.specs.declared.opened.Opened.{Opened}
@@ -98,11 +98,13 @@ drop_short zero entries s = s
 drop_short (suc k) [] s = tt
 drop_short (suc k) (e ∷ entries) s = drop_short k entries s.1
 
-placed_short : (e : NameEntry) (entries : List NameEntry) → IsShort e → AreShort entries → AreShort (placed e entries)
+placed_short : (e : NameEntry) (entries : List NameEntry) → IsShort e → AreShort entries
+    → AreShort (insert_in_order e entries)
 placed_short e [] h s = (h, tt)
 placed_short e (other ∷ entries) h s = by_test (is_before other.filename e.filename) (placed_short e entries h s.1)
   where
-    by_test : (b : Bool) → AreShort (placed e entries) → AreShort (if b then other ∷ placed e entries else e ∷ other ∷ entries)
+    by_test : (b : Bool) → AreShort (insert_in_order e entries)
+        → AreShort (if b then other ∷ insert_in_order e entries else e ∷ other ∷ entries)
     by_test true more = (s.0, more)
     by_test false more = (h, s)
 
@@ -115,9 +117,11 @@ told tree node.Directory fit = (tt, refl, omega arith, refl)
 told tree (node.File file) fit = (fit.sizes file, refl, tt, refl)
 
 listed_short : (tree : FileTree) (test : Name × Node → Bool) (names : List (Name × Node)) → IsFit tree
-    → ((pair : Name × Node) → Has names pair → Has tree.names pair) → AreShort (map (entry_of tree) (filter test names))
+    → ((pair : Name × Node) → HasEntry names pair → HasEntry tree.names pair)
+    → AreShort (map (entry_of tree) (filter test names))
 listed_short tree test [] fit all = tt
-listed_short tree test (pair ∷ names) fit all = by_test (test pair) (listed_short tree test names fit (λ other h. all other (inr h)))
+listed_short tree test (pair ∷ names) fit all = by_test (test pair)
+    (listed_short tree test names fit (λ other h. all other (inr h)))
   where
     by_test : (b : Bool) → AreShort (map (entry_of tree) (filter test names))
         → AreShort (map (entry_of tree) (if b then pair ∷ filter test names else filter test names))
@@ -125,14 +129,16 @@ listed_short tree test (pair ∷ names) fit all = by_test (test pair) (listed_sh
     by_test false more = more
 
 pub entries_short : (tree : FileTree) (name : Name) → IsFit tree → AreShort (entries_at tree name)
-entries_short tree name fit = in_order_short _ (listed_short tree (λ pair. is_child name pair.0) tree.names fit (λ pair h. h))
+entries_short tree name fit = in_order_short _ (listed_short tree (λ pair. is_child name pair.0) tree.names fit
+    (λ pair h. h))
 
 -- ---- last components
 
 last_append : (xs ys : Name) → 0 < length ys → last_of (xs ++ ys) ≡ last_of ys
 last_append xs ys lt =
     let l = length-append xs ys in
-    get_or-append_right xs ys (length xs) (length (xs ++ ys) - 1) [] refl (omega (arith, l, lt)) ∙ ap (λ (k : ℕ). get_or ys k []) (omega (arith, l, lt))
+    get_or-append_right xs ys (length xs) (length (xs ++ ys) - 1) [] refl (omega (arith, l, lt))
+    ∙ ap (λ (k : ℕ). get_or ys k []) (omega (arith, l, lt))
 
 moved_short : (old to k : Name) → length (last_of to) ≤ MAX_COMPONENT_LEN → length (last_of k) ≤ MAX_COMPONENT_LEN
     → length (last_of (moved_name old to k)) ≤ MAX_COMPONENT_LEN
@@ -142,7 +148,8 @@ moved_short old to k new was = by_test (is_within old k)
     by_rest [] e = subst (λ (w : Name). length (last_of w) ≤ MAX_COMPONENT_LEN) (sym (append-nil to)) new
     by_rest (part ∷ parts) e =
         (let some : 0 < length (part ∷ parts) = omega arith in
-        let whole : take (length old) k ++ part ∷ parts ≡ k = ap (λ (w : Name). take (length old) k ++ w) e ∙ take-append-drop (length old) k in
+        let whole : take (length old) k ++ part ∷ parts ≡ k = ap (λ (w : Name). take (length old) k ++ w) e
+        ∙ take-append-drop (length old) k in
         let same : last_of (to ++ part ∷ parts) ≡ last_of k = last_append to (part ∷ parts) some
         ∙ (sym (last_append (take (length old) k) (part ∷ parts) some) ∙ ap last_of whole) in
         subst (λ (w : List ℕ). length w ≤ MAX_COMPONENT_LEN) (sym same) was)
@@ -163,12 +170,14 @@ set_size files file other bytes le was = elim (eqb_tells other file) [
     | inl lt ↦ (let same : get_or (set files file bytes) other [] ≡ bytes =
         ap (λ (k : ℕ). get_or (set files file bytes) k []) t.1 ∙ get_or-set_same files file bytes [] lt in
         subst (λ (w : List ℕ). length w ≤ MAX_FILE_LEN) (sym same) le)
-    | inr ge ↦ (subst (λ (w : List (List ℕ)). length (get_or w other []) ≤ MAX_FILE_LEN) (sym (set_past files file bytes ge)) was)
+    | inr ge ↦ (subst (λ (w : List (List ℕ)). length (get_or w other []) ≤ MAX_FILE_LEN)
+        (sym (set_past files file bytes ge)) was)
   ]
   | inr t ↦ subst (λ (w : List ℕ). length w ≤ MAX_FILE_LEN) (sym (get_or-set_other files file other bytes [] t.1)) was
 ]
 
-push_size : (files : List (List ℕ)) (file : ℕ) → length (get_or files file []) ≤ MAX_FILE_LEN → length (get_or (files ++ [] ∷ []) file []) ≤ MAX_FILE_LEN
+push_size : (files : List (List ℕ)) (file : ℕ) → length (get_or files file []) ≤ MAX_FILE_LEN
+    → length (get_or (files ++ [] ∷ []) file []) ≤ MAX_FILE_LEN
 push_size [] zero le = omega arith
 push_size [] (suc file) le = omega arith
 push_size (bytes ∷ files) zero le = le
@@ -176,7 +185,8 @@ push_size (bytes ∷ files) (suc file) le = push_size files file le
 
 -- ---- each change
 
-bytes_fit : (tree : FileTree) (file : ℕ) (bytes : List ℕ) → IsFit tree → length bytes ≤ MAX_FILE_LEN → IsFit (with_bytes tree file bytes)
+bytes_fit : (tree : FileTree) (file : ℕ) (bytes : List ℕ) → IsFit tree → length bytes ≤ MAX_FILE_LEN
+    → IsFit (with_bytes tree file bytes)
 bytes_fit tree file bytes fit le = record {
   sizes = λ other. set_size tree.files file other bytes le (fit.sizes other);
   short = fit.short;
@@ -184,7 +194,7 @@ bytes_fit tree file bytes fit le = record {
 }
 
 loss_fit : (tree : FileTree) (file : ℕ) → IsFit tree → IsFit (after_loss tree file)
-loss_fit tree file fit = by_test (lives tree file)
+loss_fit tree file fit = by_test (is_file_in_use tree file)
   where
     by_test : (b : Bool) → IsFit (if b then tree else with_bytes tree file [])
     by_test true = fit
@@ -205,9 +215,11 @@ abbrev entries_in : Opened → List NameEntry
 entries_in (opened.File held) = []
 entries_in (opened.Directory entries) = entries
 
-opened_short : (tree n : FileTree) (o : Opened) → IsFit tree → HasEntries tree o → (entries : List NameEntry) → o ≡ opened.Directory entries → AreShort entries
+opened_short : (tree n : FileTree) (o : Opened) → IsFit tree → HasEntries tree o → (entries : List NameEntry) → o
+    ≡ opened.Directory entries → AreShort entries
 opened_short tree n (opened.File held) fit has entries e = subst AreShort (ap entries_in e) tt
-opened_short tree n (opened.Directory own) fit has entries e = subst AreShort (sym has.1 ∙ ap entries_in e) (entries_short tree has.0 fit)
+opened_short tree n (opened.Directory own) fit has entries e =
+    subst AreShort (sym has.1 ∙ ap entries_in e) (entries_short tree has.0 fit)
 
 name_fit : (tree : FileTree) (name : Name) (n : Node) (files : List (List ℕ)) → IsFit tree
     → length (last_of name) ≤ MAX_COMPONENT_LEN → ((file : ℕ) → length (get_or files file []) ≤ MAX_FILE_LEN)
@@ -229,7 +241,8 @@ without_fit tree name fit = record {
   entries = fit.entries;
 }
 
-moved_fit : (tree : FileTree) (old to : Name) → IsFit tree → length (last_of to) ≤ MAX_COMPONENT_LEN → IsFit (with_renamed tree old to)
+moved_fit : (tree : FileTree) (old to : Name) → IsFit tree → length (last_of to) ≤ MAX_COMPONENT_LEN
+    → IsFit (with_renamed tree old to)
 moved_fit tree old to fit le = record {
   sizes = fit.sizes;
   short = λ a k has. (let p = has_moved (moved_name old to) tree.names (a, k) has in
@@ -248,26 +261,32 @@ closed_fit tree h fit = record {
 }
 
 -- a handle that has entries
-opened_entries : (o : Option Opened) (entries : List NameEntry) → entries_of o ≡ Some entries → o ≡ Some (opened.Directory entries)
+opened_entries : (o : Option Opened) (entries : List NameEntry) → entries_of o ≡ Some entries → o
+    ≡ Some (opened.Directory entries)
 opened_entries None entries e = absurd cc
 opened_entries (Some (opened.File held)) entries e = absurd cc
-opened_entries (Some (opened.Directory own)) entries e = (let same : own ≡ entries = cc in ap (λ (w : List NameEntry). Some (opened.Directory w)) same)
+opened_entries (Some (opened.Directory own)) entries e = (let same : own ≡ entries = cc in
+    ap (λ (w : List NameEntry). Some (opened.Directory w)) same)
 
-pub held_entries : (tree : FileTree) (h : List ℕ) (entries : List NameEntry) → IsFit tree → entries_of (opened_at tree h) ≡ Some entries → AreShort entries
+pub held_entries : (tree : FileTree) (h : List ℕ) (entries : List NameEntry) → IsFit tree
+    → entries_of (opened_at tree h) ≡ Some entries → AreShort entries
 held_entries tree h entries fit e = fit.entries h entries (found_has bytes_eq handles_tell tree.handles h
     (opened.Directory entries) (opened_entries (opened_at tree h) entries e))
 
-given_fit : (tree : FileTree) (h : List ℕ) (entries : List NameEntry) → IsFit tree → AreShort entries → IsFit (with_entries tree h entries)
+given_fit : (tree : FileTree) (h : List ℕ) (entries : List NameEntry) → IsFit tree → AreShort entries
+    → IsFit (with_entries tree h entries)
 given_fit tree h entries fit short = record {
   sizes = fit.sizes;
   short = fit.short;
-  entries = λ handle others has. elim (has_replaced bytes_eq tree.handles h (opened.Directory entries) (handle, opened.Directory others) has) [
-    | inl old ↦ fit.entries handle others old
-    | inr e ↦ subst AreShort (sym (ap entries_in e)) short
-  ];
+  entries = λ handle others has. elim (has_replaced bytes_eq tree.handles h (opened.Directory entries)
+      (handle, opened.Directory others) has) [
+        | inl old ↦ fit.entries handle others old
+        | inr e ↦ subst AreShort (sym (ap entries_in e)) short
+      ];
 }
 
-change_fits : (tree : FileTree) (handle : List ℕ) (c : Change) → IsFit tree → WasChecked tree c → IsFit (changed tree handle c)
+change_fits : (tree : FileTree) (handle : List ℕ) (c : Change) → IsFit tree → WasChecked tree c
+    → IsFit (tree_after_change tree handle c)
 change_fits tree handle Unchanged fit w = fit
 change_fits tree handle (Rewritten file bytes) fit w = bytes_fit tree file bytes fit w
 change_fits tree handle (Granted o) fit w = handle_fit tree handle o fit (opened_short tree tree o fit w)
@@ -281,9 +300,11 @@ change_fits tree handle (ClosedDirectory h) fit w = closed_fit tree h fit
 change_fits tree handle (ClosedFile h file) fit w = loss_fit (without_handle tree h) file (closed_fit tree h fit)
 change_fits tree handle (Listed h entries) fit w = given_fit tree h entries fit
     (subst AreShort (sym w.3) (drop_short w.1 w.0 (held_entries tree h w.0 fit w.2)))
-change_fits tree handle (MadeDirectory name) fit w = name_fit tree name node.Directory tree.files fit (not_long name w.2) fit.sizes
+change_fits tree handle (MadeDirectory name) fit w = name_fit tree name node.Directory tree.files fit
+    (not_long name w.2) fit.sizes
 change_fits tree handle (RemovedDirectory name) fit w = without_fit tree name fit
-change_fits tree handle (RemovedFile name file) fit w = loss_fit (without_name tree name) file (without_fit tree name fit)
+change_fits tree handle (RemovedFile name file) fit w = loss_fit (without_name tree name) file
+    (without_fit tree name fit)
 change_fits tree handle (Renamed old to) fit w = moved_fit tree old to fit (not_long to w.1.2)
 change_fits tree handle (Replaced old to gone) fit w =
     loss_fit (with_renamed (without_name tree to) old to) gone
@@ -294,4 +315,5 @@ change_fits tree handle (Replaced old to gone) fit w =
 pub fit_after : (tree : FileTree) (config : ServerConfig) (r : Request) (choice : Choice) (handle : List ℕ) → IsFit tree
     → IsFit (apply tree config r choice handle).1
 fit_after tree config r choice handle fit =
-    let l = apply_leaves tree config r choice handle in subst IsFit (sym l.is) (change_fits tree handle l.change fit l.checked)
+    let l = apply_leaves tree config r choice handle in subst IsFit (sym l.is)
+    (change_fits tree handle l.change fit l.checked)

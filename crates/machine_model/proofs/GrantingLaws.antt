@@ -26,33 +26,37 @@ use Rattle.machine_model.specs.Changes.{
   Rewritten,
   Truncated,
   Unchanged,
-  changed,
+  tree_after_change,
   is_grant,
 }
-use Rattle.machine_model.specs.FileTree.{FileTree, found, opened_at, replaced, with_renamed, without, without_handle, without_name}
+use Rattle.machine_model.specs.FileTree.{FileTree, value_at_key, opened_at, with_value_at, with_renamed, without_key, without_handle, without_name}
 use Rattle.machine_model.specs.TreeAnswers.{apply}
 use Rattle.machine_model.specs.declared.opened.Opened.{Opened}
 
-none_without : {K V : Type 0} (same : K → K → Bool) (pairs : List (K × V)) (gone key : K) → found same pairs key ≡ None
-    → found same (without same pairs gone) key ≡ None
+none_without : {K V : Type 0} (same : K → K → Bool) (pairs : List (K × V)) (gone key : K) → value_at_key same pairs key
+    ≡ None
+    → value_at_key same (without_key same pairs gone) key ≡ None
 none_without same [] gone key e = e
-none_without {K} {V} same (p ∷ pairs) gone key e = by_test (same p.0 gone) (same p.0 key) refl e (λ w. none_without same pairs gone key w)
+none_without {K} {V} same (p ∷ pairs) gone key e = by_test (same p.0 gone) (same p.0 key) refl e
+    (λ w. none_without same pairs gone key w)
   where
-    by_test : (b c : Bool) → same p.0 key ≡ c → (if c then Some p.1 else found same pairs key) ≡ None
-        → (found same pairs key ≡ None → found same (without same pairs gone) key ≡ None)
-        → found same (if b then pairs else p ∷ without same pairs gone) key ≡ None
+    by_test : (b c : Bool) → same p.0 key ≡ c → (if c then Some p.1 else value_at_key same pairs key) ≡ None
+        → (value_at_key same pairs key ≡ None → value_at_key same (without_key same pairs gone) key ≡ None)
+        → value_at_key same (if b then pairs else p ∷ without_key same pairs gone) key ≡ None
     by_test b true is x more = absurd cc
     by_test true false is x more = x
     by_test false false is x more = rw is (more x)
 
 none_replaced : {K V : Type 0} (same : K → K → Bool) (tells : Tells same) (pairs : List (K × V)) (at key : K) (v : V)
-    → found same pairs key ≡ None → found same (replaced same pairs at v) key ≡ None
+    → value_at_key same pairs key ≡ None → value_at_key same (with_value_at same pairs at v) key ≡ None
 none_replaced same tells [] at key v e = e
-none_replaced {K} {V} same tells (p ∷ pairs) at key v e = by_test (same p.0 at) (same p.0 key) refl refl e (λ w. none_replaced same tells pairs at key v w)
+none_replaced {K} {V} same tells (p ∷ pairs) at key v e = by_test (same p.0 at) (same p.0 key) refl refl e
+    (λ w. none_replaced same tells pairs at key v w)
   where
-    by_test : (b c : Bool) → same p.0 at ≡ b → same p.0 key ≡ c → (if c then Some p.1 else found same pairs key) ≡ None
-        → (found same pairs key ≡ None → found same (replaced same pairs at v) key ≡ None)
-        → found same (if b then (at, v) ∷ pairs else p ∷ replaced same pairs at v) key ≡ None
+    by_test : (b c : Bool) → same p.0 at ≡ b → same p.0 key ≡ c → (if c then Some p.1 else value_at_key same pairs key)
+        ≡ None
+        → (value_at_key same pairs key ≡ None → value_at_key same (with_value_at same pairs at v) key ≡ None)
+        → value_at_key same (if b then (at, v) ∷ pairs else p ∷ with_value_at same pairs at v) key ≡ None
     by_test b true at_is is x more = absurd cc
     by_test true false at_is is x more = rw (subst (λ (w : K). same w key ≡ false) ((tells p.0 at).0 at_is) is) x
     by_test false false at_is is x more = rw is (more x)
@@ -62,27 +66,31 @@ abbrev Ungranted : Change → List ℕ → List ℕ → Type 0
 Ungranted c handle key = (handle ≢ key) ⊎ (is_grant c ≡ false)
 
 pushed : (tree : FileTree) (handle key : List ℕ) (o : Opened) → opened_at tree key ≡ None → (handle ≢ key)
-    ⊎ (true ≡ false) → found bytes_eq (tree.handles ++ (handle, o) ∷ []) key ≡ None
-pushed tree handle key o e (inl ne) = found_push_other bytes_eq tree.handles handle key o (differs bytes_eq handles_tell handle key ne) ∙ e
+    ⊎ (true ≡ false) → value_at_key bytes_eq (tree.handles ++ (handle, o) ∷ []) key ≡ None
+pushed tree handle key o e (inl ne) = found_push_other bytes_eq tree.handles handle key o
+    (differs bytes_eq handles_tell handle key ne) ∙ e
 pushed tree handle key o e (inr t) = absurd cc
 
 unopened_by : (tree : FileTree) (handle key : List ℕ) (c : Change) → opened_at tree key ≡ None → Ungranted c handle key
-    → opened_at (changed tree handle c) key ≡ None
+    → opened_at (tree_after_change tree handle c) key ≡ None
 unopened_by tree handle key Unchanged e un = e
 unopened_by tree handle key (Rewritten file bytes) e un = e
 unopened_by tree handle key (Granted o) e un = pushed tree handle key o e un
 unopened_by tree handle key (Truncated file o) e un = pushed tree handle key o e un
 unopened_by tree handle key (Created name o) e un = pushed tree handle key o e un
 unopened_by tree handle key (ClosedDirectory h) e un = none_without bytes_eq tree.handles h key e
-unopened_by tree handle key (ClosedFile h file) e un = ap (λ (w : List (List ℕ × Opened)). found bytes_eq w key)
+unopened_by tree handle key (ClosedFile h file) e un = ap (λ (w : List (List ℕ × Opened)). value_at_key bytes_eq w key)
     (loss_handles (without_handle tree h) file) ∙ none_without bytes_eq tree.handles h key e
-unopened_by tree handle key (Listed h entries) e un = none_replaced bytes_eq handles_tell tree.handles h key (opened.Directory entries) e
+unopened_by tree handle key (Listed h entries) e un = none_replaced bytes_eq handles_tell tree.handles h key
+    (opened.Directory entries) e
 unopened_by tree handle key (MadeDirectory name) e un = e
 unopened_by tree handle key (RemovedDirectory name) e un = e
-unopened_by tree handle key (RemovedFile name file) e un = ap (λ (w : List (List ℕ × Opened)). found bytes_eq w key)
+unopened_by tree handle key (RemovedFile name file) e un = ap
+    (λ (w : List (List ℕ × Opened)). value_at_key bytes_eq w key)
     (loss_handles (without_name tree name) file) ∙ e
 unopened_by tree handle key (Renamed old to) e un = e
-unopened_by tree handle key (Replaced old to gone) e un = ap (λ (w : List (List ℕ × Opened)). found bytes_eq w key)
+unopened_by tree handle key (Replaced old to gone) e un = ap
+    (λ (w : List (List ℕ × Opened)). value_at_key bytes_eq w key)
     (loss_handles (with_renamed (without_name tree to) old to) gone) ∙ e
 
 pub unopened_stays : (tree : FileTree) (config : ServerConfig) (r : Request) (choice : Choice) (handle key : List ℕ)

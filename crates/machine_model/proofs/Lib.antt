@@ -1,4 +1,4 @@
-pub mod HasLaws
+mod HasLaws
 pub mod PairLaws
 pub mod NameLaws
 pub mod PutLaws
@@ -10,9 +10,9 @@ pub mod OpenLaws
 pub mod StatusLaws
 pub mod AnswerLaws
 pub mod WithinLaws
-pub mod OnceLaws
-pub mod TreeLaws
-pub mod MoveLaws
+mod OnceLaws
+mod TreeLaws
+mod MoveLaws
 pub mod StayingLaws
 pub mod FitLaws
 pub mod ListingLaws

@@ -12,4 +12,5 @@ pub handles_tell : Tells bytes_eq
 handles_tell a b = bytes_eq-Decides a b
 
 pub differ_by : (a b : Name) → same_name a b ≡ false → a ≢ b
-differ_by a b apart e = let same : same_name a b ≡ true = (names_tell a b).1 e in absurd (let both : true ≡ false = sym same ∙ apart in cc)
+differ_by a b apart e = let same : same_name a b ≡ true = (names_tell a b).1 e in
+    absurd (let both : true ≡ false = sym same ∙ apart in cc)

@@ -37,7 +37,7 @@ use Rattle.sftp_model.specs.declared.reply.Reply.TheVariants as reply
 use Rattle.sftp_model.specs.Fits.{FitsAttributes, FitsEntry, FitsReply, FitsLong, FitsTwo, FitsNumber}
 use Rattle.sftp_model.specs.Frames.{no_attributes, attributes, where_there, two_numbers, attribute_bits, name_entry, limits_content, reply_body}
 use Rattle.sftp_model.specs.Numbers.{MAX_BODY_LEN}
-use Rattle.machine_model.specs.Components.{Name, written}
+use Rattle.machine_model.specs.Components.{Name, text_of_name}
 use Rattle.machine_model.specs.FitTrees.{AreShort, IsShort, IsTold, MayReply}
 use Rattle.machine_model.specs.Limits.{DIRECTORY_PERMISSIONS, MAX_FILE_LEN}
 use Rattle.machine_model.specs.NameRequests.{path_reply}
@@ -73,7 +73,8 @@ len_attributes a told =
     let bits = uint32 (attribute_bits a) in
     let l1 = length-append bits (where_there uint64 a.size) in
     let l2 = length-append (bits ++ where_there uint64 a.size) (where_there two_numbers a.id) in
-    let l3 = length-append ((bits ++ where_there uint64 a.size) ++ where_there two_numbers a.id) (where_there uint32 a.permissions) in
+    let l3 = length-append ((bits ++ where_there uint64 a.size) ++ where_there two_numbers a.id)
+    (where_there uint32 a.permissions) in
     let l4 = length-append (((bits ++ where_there uint64 a.size) ++ where_there two_numbers a.id)
     ++ where_there uint32 a.permissions) (where_there two_numbers a.time) in
     let b = len_number (attribute_bits a) in
@@ -105,24 +106,29 @@ len_limits l =
     let a = length-append (uint64 l.packet_len) (uint64 l.read_len) in
     let b = length-append (uint64 l.packet_len ++ uint64 l.read_len) (uint64 l.write_len) in
     let c = length-append ((uint64 l.packet_len ++ uint64 l.read_len) ++ uint64 l.write_len) (uint64 l.open_handles) in
-    let p = len_long l.packet_len in let r = len_long l.read_len in let w = len_long l.write_len in let o = len_long l.open_handles in
+    let p = len_long l.packet_len in let r = len_long l.read_len in let w = len_long l.write_len in let o =
+    len_long l.open_handles in
     omega (arith, a, b, c, p, r, w, o)
 
 -- ---- bodies
 
-len_names : (names : List NameEntry) (id : ℕ) → length (reply_body (reply.Names names) id) ≡ 9 + length (flat_map name_entry names)
+len_names : (names : List NameEntry) (id : ℕ) → length (reply_body (reply.Names names) id)
+    ≡ 9 + length (flat_map name_entry names)
 unfolding reply_body
 len_names names id =
     let a = length-append (uint32 id) (uint32 (length names) ++ flat_map name_entry names) in
     let b = length-append (uint32 (length names)) (flat_map name_entry names) in
     let i = len_number id in let n = len_number (length names) in omega (arith, a, b, i, n)
 
-names_within : (names : List NameEntry) (id : ℕ) → MayReply (reply.Names names) → length (reply_body (reply.Names names) id) ≤ MAX_BODY_LEN
-names_within names id (inl short) = let l = len_names names id in let e = len_entries names short.0 in let n = short.1 in omega (arith, l, e, n)
+names_within : (names : List NameEntry) (id : ℕ) → MayReply (reply.Names names)
+    → length (reply_body (reply.Names names) id) ≤ MAX_BODY_LEN
+names_within names id (inl short) = let l = len_names names id in let e = len_entries names short.0 in let n = short.1
+    in omega (arith, l, e, n)
 names_within names id (inr path) =
     let l = len_names names id in
     let first = len_names names 0 in
-    let same : length (reply_body (reply.Names names) 0) ≡ length (reply_body (path_reply path.0) 0) = ap (λ (w : Reply). length (reply_body w 0)) path.1 in
+    let same : length (reply_body (reply.Names names) 0) ≡ length (reply_body (path_reply path.0) 0) =
+    ap (λ (w : Reply). length (reply_body w 0)) path.1 in
     let le = path.2 in
     omega (arith, l, first, same, le)
 
@@ -135,7 +141,8 @@ body_within (reply.Status code message language) id say =
     let b = length-append (uint32 code ++ string message) (string language) in
     let c = length-append (uint32 id) ((uint32 code ++ string message) ++ string language) in
     let m = len_string message in let l = len_string language in let i = len_number id in let k = len_number code in
-    let x : length message ≡ 0 = ap length say.1 in let y : length language ≡ 0 = ap length say.2 in omega (arith, a, b, c, m, l, i, k, x, y)
+    let x : length message ≡ 0 = ap length say.1 in let y : length language ≡ 0 = ap length say.2 in
+    omega (arith, a, b, c, m, l, i, k, x, y)
 body_within (reply.Handle handle) id say = let c = length-append (uint32 id) (string handle) in let m =
     len_string handle in let i = len_number id in omega (arith, c, m, i, say)
 body_within (reply.Content content) id say = let c = length-append (uint32 id) (string content) in let m =
@@ -175,13 +182,14 @@ entry_fits e short =
     let le = short.0 in
     record { filename = omega (arith, le); longname = omega (arith, none); attrs = attributes_fit e.attrs short.2 }
 
-entries_fit : (names : List NameEntry) → AreShort names → (k : ℕ) (d : NameEntry) → k < length names → FitsEntry (get_or names k d)
+entries_fit : (names : List NameEntry) → AreShort names → (k : ℕ) (d : NameEntry) → k < length names
+    → FitsEntry (get_or names k d)
 entries_fit [] s k d lt = absurd (omega (arith, lt))
 entries_fit (e ∷ names) s zero d lt = entry_fits e s.0
 entries_fit (e ∷ names) s (suc k) d lt = entries_fit names s.1 k d (omega (arith, lt))
 
 abbrev path_entry : Name → NameEntry
-path_entry name = record { filename = 47 ∷ written name; longname = []; attrs = no_attributes }
+path_entry name = record { filename = 47 ∷ text_of_name name; longname = []; attrs = no_attributes }
 
 path_fits : (name : Name) → length (reply_body (path_reply name) 0) ≤ MAX_BODY_LEN → FitsReply (path_reply name)
 path_fits name le =
@@ -193,8 +201,14 @@ path_fits name le =
     let f = len_string e.filename in
     (omega arith, all (omega (arith, l, one, l1, l2, f, le)))
   where
-    all : length (47 ∷ written name) ≤ MAX_BODY_LEN → (k : ℕ) (d : NameEntry) → k < 1 → FitsEntry (get_or (path_entry name ∷ []) k d)
-    all le zero d lt = record { filename = le; longname = omega arith; attrs = record { size = tt; id = tt; permissions = tt; time = tt } }
+    all : length (47 ∷ text_of_name name) ≤ MAX_BODY_LEN → (k : ℕ) (d : NameEntry) → k < 1
+        → FitsEntry (get_or (path_entry name ∷ []) k d)
+    all le zero d lt = record {
+      filename = le;
+      longname = omega arith;
+      attrs =
+          record { size = tt; id = tt; permissions = tt; time = tt };
+    }
     all le (suc k) d lt = absurd (omega (arith, lt))
 
 names_fit : (names : List NameEntry) → MayReply (reply.Names names) → FitsReply (reply.Names names)
@@ -205,9 +219,11 @@ names_fit names (inr path) = subst FitsReply (sym path.1) (path_fits path.0 path
 pub says_fit : (r : Reply) → MayReply r → FitsReply r
 says_fit (reply.Version version extensions) say = absurd say
 says_fit (reply.Status code message language) say =
-    let x : length message ≡ 0 = ap length say.1 in let y : length language ≡ 0 = ap length say.2 in (say.0, omega (arith, x), omega (arith, y))
+    let x : length message ≡ 0 = ap length say.1 in let y : length language ≡ 0 = ap length say.2 in
+    (say.0, omega (arith, x), omega (arith, y))
 says_fit (reply.Handle handle) say = say
 says_fit (reply.Content content) say = omega (arith, say)
 says_fit (reply.Names names) say = names_fit names say
 says_fit (reply.Attrs attrs) say = attributes_fit attrs say
-says_fit (reply.Extended content) say = let l : length content ≡ 32 = ap length say.1 ∙ len_limits say.0 in omega (arith, l)
+says_fit (reply.Extended content) say = let l : length content ≡ 32 = ap length say.1 ∙ len_limits say.0 in
+    omega (arith, l)

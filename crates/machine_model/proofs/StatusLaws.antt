@@ -15,7 +15,8 @@ pub record IsAnswer (tree : FileTree) (r : Request) (x : Answer) : Type 0 where
   pub kept : KeepsWhereRefused tree x.0 x.1
 
 -- a STATUS other than 0 may answer every request but the hello
-pub status_allowed : (r : Request) (code : ℕ) → IsAfterHello r → (code == 0) ≡ false → MayAnswer r (reply.Status code [] [])
+pub status_allowed : (r : Request) (code : ℕ) → IsAfterHello r → (code == 0) ≡ false
+    → MayAnswer r (reply.Status code [] [])
 status_allowed (request.Init version) code h e = absurd h
 status_allowed (request.OpenFile path flags attrs) code h e = rw e refl
 status_allowed (request.Opendir path) code h e = rw e refl

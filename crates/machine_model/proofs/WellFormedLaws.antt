@@ -31,17 +31,18 @@ use Rattle.machine_model.specs.Changes.{
   Rewritten,
   Truncated,
   Unchanged,
-  changed,
+  tree_after_change,
 }
 use Rattle.machine_model.specs.Components.{Name, moved_name, same_name}
-use Rattle.machine_model.specs.FileTree.{FileTree, after_loss, lives, with_bytes, with_file, with_handle, with_renamed, without_handle, without_name}
+use Rattle.machine_model.specs.FileTree.{FileTree, after_loss, is_file_in_use, with_bytes, with_file, with_handle, with_renamed, without_handle, without_name}
 use Rattle.machine_model.specs.NameRequests.{with_entries}
-use Rattle.machine_model.specs.Pairs.{Has}
+use Rattle.machine_model.specs.Pairs.{HasEntry}
 use Rattle.machine_model.specs.TreeAnswers.{apply}
 use Rattle.machine_model.specs.declared.node.Node.{Node}
 use Rattle.machine_model.specs.declared.opened.Opened.{Opened}
 
-bytes_sound : (tree : FileTree) (file : ℕ) (bytes : List ℕ) → IsWellFormed tree → IsWellFormed (with_bytes tree file bytes)
+bytes_sound : (tree : FileTree) (file : ℕ) (bytes : List ℕ) → IsWellFormed tree
+    → IsWellFormed (with_bytes tree file bytes)
 bytes_sound tree file bytes s = record {
   named = λ name f h. rw (length-set tree.files file bytes) (s.named name f h);
   held = λ handle held h. rw (length-set tree.files file bytes) (s.held handle held h);
@@ -49,7 +50,7 @@ bytes_sound tree file bytes s = record {
 }
 
 loss_sound : (tree : FileTree) (file : ℕ) → IsWellFormed tree → IsWellFormed (after_loss tree file)
-loss_sound tree file s = by_test (lives tree file)
+loss_sound tree file s = by_test (is_file_in_use tree file)
   where
     by_test : (b : Bool) → IsWellFormed (if b then tree else with_bytes tree file [])
     by_test true = s
@@ -60,7 +61,8 @@ abbrev Within : FileTree → Opened → Type 0
 Within tree (opened.File held) = held.file < length tree.files
 Within tree (opened.Directory entries) = Unit {0}
 
-handle_sound : (tree : FileTree) (handle : List ℕ) (o : Opened) → IsWellFormed tree → Within tree o → IsWellFormed (with_handle tree handle o)
+handle_sound : (tree : FileTree) (handle : List ℕ) (o : Opened) → IsWellFormed tree → Within tree o
+    → IsWellFormed (with_handle tree handle o)
 handle_sound tree handle o s w = record {
   named = s.named;
   held = λ h held has. elim (has_push tree.handles (handle, o) (h, opened.File held) has) [
@@ -86,13 +88,15 @@ abbrev opened_value : Opened → Bool
 opened_value (opened.File held) = true
 opened_value (opened.Directory entries) = false
 
-entries_sound : (tree : FileTree) (h : List ℕ) (entries : List NameEntry) → IsWellFormed tree → IsWellFormed (with_entries tree h entries)
+entries_sound : (tree : FileTree) (h : List ℕ) (entries : List NameEntry) → IsWellFormed tree
+    → IsWellFormed (with_entries tree h entries)
 entries_sound tree h entries s = record {
   named = s.named;
-  held = λ handle held has. elim (has_replaced bytes_eq tree.handles h (opened.Directory entries) (handle, opened.File held) has) [
-    | inl old ↦ s.held handle held old
-    | inr e ↦ absurd (let no : true ≡ false = ap opened_value e in cc)
-  ];
+  held = λ handle held has. elim (has_replaced bytes_eq tree.handles h (opened.Directory entries)
+      (handle, opened.File held) has) [
+        | inl old ↦ s.held handle held old
+        | inr e ↦ absurd (let no : true ≡ false = ap opened_value e in cc)
+      ];
   alone = s.alone;
 }
 
@@ -107,15 +111,18 @@ push_sound tree name n files s le new = record {
     | inr e ↦ (new file (ap (λ (w : Name × Node). w.1) e)).1
   ];
   held = λ h held has. (let lt = s.held h held has in omega (arith, lt, le));
-  alone = λ a b file x y. both a b file (has_push tree.names (name, n) (a, node.File file) x) (has_push tree.names (name, n) (b, node.File file) y);
+  alone = λ a b file x y. both a b file (has_push tree.names (name, n) (a, node.File file) x)
+      (has_push tree.names (name, n) (b, node.File file) y);
 }
   where
-    both : (a b : Name) (file : ℕ) → Has tree.names (a, node.File file)
-        ⊎ (let p : Name × Node = (name, n) in p ≡ (a, node.File file)) → Has tree.names (b, node.File file)
+    both : (a b : Name) (file : ℕ) → HasEntry tree.names (a, node.File file)
+        ⊎ (let p : Name × Node = (name, n) in p ≡ (a, node.File file)) → HasEntry tree.names (b, node.File file)
         ⊎ (let p : Name × Node = (name, n) in p ≡ (b, node.File file)) → a ≡ b
     both a b file (inl x) (inl y) = s.alone a b file x y
-    both a b file (inl x) (inr y) = absurd (let lt = s.named a file x in let is = (new file (ap (λ (w : Name × Node). w.1) y)).0 in omega (arith, lt, is))
-    both a b file (inr x) (inl y) = absurd (let lt = s.named b file y in let is = (new file (ap (λ (w : Name × Node). w.1) x)).0 in omega (arith, lt, is))
+    both a b file (inl x) (inr y) = absurd (let lt = s.named a file x in let is =
+        (new file (ap (λ (w : Name × Node). w.1) y)).0 in omega (arith, lt, is))
+    both a b file (inr x) (inl y) = absurd (let lt = s.named b file y in let is =
+        (new file (ap (λ (w : Name × Node). w.1) x)).0 in omega (arith, lt, is))
     both a b file (inr x) (inr y) = sym (ap (λ (w : Name × Node). w.0) x) ∙ ap (λ (w : Name × Node). w.0) y
 
 without_name_sound : (tree : FileTree) (name : Name) → IsWellFormed tree → IsWellFormed (without_name tree name)
@@ -128,7 +135,8 @@ without_name_sound tree name s = record {
 
 moved_sound : (tree : FileTree) (old to : Name) → IsWellFormed tree → IsWellFormed (with_renamed tree old to)
 moved_sound tree old to s = record {
-  named = λ a file has. (let p = has_moved (moved_name old to) tree.names (a, node.File file) has in s.named p.0 file p.1.1);
+  named = λ a file has. (let p = has_moved (moved_name old to) tree.names (a, node.File file) has in
+      s.named p.0 file p.1.1);
   held = s.held;
   alone = λ a b file x y.
       (let p = has_moved (moved_name old to) tree.names (a, node.File file) x in
@@ -140,8 +148,10 @@ opens_within : (tree : FileTree) (r : Request) (o : Opened) → IsWellFormed tre
 opens_within tree r (opened.File held) s opens = s.named opens.0 held.file (name_has tree opens.0 held.file opens.1.1)
 opens_within tree r (opened.Directory entries) s opens = tt
 
-new_within : (tree : FileTree) (name : Name) (o : Opened) → OpensFile (length tree.files) o → Within (with_file tree name) o
-new_within tree name (opened.File held) e = let more = length_push tree.files [] in let is : held.file ≡ length tree.files = e in omega (arith, more, is)
+new_within : (tree : FileTree) (name : Name) (o : Opened) → OpensFile (length tree.files) o
+    → Within (with_file tree name) o
+new_within tree name (opened.File held) e = let more = length_push tree.files [] in let is : held.file
+    ≡ length tree.files = e in omega (arith, more, is)
 new_within tree name (opened.Directory entries) e = tt
 
 emptied_within : (tree : FileTree) (file : ℕ) (o : Opened) → Within tree o → Within (with_bytes tree file []) o
@@ -152,7 +162,8 @@ abbrev file_number : ℕ → Node → ℕ
 file_number d node.Directory = d
 file_number d (node.File file) = file
 
-change_sound : (tree : FileTree) (r : Request) (handle : List ℕ) (c : Change) → IsWellFormed tree → MayLead tree r c → IsWellFormed (changed tree handle c)
+change_sound : (tree : FileTree) (r : Request) (handle : List ℕ) (c : Change) → IsWellFormed tree → MayLead tree r c
+    → IsWellFormed (tree_after_change tree handle c)
 change_sound tree r handle Unchanged s may = s
 change_sound tree r handle (Rewritten file bytes) s may = bytes_sound tree file bytes s
 change_sound tree r handle (Granted o) s may = handle_sound tree handle o s (opens_within tree r o s may.0)
@@ -160,16 +171,20 @@ change_sound tree r handle (Truncated file o) s may = handle_sound (with_bytes t
     (bytes_sound tree file [] s) (emptied_within tree file o (opens_within tree r o s may.2))
 change_sound tree r handle (Created name o) s may =
     handle_sound (with_file tree name) handle o
-    (push_sound tree name (node.File (length tree.files)) (tree.files ++ [] ∷ []) s (let more = length_push tree.files [] in omega (arith, more))
-    (λ file e. (let is : length tree.files ≡ file = ap (file_number 0) e in let more = length_push tree.files [] in (sym is, omega (arith, is, more)))))
+    (push_sound tree name (node.File (length tree.files)) (tree.files ++ [] ∷ []) s
+    (let more = length_push tree.files [] in omega (arith, more))
+    (λ file e. (let is : length tree.files ≡ file = ap (file_number 0) e in let more = length_push tree.files [] in
+    (sym is, omega (arith, is, more)))))
     (new_within tree name o may.2)
 change_sound tree r handle (ClosedDirectory h) s may = without_handle_sound tree h s
-change_sound tree r handle (ClosedFile h file) s may = loss_sound (without_handle tree h) file (without_handle_sound tree h s)
+change_sound tree r handle (ClosedFile h file) s may = loss_sound (without_handle tree h) file
+    (without_handle_sound tree h s)
 change_sound tree r handle (Listed h entries) s may = entries_sound tree h entries s
 change_sound tree r handle (MadeDirectory name) s may = push_sound tree name node.Directory tree.files s (omega arith)
     (λ file e. absurd (let no : false ≡ true = ap file_value e in cc))
 change_sound tree r handle (RemovedDirectory name) s may = without_name_sound tree name s
-change_sound tree r handle (RemovedFile name file) s may = loss_sound (without_name tree name) file (without_name_sound tree name s)
+change_sound tree r handle (RemovedFile name file) s may = loss_sound (without_name tree name) file
+    (without_name_sound tree name s)
 change_sound tree r handle (Renamed old to) s may = moved_sound tree old to s
 change_sound tree r handle (Replaced old to gone) s may = loss_sound (with_renamed (without_name tree to) old to) gone
     (moved_sound (without_name tree to) old to (without_name_sound tree to s))
@@ -177,4 +192,5 @@ change_sound tree r handle (Replaced old to gone) s may = loss_sound (with_renam
 pub well_formed_after : (tree : FileTree) (config : ServerConfig) (r : Request) (choice : Choice) (handle : List ℕ)
     → IsWellFormed tree → IsWellFormed (apply tree config r choice handle).1
 well_formed_after tree config r choice handle s =
-    let l = apply_leaves tree config r choice handle in subst IsWellFormed (sym l.is) (change_sound tree r handle l.change s l.may)
+    let l = apply_leaves tree config r choice handle in subst IsWellFormed (sym l.is)
+    (change_sound tree r handle l.change s l.may)

@@ -36,7 +36,8 @@ parent_push name part =
     ap (λ (k : ℕ). take k (name ++ part ∷ [])) (let n : length (name ++ part ∷ []) - 1 ≡ length name = omega (arith, l)
     in n) ∙ take-append_seam name (part ∷ [])
 
-pub parent_below : (old : Name) (part : List ℕ) (rest : Name) → parent_of (old ++ part ∷ rest) ≡ old ++ parent_of (part ∷ rest)
+pub parent_below : (old : Name) (part : List ℕ) (rest : Name) → parent_of (old ++ part ∷ rest) ≡ old
+    ++ parent_of (part ∷ rest)
 parent_below old part rest =
     let l = length-append old (part ∷ rest) in
     ap (λ (k : ℕ). take k (old ++ part ∷ rest)) (let n : length (old ++ part ∷ rest) - 1 ≡ length old + length rest =
@@ -47,7 +48,8 @@ parent_below old part rest =
 pub parent_last : (name : Name) → name ≢ [] → name ≡ parent_of name ++ last_of name ∷ []
 parent_last [] ne = absurd (ne refl)
 parent_last (part ∷ parts) ne =
-    sym (take-length (part ∷ parts)) ∙ (ap (λ (k : ℕ). take k (part ∷ parts)) (let n : length (part ∷ parts) ≡ length (part ∷ parts) - 1 + 1 = omega arith in n)
+    sym (take-length (part ∷ parts)) ∙ (ap (λ (k : ℕ). take k (part ∷ parts))
+    (let n : length (part ∷ parts) ≡ length (part ∷ parts) - 1 + 1 = omega arith in n)
     ∙ take_more (part ∷ parts) (length (part ∷ parts) - 1) [] (omega arith))
 
 -- what stands within a name has a parent within it, or is it
@@ -55,14 +57,16 @@ pub parent_within : (old name : Name) → name ≢ [] → is_within old (parent_
 parent_within old name ne e =
     let rest : Name = drop (length old) (parent_of name) in
     let whole : name ≡ old ++ (rest ++ last_of name ∷ []) =
-    parent_last name ne ∙ (ap (λ (w : Name). w ++ last_of name ∷ []) (within_split old (parent_of name) e) ∙ append_assoc old rest (last_of name ∷ [])) in
+    parent_last name ne ∙ (ap (λ (w : Name). w ++ last_of name ∷ []) (within_split old (parent_of name) e)
+    ∙ append_assoc old rest (last_of name ∷ [])) in
     subst (λ (w : Name). is_within old w ≡ true) (sym whole) (within_join old (rest ++ last_of name ∷ []))
 
 pub parent_outside : (old name : Name) → name ≢ [] → is_within old name ≡ false → is_within old (parent_of name) ≡ false
 parent_outside old name ne e = by_test (is_within old (parent_of name)) refl
   where
     by_test : (b : Bool) → is_within old (parent_of name) ≡ b → b ≡ false
-    by_test true t = absurd (let w : is_within old name ≡ true = parent_within old name ne t in let both : true ≡ false = sym w ∙ e in cc)
+    by_test true t = absurd (let w : is_within old name ≡ true = parent_within old name ne t in let both : true
+        ≡ false = sym w ∙ e in cc)
     by_test false t = refl
 
 -- ---- moved names

@@ -1,4 +1,4 @@
--- Worked examples of the names that paths denote, and beside each what nearly is one.
+-- Worked examples of the names that paths denote, each beside a case that nearly is one.
 use Rattle.std.specs.Prelude.{ℕ, ◌≡◌, true, false, List, [], ◌∷◌, codes, refl, replicate}
 use Rattle.machine_model.specs.Components.{
   Name,
@@ -9,7 +9,7 @@ use Rattle.machine_model.specs.Components.{
   last_of,
   moved_name,
   parent_of,
-  written,
+  text_of_name,
 }
 
 abbrev one : List ℕ → Name
@@ -50,7 +50,7 @@ pub of_up_twice : components (codes "a/b/c/../../d") ≡ two (codes "a") (codes 
 unfolding components
 of_up_twice = refl
 
--- three dots are a component, and so is one that begins with a dot
+-- Three dots are a component, and so is a component that begins with a dot.
 pub of_more_dots : components (codes ".../.a") ≡ two (codes "...") (codes ".a")
 unfolding components
 of_more_dots = refl
@@ -68,10 +68,10 @@ parent_of_root = refl
 pub lasts : last_of (two (codes "a") (codes "b")) ≡ codes "b"
 lasts = refl
 
-pub writes : written (two (codes "a") (codes "b")) ≡ codes "a/b"
+pub writes : text_of_name (two (codes "a") (codes "b")) ≡ codes "a/b"
 writes = refl
 
-pub writes_root : written [] ≡ []
+pub writes_root : text_of_name [] ≡ []
 writes_root = refl
 
 pub within_itself : is_within (one (codes "a")) (one (codes "a")) ≡ true
@@ -83,7 +83,7 @@ within_parent = refl
 pub within_child : is_within (two (codes "a") (codes "b")) (one (codes "a")) ≡ false
 within_child = refl
 
--- the written name begins with the other one, and the name does not
+-- The written name begins with the other one, and the name does not.
 pub within_bytes : is_within (one (codes "a")) (one (codes "ab")) ≡ false
 within_bytes = refl
 

@@ -1,4 +1,4 @@
--- The files and directories of a server in memory, and what it has open.
+-- The files and directories of a server in memory, and the handles that are open.
 use Rattle.std.specs.Prelude.{
   ℕ,
   ◌+◌,
@@ -37,69 +37,71 @@ use Rattle.machine_model.specs.declared.node.Node.{Node}
 use Rattle.machine_model.specs.declared.opened.Held.{Held}
 use Rattle.machine_model.specs.declared.opened.Opened.{Opened}
 
--- Names with what they have, but for the root, which is a directory always; the bytes of files by their numbers; and
--- handles with what they have. A file keeps its number for good. One that neither a name nor a handle has is empty.
+-- Names with their files and directories, except the root, which is always a directory; the bytes of files by their
+-- numbers; and handles with the files and directories that they have open.
+--
+-- A file keeps its number permanently. A file that neither a name nor a handle has is empty.
 pub record FileTree : Type 0 where
   pub names : List (Name × Node)
   pub files : List (List ℕ)
   pub handles : List (List ℕ × Opened)
 
--- ---- lists of pairs
+-- ---- Lists of pairs
 
--- the value at a key
-abbrev pub found : {K V : Type 0} → (K → K → Bool) → List (K × V) → K → Option V
-found same [] key = None
-found same (pair ∷ pairs) key = if same pair.0 key then Some pair.1 else found same pairs key
+-- The value at a key.
+abbrev pub value_at_key : {K V : Type 0} → (K → K → Bool) → List (K × V) → K → Option V
+value_at_key same [] key = None
+value_at_key same (pair ∷ pairs) key = if same pair.0 key then Some pair.1 else value_at_key same pairs key
 
--- the pairs but the first with a key
-abbrev pub without : {K V : Type 0} → (K → K → Bool) → List (K × V) → K → List (K × V)
-without same [] key = []
-without same (pair ∷ pairs) key = if same pair.0 key then pairs else pair ∷ without same pairs key
+-- The pairs except the first with a key.
+abbrev pub without_key : {K V : Type 0} → (K → K → Bool) → List (K × V) → K → List (K × V)
+without_key same [] key = []
+without_key same (pair ∷ pairs) key = if same pair.0 key then pairs else pair ∷ without_key same pairs key
 
--- the pairs, where the first with a key gets a value
-abbrev pub replaced : {K V : Type 0} → (K → K → Bool) → List (K × V) → K → V → List (K × V)
-replaced same [] key value = []
-replaced same (pair ∷ pairs) key value = if same pair.0 key then (key, value) ∷ pairs else
-    pair ∷ replaced same pairs key value
+-- The pairs, in which the first with a key has a new value.
+abbrev pub with_value_at : {K V : Type 0} → (K → K → Bool) → List (K × V) → K → V → List (K × V)
+with_value_at same [] key value = []
+with_value_at same (pair ∷ pairs) key value = if same pair.0 key then (key, value) ∷ pairs else
+    pair ∷ with_value_at same pairs key value
 
--- ---- what there is
+-- ---- Contents
 
--- what a name has
+-- The file or directory of a name.
 abbrev pub node_at : FileTree → Name → Option Node
 node_at tree [] = Some node.Directory
-node_at tree (part ∷ parts) = found same_name tree.names (part ∷ parts)
+node_at tree (part ∷ parts) = value_at_key same_name tree.names (part ∷ parts)
 
--- what a handle has
+-- The file or directory that a handle has open.
 abbrev pub opened_at : FileTree → List ℕ → Option Opened
-opened_at tree handle = found bytes_eq tree.handles handle
+opened_at tree handle = value_at_key bytes_eq tree.handles handle
 
--- the file that is open, where one is
+-- The file that is open, if one is.
 abbrev pub file_of : Option Opened → Option Held
 file_of None = None
 file_of (Some (opened.File held)) = Some held
 file_of (Some (opened.Directory entries)) = None
 
--- the entries that are still to be given, where a directory is open
+-- The entries that are still to be listed, if a directory is open.
 abbrev pub entries_of : Option Opened → Option (List NameEntry)
 entries_of None = None
 entries_of (Some (opened.File held)) = None
 entries_of (Some (opened.Directory entries)) = Some entries
 
--- there is a directory
+-- True if a directory exists.
 abbrev pub is_directory : Option Node → Bool
 is_directory None = false
 is_directory (Some node.Directory) = true
 is_directory (Some (node.File file)) = false
 
--- the bytes of a file
+-- The bytes of a file.
 abbrev pub bytes_of : FileTree → ℕ → List ℕ
 bytes_of tree file = slice_index_or tree.files file []
 
--- how many they are
+-- The number of bytes of a file.
 abbrev pub size_of : FileTree → ℕ → ℕ
 size_of tree file = length (bytes_of tree file)
 
--- the attributes that are told: of a file its size alone, of a directory its permissions alone
+-- The attributes that are reported: of a file only its size, of a directory only its permissions.
 abbrev pub attributes_of : FileTree → Node → FileAttrs
 attributes_of tree node.Directory = record {
   size = None;
@@ -116,35 +118,35 @@ attributes_of tree (node.File file) = record {
       None;
 }
 
--- ---- sizes
+-- ---- Sizes
 
--- the bytes of all files, with those that live by a handle alone
+-- The number of bytes of all files, including those that exist only by a handle.
 abbrev pub all_bytes : FileTree → ℕ
 all_bytes tree = sum_by length tree.files
 
--- the file may not have this size: it passes the limit of one file, or with the others that of all
+-- True if the file may not have this size: it passes the limit of one file, or with the others the limit of all.
 abbrev pub is_over : FileTree → ℕ → ℕ → Bool
 is_over tree file size = nat_lt MAX_FILE_LEN size || nat_lt MAX_TOTAL_LEN (all_bytes tree - size_of tree file + size)
 
--- bytes that were cut or filled with zeros
-abbrev pub resized : ℕ → List ℕ → List ℕ
-resized size bytes = take size bytes ++ replicate (size - length bytes) 0
+-- Bytes that were truncated or filled with zeros.
+abbrev pub resized_bytes : ℕ → List ℕ → List ℕ
+resized_bytes size bytes = take size bytes ++ replicate (size - length bytes) 0
 
--- bytes with a piece written at an offset; zeros fill a gap
-abbrev pub put : List ℕ → ℕ → List ℕ → List ℕ
-put bytes offset piece = resized offset bytes ++ piece ++ drop (offset + length piece) bytes
+-- Bytes with a piece written at an offset; zeros fill a gap.
+abbrev pub written_at : List ℕ → ℕ → List ℕ → List ℕ
+written_at bytes offset piece = resized_bytes offset bytes ++ piece ++ drop (offset + length piece) bytes
 
--- ---- what a request may leave
+-- ---- Effects of a request
 
--- a file gets bytes
+-- The tree with new bytes in a file.
 abbrev pub with_bytes : FileTree → ℕ → List ℕ → FileTree
 with_bytes tree file bytes = record tree { files = slice_set tree.files file bytes }
 
--- one name more
+-- The tree with another name.
 abbrev pub with_name : FileTree → Name → Node → FileTree
 with_name tree name n = record tree { names = tree.names ++ (name, n) ∷ [] }
 
--- an empty file more, under a name
+-- The tree with another empty file, under a name.
 abbrev pub with_file : FileTree → Name → FileTree
 with_file tree name = record tree {
   names = tree.names ++ (name, node.File (length tree.files)) ∷ [];
@@ -152,39 +154,39 @@ with_file tree name = record tree {
       ++ [] ∷ [];
 }
 
--- one name less
+-- The tree without a name.
 abbrev pub without_name : FileTree → Name → FileTree
-without_name tree name = record tree { names = without same_name tree.names name }
+without_name tree name = record tree { names = without_key same_name tree.names name }
 
--- what the old name has, and all within it, is moved
+-- The tree in which the old name, and all names within it, are moved.
 abbrev pub with_renamed : FileTree → Name → Name → FileTree
 with_renamed tree old to = record tree { names = map (λ pair. (moved_name old to pair.0, pair.1)) tree.names }
 
--- one handle more
+-- The tree with another handle.
 abbrev pub with_handle : FileTree → List ℕ → Opened → FileTree
 with_handle tree handle o = record tree { handles = tree.handles ++ (handle, o) ∷ [] }
 
--- one handle less
+-- The tree without a handle.
 abbrev pub without_handle : FileTree → List ℕ → FileTree
-without_handle tree handle = record tree { handles = without bytes_eq tree.handles handle }
+without_handle tree handle = record tree { handles = without_key bytes_eq tree.handles handle }
 
--- ---- files live while a name or a handle has them
+-- ---- Files exist while a name or a handle has them
 
--- a name has the file
+-- True if a name has the file.
 abbrev pub names_file : ℕ → Node → Bool
 names_file file node.Directory = false
 names_file file (node.File n) = n == file
 
--- a handle has the file
+-- True if a handle has the file.
 abbrev pub opens_file : ℕ → Opened → Bool
 opens_file file (opened.File held) = held.file == file
 opens_file file (opened.Directory entries) = false
 
--- a name or a handle has the file
-abbrev pub lives : FileTree → ℕ → Bool
-lives tree file = list_any (λ pair. names_file file pair.1) tree.names
+-- True if a name or a handle has the file.
+abbrev pub is_file_in_use : FileTree → ℕ → Bool
+is_file_in_use tree file = list_any (λ pair. names_file file pair.1) tree.names
     || list_any (λ pair. opens_file file pair.1) tree.handles
 
--- the file's bytes are dropped, where it lives no longer
+-- The file's bytes are dropped if no name and no handle has it any longer.
 abbrev pub after_loss : FileTree → ℕ → FileTree
-after_loss tree file = if lives tree file then tree else with_bytes tree file []
+after_loss tree file = if is_file_in_use tree file then tree else with_bytes tree file []

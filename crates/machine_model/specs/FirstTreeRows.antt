@@ -1,13 +1,14 @@
--- Worked examples of what a server may begin with and what it has then, and beside each what nearly is one.
+-- Worked examples of the files and directories that a server may start with, and of its tree, each beside a case that
+-- nearly is one.
 use Rattle.std.specs.Prelude.{ℕ, ◌≡◌, Bool, true, false, List, [], ◌∷◌, ◌++◌, codes, Some, None, refl, replicate}
 use Rattle.machine_model.specs.Components.{components}
 use Rattle.machine_model.specs.FirstTree.{FirstFile, first_tree, may_begin}
 use Rattle.machine_model.specs.Listing.{dir_at, file_at}
 use Rattle.machine_model.specs.declared.node.Node.TheVariants as node
 
--- ---- what is there
+-- ---- Contents
 
--- parents come with what they have, each once; a file is numbered by its place
+-- Parents are added with their files and directories, each once; a file is numbered by its place.
 pub makes_parents : (first_tree ((codes "b/c/x", codes "1") ∷ (codes "/y", codes "2") ∷ [])
     (codes "b/d" ∷ codes "b" ∷ [])).names
     ≡ (codes "b" ∷ [], node.Directory) ∷ (codes "b" ∷ codes "d" ∷ [], node.Directory) ∷
@@ -16,7 +17,7 @@ pub makes_parents : (first_tree ((codes "b/c/x", codes "1") ∷ (codes "/y", cod
 unfolding components
 makes_parents = refl
 
--- in the order of the written names: `a-b` stands before `a/b`
+-- In the order of the written names: `a-b` comes before `a/b`.
 pub lists_by_written_names : file_at (first_tree ((codes "a/b", codes "1") ∷ (codes "a-b", codes "2") ∷ []) []) 0
     ≡ Some (codes "a-b", codes "2")
 unfolding components
@@ -30,13 +31,13 @@ pub lists_no_root : dir_at (first_tree ((codes "b", codes "1") ∷ []) []) 0 ≡
 unfolding components
 lists_no_root = refl
 
--- ---- what may be there
+-- ---- Conditions
 
 abbrev files : List (List ℕ) → List FirstFile
 files [] = []
 files (path ∷ paths) = (path, []) ∷ files paths
 
--- the bounds of sizes hold; of these paths of files and of directories, whether a server may begin with them
+-- The bounds of sizes hold. True if a server may start with these paths of files and of directories.
 abbrev begins : List (List ℕ) → List (List ℕ) → Bool
 begins paths dirs = may_begin (files paths) dirs
 
@@ -71,7 +72,7 @@ pub directory_within_a_file : begins (codes "a" ∷ []) (codes "a/b" ∷ []) ≡
 unfolding components
 directory_within_a_file = refl
 
--- `ab` isn't within `a`
+-- `ab` is not within `a`.
 pub names_by_components : begins (codes "a" ∷ codes "ab" ∷ []) [] ≡ true
 unfolding components
 names_by_components = refl
@@ -84,7 +85,7 @@ pub root_as_a_directory : begins [] (codes "/" ∷ []) ≡ false
 unfolding components
 root_as_a_directory = refl
 
--- 255 bytes of a component, and 256
+-- 255 bytes of a component, and 256.
 pub greatest_component : begins [] (replicate 255 97 ∷ []) ≡ true
 unfolding components
 greatest_component = refl

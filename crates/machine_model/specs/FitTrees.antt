@@ -1,5 +1,5 @@
 -- Trees whose replies fit a frame: no file is over its bound, and the last components of names and the entries of open
--- directories are short; and what such a tree may reply.
+-- directories are short; and the replies that such a tree may give.
 use Rattle.std.specs.Prelude.{◌≡◌, ℕ, ◌<◌, ◌≤◌, ◌^◌, ◌⊎◌, List, [], ◌∷◌, length, None, IfSome}
 use Rattle.sftp_model.specs.declared.config.Limits.{Limits}
 use Rattle.sftp_model.specs.declared.file_attrs.FileAttrs.{FileAttrs}
@@ -13,20 +13,20 @@ use Rattle.machine_model.specs.declared.opened.Opened.TheVariants as opened
 use Rattle.sftp_model.specs.Numbers.{MAX_BODY_LEN, MAX_HANDLE_LEN, MAX_TRANSFER_LEN}
 use Rattle.machine_model.specs.Components.{Name, last_of}
 use Rattle.machine_model.specs.FileTree.{FileTree, size_of}
-use Rattle.machine_model.specs.HandleRequests.{capped}
+use Rattle.machine_model.specs.HandleRequests.{capped_at}
 use Rattle.machine_model.specs.Limits.{DIRECTORY_PERMISSIONS, MAX_COMPONENT_LEN, MAX_FILE_LEN, MAX_NAME_ENTRIES}
 use Rattle.machine_model.specs.NameRequests.{path_reply}
-use Rattle.machine_model.specs.Pairs.{Has}
+use Rattle.machine_model.specs.Pairs.{HasEntry}
 use Rattle.machine_model.specs.declared.node.Node.{Node}
 
--- ---- entries
+-- ---- Entries
 
--- attributes as STAT tells them
+-- Attributes as STAT reports them.
 abbrev pub IsTold : FileAttrs → Type 0
 IsTold a = IfSome a.size (λ n. n ≤ MAX_FILE_LEN) × (a.id ≡ None) × IfSome a.permissions (λ n. n ≤ DIRECTORY_PERMISSIONS)
     × (a.time ≡ None)
 
--- an entry of a listing
+-- An entry of a listing.
 abbrev pub IsShort : NameEntry → Type 0
 IsShort e = (length e.filename ≤ MAX_COMPONENT_LEN) × (e.longname ≡ []) × IsTold e.attrs
 
@@ -34,16 +34,16 @@ abbrev pub AreShort : List NameEntry → Type 0
 AreShort [] = Unit {0}
 AreShort (e ∷ entries) = IsShort e × AreShort entries
 
--- a tree whose replies fit a frame
+-- A tree whose replies fit a frame.
 pub record IsFit (tree : FileTree) : Type 0 where
   pub sizes : (file : ℕ) → size_of tree file ≤ MAX_FILE_LEN
-  pub short : (name : Name) (n : Node) → Has tree.names (name, n) → length (last_of name) ≤ MAX_COMPONENT_LEN
-  pub entries : (h : List ℕ) (entries : List NameEntry) → Has tree.handles (h, opened.Directory entries)
+  pub short : (name : Name) (n : Node) → HasEntry tree.names (name, n) → length (last_of name) ≤ MAX_COMPONENT_LEN
+  pub entries : (h : List ℕ) (entries : List NameEntry) → HasEntry tree.handles (h, opened.Directory entries)
       → AreShort entries
 
--- ---- replies
+-- ---- Replies
 
--- what a tree may reply; of a NAME either entries or a path that fits
+-- The replies that a tree may give; a NAME has either entries or a path that fits.
 abbrev pub MayReply : Reply → Type 0
 MayReply (reply.Version version extensions) = ⊥
 MayReply (reply.Status code message language) = (code < 2 ^ 32) × (message ≡ []) × (language ≡ [])
@@ -54,7 +54,7 @@ MayReply (reply.Names names) = (AreShort names × (length names ≤ MAX_NAME_ENT
 MayReply (reply.Attrs attrs) = IsTold attrs
 MayReply (reply.Extended content) = (limits : Limits) × (content ≡ limits_content limits)
 
--- a READ gives no more than one DATA can bring: it asks for no more, or the cap lets through no more
+-- A READ returns at most the bytes that one DATA can carry: it asks for no more, or the cap allows no more.
 abbrev pub GivesWithin : ℕ → Request → Type 0
-GivesWithin cap (request.Read handle offset len) = capped cap len ≤ MAX_TRANSFER_LEN
+GivesWithin cap (request.Read handle offset len) = capped_at cap len ≤ MAX_TRANSFER_LEN
 GivesWithin cap other = Unit {0}

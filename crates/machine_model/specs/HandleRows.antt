@@ -1,5 +1,5 @@
--- Worked examples of the tree's answers to CLOSE, READ, WRITE and other requests that bear a handle, and beside each
--- what nearly is one.
+-- Worked examples of the tree's replies to CLOSE, READ, WRITE and other requests with a handle, each beside a case that
+-- nearly is one.
 use Rattle.std.specs.Prelude.{ℕ, ◌≡◌, List, [], ◌∷◌, ◌++◌, codes, refl, ◌+◌}
 use Rattle.sftp_model.specs.declared.request.Request.TheVariants as request
 use Rattle.sftp_model.specs.declared.reply.Reply.TheVariants as reply
@@ -51,7 +51,7 @@ pub closes_unknown : by (with_open ((7 ∷ [], held_by for_reading 0) ∷ [])) (
     ≡ (status SSH_FX_FAILURE, with_open ((7 ∷ [], held_by for_reading 0) ∷ []))
 closes_unknown = refl
 
--- a file that lived by a handle alone is dropped with its last handle
+-- A file that existed only by a handle is dropped with its last handle.
 abbrev nameless : FileTree
 nameless = record {
   names = (d, node.Directory) ∷ [];
@@ -140,7 +140,7 @@ pub writes_gap : by writing (request.Write (7 ∷ []) 4 (codes "A"))
     ≡ (status SSH_FX_OK, written (codes "xy" ++ 0 ∷ 0 ∷ codes "A"))
 writes_gap = refl
 
--- a piece of no bytes fills the gap too
+-- A piece of no bytes fills the gap too.
 pub writes_nothing : by writing (request.Write (7 ∷ []) 3 []) ≡ (status SSH_FX_OK, written (codes "xy" ++ 0 ∷ []))
 writes_nothing = refl
 
@@ -153,14 +153,14 @@ writes_read = refl
 pub writes_unknown : by writing (request.Write (9 ∷ []) 0 (codes "A")) ≡ (status SSH_FX_FAILURE, writing)
 writes_unknown = refl
 
--- the greatest offset, which is over the limit of one file
+-- The greatest offset, which is over the limit of one file.
 pub writes_far : by writing (request.Write (7 ∷ []) 18446744073709551614 (codes "A")) ≡ (status SSH_FX_FAILURE, writing)
 writes_far = refl
 
 pub writes_over_limit : by writing (request.Write (7 ∷ []) 16777216 (codes "A")) ≡ (status SSH_FX_FAILURE, writing)
 writes_over_limit = refl
 
--- where the file was opened to append, the offset counts for nothing
+-- If the file was opened to append, the offset counts for nothing.
 pub appends_far : by writing (request.Write (8 ∷ []) 18446744073709551614 (codes "A"))
     ≡ (status SSH_FX_OK, written (codes "xyA"))
 appends_far = refl
@@ -197,7 +197,7 @@ fsetstats_more = refl
 pub fsetstats_read : by held (request.Fsetstat (8 ∷ []) (sized 1)) ≡ (status SSH_FX_PERMISSION_DENIED, held)
 fsetstats_read = refl
 
--- without a size, nothing is looked at but the handle
+-- Without a size, only the handle is checked.
 pub fsetstats_none : by held (request.Fsetstat (8 ∷ []) no_attributes) ≡ (status SSH_FX_OK, held)
 fsetstats_none = refl
 
@@ -225,7 +225,7 @@ copies = refl
 pub copies_to_end : by held (request.CopyData (8 ∷ []) 1 0 (7 ∷ []) 0) ≡ (status SSH_FX_OK, cut (codes "ello"))
 copies_to_end = refl
 
--- a copy of nothing fills the gap
+-- A copy of no bytes fills the gap.
 pub copies_nothing : by held (request.CopyData (8 ∷ []) 5 0 (7 ∷ []) 3) ≡ (status SSH_FX_OK, cut (codes "xy" ++ 0 ∷ []))
 copies_nothing = refl
 
@@ -245,7 +245,7 @@ pub copies_unoffered : apply held (config (POSIX_RENAME + FSYNC + EXPAND_PATH))
     (request.CopyData (9 ∷ []) 0 0 (7 ∷ []) 0) (choice 0 0) [] ≡ (status SSH_FX_OP_UNSUPPORTED, held)
 copies_unoffered = refl
 
--- a file is read and written by one handle: what was taken first is written
+-- A file is read and written by one handle: the bytes that were taken first are written.
 abbrev both : List ℕ → FileTree
 both bytes = record {
   names = example_names;
@@ -258,7 +258,7 @@ pub copies_within : by (both (codes "hello")) (request.CopyData (7 ∷ []) 0 3 (
     ≡ (status SSH_FX_OK, both (codes "hhelo"))
 copies_within = refl
 
--- ---- the others
+-- ---- The other requests
 
 pub links : by example (request.Symlink (codes "g") (codes "h")) ≡ (status SSH_FX_OP_UNSUPPORTED, example)
 links = refl

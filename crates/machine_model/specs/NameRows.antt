@@ -1,4 +1,4 @@
--- Worked examples of the tree's answers to requests on names, and beside each what nearly is one.
+-- Worked examples of the tree's replies to requests on names, each beside a case that nearly is one.
 use Rattle.std.specs.Prelude.{◌≡◌, List, [], ◌∷◌, ◌++◌, codes, refl, replicate, ◌+◌}
 use Rattle.sftp_model.specs.declared.request.Request.TheVariants as request
 use Rattle.sftp_model.specs.declared.reply.Reply.TheVariants as reply
@@ -95,7 +95,7 @@ pub removes : by example (request.Remove (codes "g")) ≡ (
 unfolding components
 removes = refl
 
--- the file lives on while it is open
+-- The file continues to exist while it is open.
 pub removes_open : by (with_open ((7 ∷ [], held_by for_reading 1) ∷ [])) (request.Remove (codes "g"))
     ≡ (
       status SSH_FX_OK,
@@ -168,7 +168,7 @@ pub takes_away_missing : by example (request.Rmdir (codes "h")) ≡ (status SSH_
 unfolding components
 takes_away_missing = refl
 
--- the root stays, also where it is empty
+-- The root stays, even if it is empty.
 pub takes_away_root : by (named []) (request.Rmdir (codes "/")) ≡ (status SSH_FX_FAILURE, named [])
 unfolding components
 takes_away_root = refl
@@ -187,7 +187,7 @@ pub opens_directory : by example (request.Opendir (codes "/"))
 unfolding components
 opens_directory = refl
 
--- in the order of the last components, and none from further down
+-- In the order of the last components, and none from deeper levels.
 pub opens_in_order : (by (named ((g, node.File 1) ∷ (codes "a" ∷ [], node.Directory) ∷ (f, node.File 0) ∷
     (codes "ab" ∷ [], node.Directory) ∷ (d, node.Directory) ∷ [])) (request.Opendir [])).1.handles
     ≡ (

@@ -1,4 +1,4 @@
--- Worked examples of the tree's answers to OPEN, and beside each what nearly is one.
+-- Worked examples of the tree's replies to OPEN, each beside a case that nearly is one.
 use Rattle.std.specs.Prelude.{◌≡◌, [], ◌∷◌, ◌++◌, codes, refl, replicate}
 use Rattle.sftp_model.specs.declared.reply.Reply.TheVariants as reply
 use Rattle.machine_model.specs.declared.node.Node.TheVariants as node
@@ -53,7 +53,7 @@ pub creates : by example (open_file (codes "d/h") creating) ≡ (
 unfolding components
 creates = refl
 
--- what is there keeps its bytes without TRUNC
+-- An existing file keeps its bytes without TRUNC.
 pub creates_there : by example (open_file (codes "g") creating)
     ≡ (reply.Handle (9 ∷ []), with_open ((9 ∷ [], held_by creating 1) ∷ []))
 unfolding components
@@ -63,7 +63,7 @@ pub creates_exclusive_there : by example (open_file (codes "g") creating_new) �
 unfolding components
 creates_exclusive_there = refl
 
--- EXCL without CREAT says nothing
+-- EXCL without CREAT has no effect.
 pub exclusive_there : by example (open_file (codes "g") exclusive)
     ≡ (reply.Handle (9 ∷ []), with_open ((9 ∷ [], held_by exclusive 1) ∷ []))
 unfolding components
@@ -82,7 +82,7 @@ pub truncates : by example (open_file (codes "g") truncating)
 unfolding components
 truncates = refl
 
--- TRUNC without CREAT makes no file
+-- TRUNC without CREAT creates no file.
 pub truncates_missing : by example (open_file (codes "h") truncating) ≡ (status SSH_FX_NO_SUCH_FILE, example)
 unfolding components
 truncates_missing = refl
@@ -99,13 +99,13 @@ pub creates_long : by example (open_file (replicate 256 97) creating) ≡ (statu
 unfolding components
 creates_long = refl
 
--- the parent is looked for first
+-- The parent is checked first.
 pub creates_long_without_parent : by example (open_file (codes "e/" ++ replicate 256 97) creating)
     ≡ (status SSH_FX_NO_SUCH_FILE, example)
 unfolding components
 creates_long_without_parent = refl
 
--- a long name that isn't to be made is missing
+-- A long name that is not to be created is missing.
 pub opens_long : by example (open_file (replicate 256 97) for_reading) ≡ (status SSH_FX_NO_SUCH_FILE, example)
 unfolding components
 opens_long = refl

@@ -1,7 +1,7 @@
--- What stands in a list.
+-- Membership in a list.
 use Rattle.std.specs.Prelude.{◌≡◌, ◌⊎◌, List, [], ◌∷◌}
 
--- the value stands in the list
-abbrev pub Has : {X : Type 0} → List X → X → Type 0
-Has [] x = ⊥
-Has (y ∷ ys) x = (y ≡ x) ⊎ Has ys x
+-- The value is in the list.
+abbrev pub HasEntry : {X : Type 0} → List X → X → Type 0
+HasEntry [] x = ⊥
+HasEntry (y ∷ ys) x = (y ≡ x) ⊎ HasEntry ys x

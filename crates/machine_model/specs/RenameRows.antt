@@ -1,4 +1,4 @@
--- Worked examples of the tree's answers to requests that move a name, and beside each what nearly is one.
+-- Worked examples of the tree's replies to requests that move a name, each beside a case that nearly is one.
 use Rattle.std.specs.Prelude.{◌≡◌, List, [], ◌∷◌, codes, refl, replicate, ◌+◌}
 use Rattle.sftp_model.specs.declared.request.Request.TheVariants as request
 use Rattle.machine_model.specs.declared.node.Node.TheVariants as node
@@ -33,7 +33,7 @@ pub renames : by example (request.Rename (codes "g") (codes "d/g"))
 unfolding components
 renames = refl
 
--- a directory moves with all beneath it
+-- A directory moves with everything beneath it.
 pub renames_directory : by example (request.Rename (codes "d") (codes "e"))
     ≡ (
       status SSH_FX_OK,
@@ -91,7 +91,7 @@ pub replaces : by example (request.PosixRename (codes "g") (codes "d/f"))
 unfolding components
 replaces = refl
 
--- the file that was replaced lives on while it is open
+-- The file that was replaced continues to exist while it is open.
 pub replaces_open : by (with_open ((7 ∷ [], held_by for_reading 0) ∷ []))
     (request.PosixRename (codes "g") (codes "d/f"))
     ≡ (

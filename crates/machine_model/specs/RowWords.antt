@@ -1,4 +1,4 @@
--- The words that worked examples of the server of files in memory are written with.
+-- Abbreviations for worked examples of the server of files in memory.
 use Rattle.std.specs.Prelude.{ℕ, ◌+◌, List, [], ◌∷◌, codes, Some, None, if◌then◌else◌}
 use Rattle.ssh_encoding.specs.Writing.{uint32}
 use Rattle.sftp_model.specs.declared.config.Choice.{Choice}
@@ -30,7 +30,7 @@ use Rattle.sftp_model.specs.Numbers.{
   COPY_DATA,
 }
 
--- the flags of an OPEN
+-- The flags of an OPEN.
 abbrev pub for_reading : ℕ
 for_reading = SSH_FXF_READ
 
@@ -58,7 +58,7 @@ exclusive = SSH_FXF_WRITE + SSH_FXF_EXCL
 abbrev pub creating_new : ℕ
 creating_new = SSH_FXF_WRITE + SSH_FXF_CREAT + SSH_FXF_EXCL
 
--- a server that offers these extensions
+-- A server that offers these extensions.
 abbrev pub every_extension : ℕ
 every_extension = POSIX_RENAME + FSYNC + EXPAND_PATH + COPY_DATA
 
@@ -68,7 +68,7 @@ config bits = record { extensions = record { 0 = bits }; limits = None; cut = 0 
 abbrev pub choice : ℕ → ℕ → Choice
 choice refuse cap = record { refuse = refuse; cap = cap }
 
--- the answer to a request by a server with all extensions, whose next handle is 9
+-- The reply to a request by a server with all extensions, whose next handle is 9.
 abbrev pub by : FileTree → Request → Answer
 by tree r = apply tree (config every_extension) r (choice 0 0) (9 ∷ [])
 
@@ -84,7 +84,7 @@ of_directory = record { size = None; id = None; permissions = Some 16877; time =
 abbrev pub entry : List ℕ → FileAttrs → NameEntry
 entry name attrs = record { filename = name; longname = []; attrs = attrs }
 
--- a tree of the directory d with the file f, and the file g beside it
+-- A tree of the directory d with the file f, and the file g beside it.
 abbrev pub d : Name
 d = codes "d" ∷ []
 
@@ -103,11 +103,11 @@ example_files = codes "hello" ∷ codes "xy" ∷ []
 abbrev pub example : FileTree
 example = record { names = example_names; files = example_files; handles = [] }
 
--- the same with what is open
+-- The same tree with these open handles.
 abbrev pub with_open : List (List ℕ × Opened) → FileTree
 with_open handles = record { names = example_names; files = example_files; handles = handles }
 
--- ---- one request after another, by the choices and with the handles 0, 1, 2 and so on, as four bytes
+-- ---- One request after another, by the choices and with the handles 0, 1, 2 and so on, as four bytes
 
 abbrev pub first_of_choices : List Choice → Choice
 first_of_choices [] = choice 0 0

@@ -38,7 +38,7 @@ a = codes "a" ∷ []
 abbrev b : Name
 b = codes "b" ∷ []
 
--- the handles of the first two grants
+-- The handles of the first two grants.
 abbrev h0 : List ℕ
 h0 = 0 ∷ 0 ∷ 0 ∷ 0 ∷ []
 
@@ -50,7 +50,7 @@ pub opens_missing : in_turn (config 0) none 0 [] (open_file (codes "b") for_read
 unfolding components uint32
 opens_missing = refl
 
--- a whole file by READs of two bytes, each of which the cap cuts to one
+-- A whole file by READs of two bytes, each of which the cap reduces to one.
 pub reads_capped : in_turn (config 0) (files_of ((a, node.File 0) ∷ []) (codes "hello" ∷ [])) 0
     (choice 0 0 ∷ replicate 5 (choice 0 1))
     (open_file (codes "a") for_reading ∷ request.Read h0 0 2 ∷ request.Read h0 1 2 ∷ request.Read h0 2 2 ∷ request.Read
@@ -72,14 +72,14 @@ pub reads_whole : in_turn (config 0) (files_of ((a, node.File 0) ∷ []) (codes 
 unfolding components uint32
 reads_whole = refl
 
--- a write that goes past the limit is refused, and the file that was made stays
+-- A write that goes past the limit is refused, and the file that was created stays.
 pub writes_far : in_turn (config 0) none 0 [] (open_file (codes "a") creating ∷ request.Write h0 18446744073709551614
     (1 ∷ []) ∷ request.Close h0 ∷ [])
     ≡ (reply.Handle h0 ∷ status SSH_FX_FAILURE ∷ status SSH_FX_OK ∷ [], files_of ((a, node.File 0) ∷ []) ([] ∷ []))
 unfolding components uint32
 writes_far = refl
 
--- a file is written in two parts, moved and read
+-- A file is written in two parts, moved and read.
 pub moves : in_turn (config 0) none 0 [] (
     open_file (codes "a") replacing ∷ request.Write h0 0 (codes "he") ∷ request.Write h0 2 (codes "llo") ∷ request.Close
     h0 ∷ request.Stat (codes "a")
@@ -94,7 +94,7 @@ pub moves : in_turn (config 0) none 0 [] (
 unfolding components uint32
 moves = refl
 
--- a refused write leaves its gap to the next one
+-- A refused write leaves its gap to the next one.
 pub writes_gap : in_turn (config 0) none 0 (choice 0 0 ∷ choice 0 0 ∷ choice 4 0 ∷ [])
     (open_file (codes "a") creating ∷ request.Write h0 0 (codes "0123") ∷ request.Write h0 4 (codes "4567") ∷
     request.Write h0 8 (codes "89") ∷ request.Close h0 ∷ [])
@@ -115,7 +115,7 @@ pub copies : in_turn (config COPY_DATA) (files_of ((a, node.File 0) ∷ []) (cod
 unfolding components uint32
 copies = refl
 
--- a directory that is there isn't made again; it is listed to its end
+-- An existing directory is not created again; it is listed to its end.
 abbrev with_b : FileTree
 with_b = files_of ((a, node.Directory) ∷ (codes "a" ∷ codes "b" ∷ [], node.File 0) ∷ []) ((1 ∷ []) ∷ [])
 
@@ -129,7 +129,7 @@ pub lists : in_turn (config 0) with_b 0 [] (request.Mkdir (codes "a") no_attribu
 unfolding components uint32
 lists = refl
 
--- what an OPENDIR found stays, whatever happens to the directory
+-- The entries that an OPENDIR found stay, whatever happens to the directory.
 pub lists_as_opened : in_turn (config 0) with_b 0 (choice 0 0 ∷ [])
     (request.Opendir (codes "a") ∷ request.Setstat (codes "a/b") (sized 3) ∷ request.Mkdir (codes "a/c") no_attributes ∷
     request.Readdir h0 ∷ request.Readdir h0 ∷ request.Close h0 ∷ [])
@@ -153,7 +153,7 @@ pub makes_and_takes : in_turn (config 0) none 0 [] (
 unfolding components uint32 string reply_body attributes
 makes_and_takes = refl
 
--- a handle outlives its file's name, and a new file under the name is another one
+-- A handle outlives its file's name, and a new file under the name is another one.
 pub outlives : in_turn (config 0) (files_of ((a, node.File 0) ∷ []) (codes "ab" ∷ [])) 0 []
     (open_file (codes "a") for_both ∷ request.Remove (codes "a") ∷ open_file (codes "a") creating ∷ request.Write h1 0
     (codes "c") ∷ request.Read h0 0 9 ∷ request.Close h0 ∷ request.Close h1 ∷ [])

@@ -1,4 +1,4 @@
--- Worked examples of what is a tree, and beside it what nearly is one.
+-- Worked examples of trees, each beside a case that nearly is one.
 use Rattle.std.specs.Prelude.{ℕ, ◌≡◌, true, false, List, [], ◌∷◌, codes, Some, None, refl}
 use Rattle.sftp_model.specs.declared.reply.NameEntry.{NameEntry}
 use Rattle.sftp_model.specs.Frames.{no_attributes}
@@ -8,7 +8,7 @@ use Rattle.machine_model.specs.Trees.{IsTree, ListOnce}
 use Rattle.machine_model.specs.declared.node.Node.{Node}
 use Rattle.machine_model.specs.declared.node.Node.TheVariants as node
 
--- files and directories by these names, and nothing else
+-- Files and directories by these names, and nothing else.
 abbrev named : List (Name × Node) → FileTree
 named names = record { names = names; files = [] ∷ []; handles = [] }
 
@@ -21,26 +21,26 @@ ab = codes "a" ∷ codes "b" ∷ []
 pub nothing_is_a_tree : IsTree (named [])
 nothing_is_a_tree = record { once = tt; rootless = refl; parents = refl }
 
--- a file in a directory; the parent needn't stand before it
+-- A file in a directory; the parent need not come before it.
 pub file_in_a_directory : IsTree (named ((ab, node.File 0) ∷ (a, node.Directory) ∷ []))
 file_in_a_directory = record { once = (refl, (refl, tt)); rootless = refl; parents = refl }
 
--- a name twice
+-- A name twice.
 pub twice_is_no_tree : IsTree (named ((a, node.Directory) ∷ (a, node.File 0) ∷ [])) → ⊥
 twice_is_no_tree tree = absurd (let both : Some (node.File 0) ≡ None = tree.once.0 in cc)
 
--- the root among the names
+-- The root among the names.
 pub root_is_no_tree : IsTree (named (([], node.Directory) ∷ [])) → ⊥
 root_is_no_tree tree = absurd (let both : Some node.Directory ≡ None = tree.rootless in cc)
 
--- a parent that is missing, and one that is a file
+-- A parent that is missing, and one that is a file.
 pub next_due_is_no_tree : IsTree (named ((ab, node.File 0) ∷ [])) → ⊥
 next_due_is_no_tree tree = absurd (let both : false ≡ true = tree.parents in cc)
 
 pub in_a_file_is_no_tree : IsTree (named ((a, node.File 0) ∷ (ab, node.Directory) ∷ [])) → ⊥
 in_a_file_is_no_tree tree = absurd (let both : false ≡ true = tree.parents in cc)
 
--- ---- listings
+-- ---- Listings
 
 abbrev entry : List ℕ → NameEntry
 entry filename = record { filename = filename; longname = []; attrs = no_attributes }

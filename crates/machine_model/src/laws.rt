@@ -1,4 +1,4 @@
-//! Laws of the definitions. The functions do nothing: what they ensure holds of all values.
+//! Laws of the definitions. The functions do nothing: what they ensure holds for all values.
 ghost use Rattle.std.specs.Prelude.{◌≡◌, ◌≢◌, ◌<◌, ◌≤◌, ◌⊎◌, ℕ, List, None, Some, false, length, true};
 ghost use Rattle.sftp_model.specs.Answers.{MayAnswer, is_handle, IsAfterHello};
 ghost use Rattle.sftp_model.specs.Fits.{FitsHandle, FitsNumber, FitsReply};
@@ -12,7 +12,7 @@ ghost use Rattle.machine_model.specs.Components.{Name, is_within};
 ghost use Rattle.machine_model.specs.FileTree.{FileTree, node_at, opened_at};
 ghost use Rattle.machine_model.specs.FirstTree.{FirstFile, first_tree, may_begin};
 ghost use Rattle.machine_model.specs.FitTrees.{GivesWithin, IsFit};
-ghost use Rattle.machine_model.specs.HandleRequests.{capped};
+ghost use Rattle.machine_model.specs.HandleRequests.{capped_at};
 ghost use Rattle.machine_model.specs.NameRequests.{entries_at};
 ghost use Rattle.machine_model.specs.Refusals.{KeepsWhereRefused};
 ghost use Rattle.machine_model.specs.TreeAnswers.{apply};
@@ -20,7 +20,7 @@ ghost use Rattle.machine_model.specs.Trees.{IsTree, ListOnce};
 ghost use Rattle.machine_model.specs.declared.node.Node.TheVariants as node;
 ghost use Rattle.machine_model.specs.declared.node.Node.{Node};
 
-/// The reply to any request but the hello may answer it, and a request that is refused changes nothing.
+/// The reply to any request except the hello may answer it, and a request that is refused changes nothing.
 pub fn replies_may_answer()
     ensures allowed { (tree : FileTree) (config : ServerConfig) (r : Request) (choice : Choice)
         (handle : List ℕ) → IsAfterHello r → MayAnswer r (apply tree config r choice handle).0 }
@@ -29,50 +29,50 @@ pub fn replies_may_answer()
         (apply tree config r choice handle).1 }
 {}
 
-/// Each request leaves what one of the changes leaves to which it may lead, and it is answered by a HANDLE, the
-/// one that was to be granted, exactly where that change grants one.
+/// Each request makes one of the changes to which it may lead. The reply is a HANDLE, with the handle that was to be
+/// granted, exactly if that change grants one.
 pub fn answers_leave_changes()
     ensures { (tree : FileTree) (config : ServerConfig) (r : Request) (choice : Choice)
         (handle : List ℕ) → LeavesChanged tree r handle (apply tree config r choice handle) }
 {}
 
-/// Where each file has a number that one name has at most, this stays so.
+/// If each file has a number that at most one name has, this stays so.
 pub fn trees_stay_well_formed()
     ensures { (tree : FileTree) (config : ServerConfig) (r : Request) (choice : Choice)
         (handle : List ℕ) → IsWellFormed tree → IsWellFormed (apply tree config r choice handle).1 }
 {}
 
-/// Where files and names are within their bounds, this stays so.
+/// If files and names are within their bounds, this stays so.
 pub fn trees_stay_fit()
     ensures { (tree : FileTree) (config : ServerConfig) (r : Request) (choice : Choice)
         (handle : List ℕ) → IsFit tree → IsFit (apply tree config r choice handle).1 }
 {}
 
-/// What a server may begin with is within its bounds: no file and no name's last component is too long.
+/// A tree that a server may start with is within its bounds: no file and no name's last component is too long.
 pub fn first_trees_are_fit()
     ensures { (files : List FirstFile) (dirs : List (List ℕ)) → may_begin files dirs ≡ true
         → IsFit (first_tree files dirs) }
 {}
 
-/// Where each name stands once and beneath a directory, this stays so.
+/// If each name occurs once and beneath a directory, this stays so.
 pub fn trees_stay_trees()
     ensures { (tree : FileTree) (config : ServerConfig) (r : Request) (choice : Choice)
         (handle : List ℕ) → IsTree tree → IsTree (apply tree config r choice handle).1 }
 {}
 
-/// What a server may begin with is a tree: each name stands once, and beneath a directory.
+/// A tree that a server may start with is a tree: each name occurs once, and beneath a directory.
 pub fn first_trees_are_trees()
     ensures { (files : List FirstFile) (dirs : List (List ℕ)) → may_begin files dirs ≡ true
         → IsTree (first_tree files dirs) }
 {}
 
-/// In what a server may begin with, each file has a number, which one name has at most.
+/// In a tree that a server may start with, each file has a number, which at most one name has.
 pub fn first_trees_are_well_formed()
     ensures { (files : List FirstFile) (dirs : List (List ℕ)) → may_begin files dirs ≡ true
         → IsWellFormed (first_tree files dirs) }
 {}
 
-/// In a tree, each name within which another one stands is a directory's.
+/// In a tree, each name within which another one lies is a directory's.
 pub fn prefixes_are_directories()
     ensures { (tree : FileTree) (directory name : Name) (n : Node) → IsTree tree
         → is_within directory name ≡ true → directory ≢ name → node_at tree name ≡ Some n
@@ -84,8 +84,8 @@ pub fn listings_name_each_once()
     ensures { (tree : FileTree) (name : Name) → IsTree tree → ListOnce (entries_at tree name) }
 {}
 
-/// The reply fits a frame, and its body is within the bound, where the tree is within its bounds and the handle,
-/// the choice and a READ's length fit.
+/// The reply fits a frame, and its body is within the bound, if the tree is within its bounds and the handle, the
+/// choice and a READ's length fit.
 pub fn replies_fit_frames()
     ensures fits { (tree : FileTree) (config : ServerConfig) (r : Request) (choice : Choice)
         (handle : List ℕ) → IsFit tree → FitsHandle handle → FitsNumber choice.refuse
@@ -96,7 +96,7 @@ pub fn replies_fit_frames()
         → length (reply_body (apply tree config r choice handle).0 id) ≤ MAX_BODY_LEN }
 {}
 
-/// A handle that is not open is open after a request only where the request was granted it.
+/// A handle that is not open is open after a request only if the request was granted it.
 pub fn handles_open_where_granted()
     ensures { (tree : FileTree) (config : ServerConfig) (r : Request) (choice : Choice)
         (handle key : List ℕ) → opened_at tree key ≡ None
@@ -112,7 +112,7 @@ pub fn files_open_by_opens()
         → HasOpen (apply tree config r choice handle).1 h file → HasOpen tree h file }
 {}
 
-/// A choice can make a DATA and a NAME of any length that its row of the definition lets it have.
+/// A choice can make a DATA and a NAME of any length that its row of the definition allows.
 pub fn replies_of_any_length()
-    ensures { (cap most : ℕ) → 0 < cap → cap ≤ most → capped cap most ≡ cap }
+    ensures { (cap most : ℕ) → 0 < cap → cap ≤ most → capped_at cap most ≡ cap }
 {}

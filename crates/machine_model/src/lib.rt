@@ -1,6 +1,6 @@
-//! Files and directories in memory, as an SFTP version 3 server answers requests on them
-//! (draft-ietf-secsh-filexfer-02, sections 6 and 7): what each request is answered and what it leaves. The
-//! definitions stand in `specs/`, beside worked examples; this crate has no code but two enums.
+//! Files and directories in memory, as an SFTP version 3 server serves them (draft-ietf-secsh-filexfer-02, sections 6
+//! and 7): the reply to each request, and the tree after it. The definitions are in `specs/`, beside worked examples.
+//! This crate has no code except two enums.
 #![tactic(auto)]
 
 mod laws;

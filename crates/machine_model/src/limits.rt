@@ -1,6 +1,6 @@
 //! The bounds of a server in memory.
 //!
-//! What each has to be is said once more in `specs/Limits.antt`: a wrong one here is refused by the proofs.
+//! Each bound is stated again in `specs/Limits.antt`: the proofs fail for a wrong one here.
 
 /// The greatest length of a name's component, in bytes.
 pub const MAX_COMPONENT_LEN: usize = 255;

@@ -1,4 +1,7 @@
-/// What a name has.
+//! The files and directories of names.
+/// The file or directory of a name.
+///
+/// Used in `crates/machine_tree/src/order.rt`.
 #[derive(Clone, Copy, Debug, PartialEq, Eq)]
 pub enum Node {
     /// A directory.

@@ -1,7 +1,7 @@
-pub mod WalkLaws
+mod WalkLaws
 pub mod OrderLaws
 pub mod PathLaws
-pub mod FileLaws
-pub mod WayLaws
+mod FileLaws
+mod WayLaws
 pub mod NumberLaws
-pub mod SortedLaws
+mod SortedLaws

@@ -1,14 +1,14 @@
--- Looking through names by their number.
+-- Lookups of names by their number.
 use Rattle.std.specs.Prelude.{ℕ, ◌-◌, ◌==◌, Bool, not, List, [], ◌∷◌, Option, Some, None, if◌then◌else◌}
 use Rattle.machine_model.specs.Components.{Name}
 use Rattle.machine_model.specs.declared.node.Node.{Node}
 use Rattle.machine_model.specs.Listing.{is_file}
 
--- a file, or a directory
+-- True for a file, or for a directory.
 abbrev pub is_of_kind : Bool → Node → Bool
 is_of_kind files n = if files then is_file n else not (is_file n)
 
--- number k of those of the kind, counted from 0
+-- Number k of those of the kind, counted from 0.
 abbrev pub nth_of_kind : Bool → List (Name × Node) → ℕ → Option (Name × Node)
 nth_of_kind files [] k = None
 nth_of_kind files (pair ∷ pairs) k =

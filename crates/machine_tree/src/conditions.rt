@@ -1,4 +1,4 @@
-// What a server may begin with.
+//! Checks of the files and directories that a server may start with.
 ghost use Rattle.std.specs.Prelude.{◌≡◌, ◌&&◌, ◌-◌, ◌^◌, map, length, min, nat_le, IfOk};
 ghost use Rattle.std.specs.List.{list_all, list_any, sum_by};
 ghost use Rattle.machine_model.specs.Components.{components as components_by, is_within as is_within_by, same_name};
@@ -12,12 +12,19 @@ use sftp_values::{ByteText, Items};
 use ssh_encoding::OutOfMemory;
 use std::alloc::Global;
 
-/// Whether a server may begin with these files, each a path and its bytes, and these directories, each a path. It
-/// answers false where a file has more than `MAX_FILE_LEN` bytes, or all together more than `MAX_TOTAL_LEN`; where a
-/// path denotes the root, or a component of its name has more than `MAX_COMPONENT_LEN` bytes; where two files or two
-/// directories have one name; and where a directory has a file's name, or something stands within a file. A directory
-/// may be given or come as a parent, so its own parents needn't be given. Refused only for want of memory; nothing is
-/// left of it then.
+/// Returns true if a server may start with these files, each a path and its bytes, and these directories, each a path.
+/// A directory may be listed or come as a parent, so its own parents need not be listed.
+///
+/// It returns false in each of these cases:
+///
+/// - A file has more than `MAX_FILE_LEN` bytes, or all together have more than `MAX_TOTAL_LEN`.
+/// - A path denotes the root, or a component of its name has more than `MAX_COMPONENT_LEN` bytes.
+/// - Two files or two directories have one name.
+/// - A directory has a file's name, or a name lies within a file's.
+///
+/// # Errors
+///
+/// `OutOfMemory` if an allocation fails; nothing remains of the check then.
 pub fn may_begin(
     alloc: Global,
     files: &[(ByteText, ByteText)],
@@ -30,7 +37,7 @@ pub fn may_begin(
     Ok(may_hold(files) && may_hold_all(files) && may_stand(&file_names, &dir_names))
 }
 
-/// The names of files.
+/// Returns the names of files. Fails only if an allocation fails.
 fn file_names(
     alloc: Global,
     files: &[(ByteText, ByteText)],
@@ -44,7 +51,7 @@ fn file_names(
     Ok(names)
 }
 
-/// Whether each of these files may have its bytes.
+/// Returns true if each of these files is within the limit of one file.
 fn may_hold(files: &[(ByteText, ByteText)]) -> bool
     ensures { result ≡ list_all may_hold_by files.now }
 {
@@ -53,14 +60,14 @@ fn may_hold(files: &[(ByteText, ByteText)]) -> bool
         .all(|file| file.1.as_slice().len() as u64 <= MAX_FILE_LEN)
 }
 
-/// Whether these files together may have their bytes.
+/// Returns true if these files together are within their limit.
 fn may_hold_all(files: &[(ByteText, ByteText)]) -> bool
     ensures { result ≡ may_hold_all_by files.now }
 {
     total_len(files) <= MAX_TOTAL_LEN
 }
 
-/// How many bytes these files have; where they are more than a number can say, the greatest one.
+/// Returns the number of bytes of these files, or the greatest number if there are more.
 fn total_len(files: &[(ByteText, ByteText)]) -> u64
     ensures { result ≡ min (sum_by (λ file. length file.1) files.now) (2 ^ 64 - 1) }
 {
@@ -71,7 +78,7 @@ fn total_len(files: &[(ByteText, ByteText)]) -> u64
     sum
 }
 
-/// Whether these may be the names of files and of directories.
+/// Returns true if these may be the names of files and of directories.
 fn may_stand(files: &[Items<ByteText>], dirs: &[Items<ByteText>]) -> bool
     ensures { result ≡ (list_all may_be_named_by files.now && list_all may_be_named_by dirs.now
         && differ_by dirs.now && stand_apart_by files.now && leave_room_by files.now dirs.now) }
@@ -83,21 +90,21 @@ fn may_stand(files: &[Items<ByteText>], dirs: &[Items<ByteText>]) -> bool
         && leave_room(files, dirs)
 }
 
-/// Whether each of these names may be one of a file or a directory.
+/// Returns true if each of these names may be one of a file or a directory.
 fn may_be_named_all(names: &[Items<ByteText>]) -> bool
     ensures { result ≡ list_all may_be_named_by names.now }
 {
     names.iter().all(|name| may_be_named(name.as_slice()))
 }
 
-/// Whether a name isn't the root, and none of its components is too long.
+/// Returns true if a name is not the root, and none of its components is too long.
 fn may_be_named(name: &[ByteText]) -> bool
     ensures { result ≡ may_be_named_by name.now }
 {
     !name.is_empty() && are_short(name)
 }
 
-/// Whether none of these components is too long.
+/// Returns true if none of these components is too long.
 fn are_short(parts: &[ByteText]) -> bool
     ensures { result ≡ list_all (λ part. nat_le (length part) MAX_COMPONENT_LEN) parts.now }
 {
@@ -106,7 +113,7 @@ fn are_short(parts: &[ByteText]) -> bool
         .all(|part| part.as_slice().len() <= MAX_COMPONENT_LEN)
 }
 
-/// Whether no two of these names are the same.
+/// Returns true if no two of these names are the same.
 fn differ(names: &[Items<ByteText>]) -> bool
     ensures { result ≡ differ_by names.now }
 {
@@ -124,14 +131,14 @@ fn differ(names: &[Items<ByteText>]) -> bool
     }
 }
 
-/// Whether a name is one of these.
+/// Returns true if a name is one of these.
 fn is_among(name: &[ByteText], names: &[Items<ByteText>]) -> bool
     ensures { result ≡ list_any (same_name name.now) names.now }
 {
     names.iter().any(|other| name == other.as_slice())
 }
 
-/// Whether of each two of these names neither is the other's or stands within it.
+/// Returns true if of each two of these names neither is the same as the other or lies within it.
 fn stand_apart(names: &[Items<ByteText>]) -> bool
     ensures { result ≡ stand_apart_by names.now }
 {
@@ -149,28 +156,28 @@ fn stand_apart(names: &[Items<ByteText>]) -> bool
     }
 }
 
-/// Whether a name is apart from each of these.
+/// Returns true if a name is apart from each of these.
 fn is_apart(name: &[ByteText], names: &[Items<ByteText>]) -> bool
     ensures { result ≡ list_all (are_apart_by name.now) names.now }
 {
     names.iter().all(|other| are_apart(name, other.as_slice()))
 }
 
-/// Whether neither of two names is the other's or stands within it.
+/// Returns true if neither of two names is the same as the other or lies within it.
 fn are_apart(a: &[ByteText], b: &[ByteText]) -> bool
     ensures { result ≡ are_apart_by a.now b.now }
 {
     !(is_within(a, b) || is_within(b, a))
 }
 
-/// Whether no directory has a file's name or stands within it.
+/// Returns true if no directory has a file's name or lies within it.
 fn leave_room(files: &[Items<ByteText>], dirs: &[Items<ByteText>]) -> bool
     ensures { result ≡ leave_room_by files.now dirs.now }
 {
     files.iter().all(|file| !has_within(file.as_slice(), dirs))
 }
 
-/// Whether one of these names is the given one or stands within it.
+/// Returns true if one of these names is the given one or lies within it.
 fn has_within(name: &[ByteText], names: &[Items<ByteText>]) -> bool
     ensures { result ≡ list_any (is_within_by name.now) names.now }
 {

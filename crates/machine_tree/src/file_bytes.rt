@@ -1,12 +1,14 @@
-// The bytes of a file.
+//! The bytes of a file.
 ghost use Rattle.std.specs.Prelude.{◌≡◌, List, ℕ, ◌+◌, ◌≤◌, ◌<◌, ◌^◌, [], length, slice_index_or, slice_set, OnOk, OnErr};
-ghost use Rattle.machine_model.specs.FileTree.{put as put_by, resized};
+ghost use Rattle.machine_model.specs.FileTree.{written_at as put_by, resized_bytes};
 
 use ssh_encoding::OutOfMemory;
 use std::alloc::Global;
 use std::marker::Model;
 
-/// The bytes of a file, which grow and are cut in place. A contract sees them as their list.
+/// The bytes of a file, which grow and are truncated in place. A contract sees them as their list.
+///
+/// Used in `crates/machine_answers/src/commit.rt`.
 #[derive(Drop)]
 pub struct FileBytes {
     bytes: Vec<u8>,
@@ -21,34 +23,42 @@ impl Model for FileBytes {
 }
 
 impl FileBytes {
-    /// The bytes of a vector. Takes no memory.
+    /// Creates it from the bytes of a vector. Does not allocate.
     pub fn new(bytes: Vec<u8>) -> FileBytes
         ensures { result ≡ bytes.items }
     {
         FileBytes { bytes }
     }
 
-    /// The bytes.
+    /// Returns the bytes.
     pub fn as_slice(&self) -> &[u8]
         ensures { result.now ≡ self.now }
     {
         self.bytes.as_slice()
     }
 
-    /// It is cut to a size, or filled up with zeros. An Err comes only for want of memory, and it stays.
+    /// Truncates the bytes to a size, or fills them up with zeros.
+    ///
+    /// # Errors
+    ///
+    /// `OutOfMemory` if an allocation fails; the bytes are unchanged.
     pub fn resize(&mut self, size: usize) -> Result<(), OutOfMemory>
-        ensures ok { OnOk result (self.new ≡ resized size self.old) }
-        ensures err { OnErr result (self.new ≡ self.old) }
+        ensures ok { OnOk result (self.new ≡ resized_bytes size self.old) }
+        ensures unchanged { OnErr result (self.new ≡ self.old) }
     {
         self.bytes.resize(size, 0)?;
         Ok(())
     }
 
-    /// A piece is written at an offset; zeros fill a gap. An Err comes only for want of memory, and it stays.
+    /// Writes a piece at an offset; zeros fill a gap.
+    ///
+    /// # Errors
+    ///
+    /// `OutOfMemory` if an allocation fails; the bytes are unchanged.
     pub fn put(&mut self, offset: usize, piece: &[u8]) -> Result<(), OutOfMemory>
         requires { offset + length piece.now < 2 ^ 63 }
         ensures ok { OnOk result (self.new ≡ put_by self.old offset piece.now) }
-        ensures err { OnErr result (self.new ≡ self.old) }
+        ensures unchanged { OnErr result (self.new ≡ self.old) }
     {
         let end = offset + piece.len();
         if end <= self.bytes.len() {
@@ -62,7 +72,7 @@ impl FileBytes {
     }
 }
 
-/// A piece is written over what is there.
+/// Writes a piece over existing bytes.
 fn overwrite(bytes: &mut Vec<u8>, offset: usize, piece: &[u8])
     requires { offset + length piece.now ≤ length bytes.old.items }
     ensures { bytes.new.items ≡ put_by bytes.old.items offset piece.now }
@@ -70,8 +80,11 @@ fn overwrite(bytes: &mut Vec<u8>, offset: usize, piece: &[u8])
     bytes[offset..offset + piece.len()].copy_from_slice(piece);
 }
 
-/// A piece is written to the file of a number, at an offset; zeros fill a gap, and where there is no such file, nothing
-/// changes. An Err comes only for want of memory, and the files stay.
+/// Writes a piece to the file of a number, at an offset; zeros fill a gap. If there is no such file, nothing changes.
+///
+/// # Errors
+///
+/// `OutOfMemory` if an allocation fails; `files` is unchanged.
 #[tactic(auto, using(crate::proofs::FileLaws::set_past))]
 pub fn put_in(
     files: &mut Vec<FileBytes>,
@@ -82,7 +95,7 @@ pub fn put_in(
     requires { offset + length piece.now < 2 ^ 63 }
     ensures left { OnOk result (files.new.items ≡ slice_set files.old.items file
         (put_by (slice_index_or files.old.items file []) offset piece.now)) }
-    ensures kept { OnErr result (files.new.items ≡ files.old.items) }
+    ensures unchanged { OnErr result (files.new.items ≡ files.old.items) }
 {
     if file >= files.len() as u64 {
         return Ok(());
@@ -90,13 +103,16 @@ pub fn put_in(
     files[file as usize].put(offset as usize, piece)
 }
 
-/// The file of a number is cut to a size, or filled up with zeros; where there is none, nothing changes. An Err comes only
-/// for want of memory, and the files stay.
+/// Truncates the file of a number to a size, or fills it up with zeros. If there is no such file, nothing changes.
+///
+/// # Errors
+///
+/// `OutOfMemory` if an allocation fails; `files` is unchanged.
 #[tactic(auto, using(crate::proofs::FileLaws::set_past))]
 pub fn resize_in(files: &mut Vec<FileBytes>, file: u64, size: u64) -> Result<(), OutOfMemory>
     ensures left { OnOk result (files.new.items ≡ slice_set files.old.items file
-        (resized size (slice_index_or files.old.items file []))) }
-    ensures kept { OnErr result (files.new.items ≡ files.old.items) }
+        (resized_bytes size (slice_index_or files.old.items file []))) }
+    ensures unchanged { OnErr result (files.new.items ≡ files.old.items) }
 {
     if file >= files.len() as u64 {
         return Ok(());
@@ -104,7 +120,7 @@ pub fn resize_in(files: &mut Vec<FileBytes>, file: u64, size: u64) -> Result<(),
     files[file as usize].resize(size as usize)
 }
 
-/// The file of a number is emptied; where there is none, nothing changes.
+/// Truncates the file of a number to no bytes. If there is no such file, nothing changes.
 #[tactic(auto, using(crate::proofs::FileLaws::set_past))]
 pub fn empty_in(alloc: Global, files: &mut Vec<FileBytes>, file: u64)
     ensures { files.new.items ≡ slice_set files.old.items file [] }

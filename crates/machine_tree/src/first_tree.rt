@@ -1,7 +1,7 @@
-// The names and files that a server begins with.
+//! The names and files that a server starts with.
 ghost use Rattle.std.specs.Prelude.{◌≡◌, ◌++◌, [], map, IfOk, OnOk};
 ghost use Rattle.machine_model.specs.Components.{components as components_by, parent_of};
-ghost use Rattle.machine_model.specs.FirstTree.{first_directories, has_name as has_name_by, name_of as name_by, numbered, with_directories, with_directory, with_way};
+ghost use Rattle.machine_model.specs.FirstTree.{first_directories, has_name as has_name_by, name_of as name_by, numbered_files, with_directories, with_directory, with_way};
 
 use crate::file_bytes::FileBytes;
 use crate::names::Names;
@@ -11,14 +11,18 @@ use sftp_values::{ByteText, Items};
 use ssh_encoding::OutOfMemory;
 use std::alloc::Global;
 
-/// The names of these files, each a path and its bytes, of these directories, each a path, and of the parents of all. The
-/// files are numbered in their order. Refused only for want of memory; nothing is left of it then.
+/// Returns the names of these files, each a path and its bytes, of these directories, each a path, and of the parents
+/// of all. The files are numbered in their order.
+///
+/// # Errors
+///
+/// `OutOfMemory` if an allocation fails; nothing remains of the names then.
 pub fn first_names(
     alloc: Global,
     files: &[(ByteText, ByteText)],
     dirs: &[ByteText],
 ) -> Result<Names, OutOfMemory>
-    ensures { IfOk result (λ names. names ≡ first_directories files.now dirs.now ++ numbered 0 files.now) }
+    ensures { IfOk result (λ names. names ≡ first_directories files.now dirs.now ++ numbered_files 0 files.now) }
 {
     let mut wanted = names_of(alloc, dirs)?;
     add_parents(alloc, &mut wanted, files)?;
@@ -28,7 +32,7 @@ pub fn first_names(
     Ok(names)
 }
 
-/// The names that paths denote.
+/// Returns the names that paths denote. Fails only if an allocation fails.
 pub(crate) fn names_of(
     alloc: Global,
     paths: &[ByteText],
@@ -42,7 +46,7 @@ pub(crate) fn names_of(
     Ok(names)
 }
 
-/// Adds the directories right above files.
+/// Adds the directories directly above files.
 fn add_parents(
     alloc: Global,
     names: &mut Vec<Items<ByteText>>,
@@ -56,7 +60,7 @@ fn add_parents(
     Ok(())
 }
 
-/// The name right above the one that a path denotes; the root's is the root.
+/// Returns the name directly above the one that a path denotes; the root's is the root.
 fn parent(alloc: Global, path: &[u8]) -> Result<Items<ByteText>, OutOfMemory>
     ensures { IfOk result (λ name. name ≡ parent_of (components_by path.now)) }
 {
@@ -65,7 +69,7 @@ fn parent(alloc: Global, path: &[u8]) -> Result<Items<ByteText>, OutOfMemory>
     Ok(Items::new(parts))
 }
 
-/// Adds directories, each with its parents, where their names aren't there.
+/// Adds directories, each with its parents, if their names do not exist.
 fn add_directories(
     alloc: Global,
     names: &mut Names,
@@ -81,7 +85,7 @@ fn add_directories(
     Ok(())
 }
 
-/// Adds the directories that one passes from the root to a name, the last one too.
+/// Adds the directories passed from the root to a name, including the last one.
 #[tactic(auto, using(crate::proofs::WayLaws::way_step))]
 fn add_way(alloc: Global, names: &mut Names, name: &[ByteText]) -> Result<(), OutOfMemory>
     ensures { OnOk result (names.new ≡ with_way names.old [] name.now) }
@@ -94,7 +98,7 @@ fn add_way(alloc: Global, names: &mut Names, name: &[ByteText]) -> Result<(), Ou
     Ok(())
 }
 
-/// Adds a directory, where its name isn't there.
+/// Adds a directory, if its name does not exist.
 fn add_directory(alloc: Global, names: &mut Names, name: &[ByteText]) -> Result<(), OutOfMemory>
     ensures { OnOk result (names.new ≡ with_directory names.old name.now) }
 {
@@ -106,7 +110,7 @@ fn add_directory(alloc: Global, names: &mut Names, name: &[ByteText]) -> Result<
     names.push(TreeName::new(alloc, parts)?, Node::Directory)
 }
 
-/// Whether a name is there.
+/// Returns true if a name exists.
 fn has_name(pairs: &[(TreeName, Node)], name: &[ByteText]) -> bool
     ensures { result ≡ has_name_by pairs.now name.now }
 {
@@ -119,7 +123,7 @@ fn add_files(
     names: &mut Names,
     files: &[(ByteText, ByteText)],
 ) -> Result<(), OutOfMemory>
-    ensures { OnOk result (names.new ≡ names.old ++ numbered 0 files.now) }
+    ensures { OnOk result (names.new ≡ names.old ++ numbered_files 0 files.now) }
 {
     let mut number = 0u64;
     let mut rest = files;
@@ -132,8 +136,11 @@ fn add_files(
     Ok(())
 }
 
-/// A copy of the bytes of each of these files, each a path and its bytes, in their order. Refused only for want of memory;
-/// nothing is left of it then.
+/// Returns a copy of the bytes of each of these files, each a path and its bytes, in their order.
+///
+/// # Errors
+///
+/// `OutOfMemory` if an allocation fails; nothing remains of the copies then.
 pub fn first_contents(
     alloc: Global,
     files: &[(ByteText, ByteText)],

@@ -1,5 +1,5 @@
 //! The files and directories of a server in memory, by their names, with their bytes and the handles that are open,
-//! without requests. What these lists are is defined in `machine_model`.
+//! without requests. The lists are defined in `machine_model`.
 #![tactic(auto)]
 
 mod conditions;

@@ -1,7 +1,7 @@
-// Names where one is moved.
+//! The names after one of them is moved.
 ghost use Rattle.std.specs.Prelude.{◌≡◌, ◌++◌, map, IfOk, OnOk};
 ghost use Rattle.machine_model.specs.Components.{moved_name, same_name};
-ghost use Rattle.machine_model.specs.FileTree.{without};
+ghost use Rattle.machine_model.specs.FileTree.{without_key};
 
 use crate::lookups::{is_within, name_index};
 use crate::names::Names;
@@ -11,8 +11,11 @@ use sftp_values::ByteText;
 use ssh_encoding::OutOfMemory;
 use std::alloc::Global;
 
-/// The names, where the old one and all within it have become what they are within the new one. Refused only for want of
-/// memory; nothing is left of it then.
+/// Returns the names, with the old one and all within it moved to the new one.
+///
+/// # Errors
+///
+/// `OutOfMemory` if an allocation fails; nothing remains of the names then.
 pub fn moved_names(
     alloc: Global,
     pairs: &[(TreeName, Node)],
@@ -27,7 +30,11 @@ pub fn moved_names(
     Ok(names)
 }
 
-/// The same, where what had the new name is gone.
+/// Returns the same names, without the first that had the new name.
+///
+/// # Errors
+///
+/// `OutOfMemory` if an allocation fails; nothing remains of the names then.
 pub fn names_but(
     alloc: Global,
     pairs: &[(TreeName, Node)],
@@ -35,7 +42,7 @@ pub fn names_but(
     to: &[ByteText],
 ) -> Result<Names, OutOfMemory>
     ensures { IfOk result (λ names. names
-        ≡ map (λ pair. (moved_name old.now to.now pair.0, pair.1)) (without same_name pairs.now to.now)) }
+        ≡ map (λ pair. (moved_name old.now to.now pair.0, pair.1)) (without_key same_name pairs.now to.now)) }
 {
     let Some(index) = name_index(pairs, to) else {
         return moved_names(alloc, pairs, old, to);
@@ -47,7 +54,7 @@ pub fn names_but(
     Ok(names)
 }
 
-/// Adds what names become.
+/// Adds the new forms of names.
 fn add_moved(
     alloc: Global,
     names: &mut Names,
@@ -65,7 +72,7 @@ fn add_moved(
     Ok(())
 }
 
-/// What a name becomes where one is moved.
+/// Returns the new form of a name if one is moved.
 fn moved(
     alloc: Global,
     name: &[ByteText],

@@ -1,4 +1,4 @@
-// Names by their number, and how many of them have a file or a directory.
+//! Names by their number, and the counts of files and of directories.
 ghost use Rattle.std.specs.Prelude.{◌≡◌, filter, length};
 ghost use Rattle.std.specs.Option.{option_copied};
 ghost use Rattle.machine_model.specs.Listing.{has_directory, has_file, is_file as is_file_by};
@@ -7,7 +7,7 @@ ghost use Rattle.machine_tree.specs.Places.{is_of_kind as is_of_kind_by, nth_of_
 use crate::tree_name::TreeName;
 use machine_model::Node;
 
-/// Name number `k` of those with files, or of those with directories, counted from 0.
+/// Returns name number `k` of those with files, or of those with directories, counted from 0.
 pub fn nth_of_kind(pairs: &[(TreeName, Node)], files: bool, k: u64) -> Option<&(TreeName, Node)>
     ensures { option_copied result ≡ nth_by files pairs.now k }
 {
@@ -29,14 +29,14 @@ pub fn nth_of_kind(pairs: &[(TreeName, Node)], files: bool, k: u64) -> Option<&(
     }
 }
 
-/// Whether it is a file, or a directory.
+/// Returns true for a file if `files` is true, and for a directory otherwise.
 fn is_of_kind(node: Node, files: bool) -> bool
     ensures { result ≡ is_of_kind_by files node }
 {
     if files { is_file(node) } else { !is_file(node) }
 }
 
-/// Whether it is a file.
+/// Returns true if it is a file.
 fn is_file(node: Node) -> bool
     ensures { result ≡ is_file_by node }
 {
@@ -46,7 +46,7 @@ fn is_file(node: Node) -> bool
     }
 }
 
-/// How many of these names have a file.
+/// Returns how many of these names have a file.
 pub fn count_files(pairs: &[(TreeName, Node)]) -> u64
     ensures { result ≡ length (filter has_file pairs.now) }
 {
@@ -59,7 +59,7 @@ pub fn count_files(pairs: &[(TreeName, Node)]) -> u64
     count
 }
 
-/// How many of these names have a directory.
+/// Returns how many of these names have a directory.
 pub fn count_directories(pairs: &[(TreeName, Node)]) -> u64
     ensures { result ≡ length (filter has_directory pairs.now) }
 {

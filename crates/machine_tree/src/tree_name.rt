@@ -1,8 +1,8 @@
-// Names of files and directories.
+//! Names of files and directories.
 ghost use Rattle.std.specs.Prelude.{◌≡◌, ◌++◌, List, ℕ, IfOk, OnOk, drop};
 ghost use Rattle.std.specs.List.{flat_map};
-ghost use Rattle.machine_model.specs.Components.{components as components_by, entered, parent_of, Name, written as written_by};
-ghost use Rattle.machine_tree.specs.Names.{slashed};
+ghost use Rattle.machine_model.specs.Components.{components as components_by, step_into, parent_of, Name, text_of_name as written_by};
+ghost use Rattle.machine_tree.specs.Names.{with_slash_before};
 
 use sftp_model::TryCopy;
 use sftp_values::{ByteText, Items};
@@ -11,6 +11,8 @@ use std::alloc::Global;
 use std::marker::Model;
 
 /// The name of a file or a directory: its components. A contract sees it as their list.
+///
+/// Example: `crates/test_machine/src/paths.rt`.
 #[derive(Debug, Drop)]
 pub struct TreeName {
     parts: Vec<ByteText>,
@@ -21,17 +23,21 @@ pub struct TreeName {
 impl Model for TreeName {
     ghost use Rattle.std.specs.Prelude.{◌≡◌, List, ℕ};
     ghost use Rattle.std.specs.List.{flat_map};
-    ghost use Rattle.machine_tree.specs.Names.{slashed};
+    ghost use Rattle.machine_tree.specs.Names.{with_slash_before};
 
     ghost Value = { List (List ℕ) };
 
     ghost view = { λ n. n.parts.items };
 
-    ghost invariant = { λ n. n.text ≡ flat_map slashed n.parts.items };
+    ghost invariant = { λ n. n.text ≡ flat_map with_slash_before n.parts.items };
 }
 
 impl TreeName {
-    /// The name with these components. Refused only for want of memory.
+    /// Creates the name with these components.
+    ///
+    /// # Errors
+    ///
+    /// `OutOfMemory` if an allocation fails.
     pub fn new(alloc: Global, parts: Vec<ByteText>) -> Result<TreeName, OutOfMemory>
         ensures { IfOk result (λ n. n ≡ parts.items) }
     {
@@ -39,21 +45,21 @@ impl TreeName {
         Ok(TreeName { parts, text })
     }
 
-    /// Its components.
+    /// Returns its components.
     pub fn parts(&self) -> &[ByteText]
         ensures { result.now ≡ self.now }
     {
         self.parts.as_slice()
     }
 
-    /// Its components with a slash between each two; nothing for the root.
+    /// Returns its components with a slash between each two; no bytes for the root.
     pub fn written(&self) -> &[u8]
         ensures { result.now ≡ written_by self.now }
     {
         unslashed(self.text.as_slice())
     }
 
-    /// The components of its parent; the root's is the root.
+    /// Returns the components of its parent; the root's is the root.
     pub fn parent_parts(&self) -> &[ByteText]
         ensures { result.now ≡ parent_of self.now }
     {
@@ -61,7 +67,7 @@ impl TreeName {
         &self.parts[..count]
     }
 
-    /// Its parent as it is written.
+    /// Returns its parent as it is written.
     pub fn parent_written(&self) -> &[u8]
         ensures { result.now ≡ written_by (parent_of self.now) }
     {
@@ -75,9 +81,9 @@ impl TreeName {
         }
     }
 
-    /// Each component with a slash before it.
+    /// Returns each component with a slash before it.
     pub fn text(&self) -> &[u8]
-        ensures { result.now ≡ flat_map slashed self.now }
+        ensures { result.now ≡ flat_map with_slash_before self.now }
     {
         self.text.as_slice()
     }
@@ -106,9 +112,9 @@ pub(crate) fn add_copies(
     Ok(())
 }
 
-/// The text without its first byte.
+/// Returns the text without its first byte.
 fn unslashed(text: &[u8]) -> &[u8]
-    ensures { (name : Name) → text.now ≡ flat_map slashed name → result.now ≡ written_by name }
+    ensures { (name : Name) → text.now ≡ flat_map with_slash_before name → result.now ≡ written_by name }
 {
     match text {
         [] => &[],
@@ -116,9 +122,9 @@ fn unslashed(text: &[u8]) -> &[u8]
     }
 }
 
-/// Each component with a slash before it.
+/// Returns each component with a slash before it. Fails only if an allocation fails.
 fn written(alloc: Global, parts: &[ByteText]) -> Result<Vec<u8>, OutOfMemory>
-    ensures { IfOk result (λ text. text.items ≡ flat_map slashed parts.now) }
+    ensures { IfOk result (λ text. text.items ≡ flat_map with_slash_before parts.now) }
 {
     let mut text = Vec::new(alloc);
     for part in parts {
@@ -128,16 +134,20 @@ fn written(alloc: Global, parts: &[ByteText]) -> Result<Vec<u8>, OutOfMemory>
     Ok(text)
 }
 
-/// The components of the name that a path denotes (draft-ietf-secsh-filexfer-02, section 6.2): it is split at each
-/// slash and walked from the root; empty components and `.` are dropped, and `..` leads up. The root has none.
-/// Refused only for want of memory; nothing is left of it then.
+/// Returns the components of the name that a path denotes (draft-ietf-secsh-filexfer-02, section 6.2). The path is
+/// split at each slash and walked from the root. Empty components and `.` are dropped, and `..` leads up. The root has
+/// none.
+///
+/// # Errors
+///
+/// `OutOfMemory` if an allocation fails; nothing remains of the components then.
 pub fn components(alloc: Global, path: &[u8]) -> Result<Items<ByteText>, OutOfMemory>
     ensures { IfOk result (λ parts. parts ≡ components_by path.now) }
 {
     Ok(Items::new(walk(alloc, path)?))
 }
 
-// The same as a vector.
+// Returns the same as a vector.
 #[tactic(auto, unfolding(machine_model::specs::Components::components))]
 pub(crate) fn walk(alloc: Global, path: &[u8]) -> Result<Vec<ByteText>, OutOfMemory>
     ensures { IfOk result (λ parts. parts.items ≡ components_by path.now) }
@@ -160,9 +170,9 @@ const HERE: &[u8] = b".";
 
 const ABOVE: &[u8] = b"..";
 
-/// Goes where a part leads.
+/// Moves to the name that a part leads to.
 fn enter(at: &mut Vec<ByteText>, part: Vec<u8>) -> Result<(), OutOfMemory>
-    ensures { OnOk result (at.new.items ≡ entered at.old.items part.items) }
+    ensures { OnOk result (at.new.items ≡ step_into at.old.items part.items) }
 {
     if part.as_slice() == ABOVE {
         at.pop();

@@ -1,4 +1,14 @@
-pub mod DealtLaws
-pub mod TurnLaws
-pub mod PlaceLaws
-pub mod ParentLaws
+mod DealtLaws
+mod TurnLaws
+mod PlaceLaws
+mod ParentLaws
+mod WrittenLaws
+mod CutLaws
+mod ParentRunLaws
+mod AloneLaws
+pub mod CopyLaws
+mod WrittenLengths
+mod OrderLaws
+mod JobCalls
+mod RunParts
+pub mod GoodLaws

@@ -1,4 +1,4 @@
--- Worked lists of files: their lanes and turns, and what became of each file by its outcomes.
+-- Worked lists of files: their lanes and turns, and the result of each file by its outcomes.
 use Rattle.std.specs.Prelude.{◌≡◌, true, false, List, [], ◌∷◌, ◌++◌, codes, map, refl}
 use Rattle.sftp_model.specs.declared.error.Error.TheVariants as error
 use Rattle.sftp_model.specs.declared.outcome.Outcome.{Outcome}
@@ -14,7 +14,7 @@ use Rattle.mirror_jobs.specs.declared.job.Job.{Job}
 use Rattle.mirror_jobs.specs.declared.job.Job.TheVariants as job
 use Rattle.mirror_jobs.specs.declared.verdict.Verdict.TheVariants as verdict
 
--- ---- a file that goes up, and one that comes down
+-- ---- An upload and a download
 
 abbrev pub both_ways : List Job
 both_ways = job.Up (codes "a") (1 ∷ 2 ∷ 3 ∷ []) ∷ job.Down (codes "b") 9 ∷ []
@@ -31,7 +31,7 @@ pub both_lanes : lanes_of 2 both_ways
 unfolding components
 both_lanes = refl
 
--- in one lane they follow one another
+-- In one lane the two follow one another.
 pub one_lane : lanes_of 1 both_ways
     ≡ record { calls = [] }
     ∷ record {
@@ -52,14 +52,14 @@ pub both_text : verdict_lines both_ways (verdicts_of 2 both_ways both_outcomes) 
     ++ 10 ∷ codes "got 62 0203" ++ 10 ∷ []
 both_text = refl
 
--- by one lane
+-- The results with one lane.
 pub one_verdicts : verdicts_of 1 both_ways ([] ∷ (outcome.Done ∷ outcome.Bytes (1 ∷ 2 ∷ 3 ∷ []) ∷ outcome.GivenUp ∷ [])
     ∷ []) ≡ verdict.Copied ∷ verdict.GivenUp ∷ []
 one_verdicts = refl
 
--- ---- a refusal
+-- ---- A refusal
 
--- the write is refused, and so is the read behind it, for another reason
+-- The write is refused. The read after it is refused too, for another reason.
 pub refused : verdict_of (job.Up (codes "a") (1 ∷ [])) (outcome.Refused (error.SftpError 3 [] []) ∷ outcome.Refused
     (error.SftpError 2 [] []) ∷ []) ≡ verdict.Refused (error.SftpError 3 [] [])
 refused = refl
@@ -68,13 +68,13 @@ pub refused_text : verdict_lines (job.Up (codes "a") (1 ∷ []) ∷ []) (verdict
     ≡ codes "refused 61 sftp 3" ++ 10 ∷ []
 refused_text = refl
 
--- ---- what was read isn't what was written
+-- ---- The bytes read back differ from those written
 
 pub differs : verdict_of (job.Up (codes "a") (1 ∷ [])) (outcome.Done ∷ outcome.Bytes (1 ∷ 2 ∷ []) ∷ [])
     ≡ verdict.Differs
 differs = refl
 
--- ---- directories
+-- ---- Directories
 
 abbrev pub within_x : List Job
 within_x = job.Up (codes "x/y") (1 ∷ []) ∷ []
@@ -91,14 +91,14 @@ pub within_turns : turns_of 1 1 within_x ≡ turn.Step 0 ∷ turn.Flush ∷ turn
 unfolding components
 within_turns = refl
 
--- each path once, those of fewer components first, and then by bytes; a slash in front is kept
+-- Each path occurs once, those of fewer components first, and then by bytes. A leading slash is kept.
 pub in_order : map (λ d. d.path) (parents (job.Up (codes "/b/c/f") [] ∷ job.Up (codes "b/a/f") [] ∷ job.Up
     (codes "./b/c/g") [] ∷ job.Down (codes "e/f") 1 ∷ []))
     ≡ codes "/b" ∷ codes "b" ∷ codes "/b/c" ∷ codes "b/a" ∷ codes "b/c" ∷ []
 unfolding components
 in_order = refl
 
--- ---- lists of files that can't be copied together
+-- ---- Lists of files that can't be copied together
 
 pub one_within : are_ok (job.Up (codes "a") [] ∷ job.Down (codes "/a/b") 1 ∷ []) ≡ false
 unfolding components

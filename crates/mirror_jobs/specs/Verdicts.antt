@@ -1,4 +1,4 @@
--- What became of files that were copied, by the outcomes of the calls.
+-- The results of files that were copied, by the outcomes of the calls.
 use Rattle.std.specs.Prelude.{
   ℕ,
   suc,
@@ -25,30 +25,30 @@ use Rattle.std.specs.Str.{bytes_eq}
 use Rattle.sftp_model.specs.declared.error.Error.{Error}
 use Rattle.sftp_model.specs.declared.outcome.Outcome.{Outcome}
 use Rattle.sftp_model.specs.declared.outcome.Outcome.TheVariants as outcome
-use Rattle.sftp_text.specs.Texts.{hex_word, line, number_text, refusal_text}
-use Rattle.mirror_jobs.specs.JobLanes.{calls_of, dealt}
+use Rattle.script_text.specs.Texts.{hex_word, line, number_text, refusal_text}
+use Rattle.mirror_jobs.specs.JobLanes.{calls_of, jobs_of_lane}
 use Rattle.mirror_jobs.specs.Jobs.{path_of}
 use Rattle.mirror_jobs.specs.declared.job.Job.{Job}
 use Rattle.mirror_jobs.specs.declared.job.Job.TheVariants as job
 use Rattle.mirror_jobs.specs.declared.verdict.Verdict.{Verdict}
 use Rattle.mirror_jobs.specs.declared.verdict.Verdict.TheVariants as verdict
 
--- ---- one file, by the outcomes of its calls
+-- ---- One file, by the outcomes of its calls
 
--- the first refusal
+-- The first refusal.
 abbrev pub first_refusal : List Outcome → Option Error
 first_refusal [] = None
 first_refusal (outcome.Refused why ∷ outcomes) = Some why
 first_refusal (o ∷ outcomes) = first_refusal outcomes
 
--- a call reached its bound
+-- True if a call reached its bound.
 abbrev pub gave_up : List Outcome → Bool
 gave_up [] = false
 gave_up (outcome.GivenUp ∷ outcomes) = true
 gave_up (o ∷ outcomes) = gave_up outcomes
 
--- Where no call was refused and none reached its bound: a file that went up was written, and these bytes were read
--- back; one that came down has these bytes. Its calls have no other outcomes then.
+-- The result if no call was refused and none reached its bound. An upload was written, and these bytes were read back.
+-- A download has these bytes. Its calls have no other outcomes then.
 abbrev pub verdict_read : Job → List Outcome → Verdict
 verdict_read (job.Up name content) (outcome.Done ∷ outcome.Bytes bytes ∷ later) =
     if bytes_eq bytes content then verdict.Copied else verdict.Differs
@@ -61,38 +61,38 @@ verdict_by j (Some why) up outcomes = verdict.Refused why
 verdict_by j None true outcomes = verdict.GivenUp
 verdict_by j None false outcomes = verdict_read j outcomes
 
--- what became of a file
+-- The result of a file.
 abbrev pub verdict_of : Job → List Outcome → Verdict
 verdict_of j outcomes = verdict_by j (first_refusal outcomes) (gave_up outcomes) outcomes
 
--- ---- all files, by the outcomes of the lanes
+-- ---- All files, by the outcomes of the lanes
 
--- the lane of the file after these
+-- The lane of the file after these.
 abbrev pub lane_after : ℕ → List Job → ℕ
 lane_after width before = suc (length before % width)
 
--- the number of its first call there
+-- The number of its first call there.
 abbrev pub place_after : ℕ → List Job → ℕ
-place_after width before = length (flat_map calls_of (dealt width (length before % width) 0 before))
+place_after width before = length (flat_map calls_of (jobs_of_lane width (length before % width) 0 before))
 
--- the outcomes of its calls
+-- The outcomes of its calls.
 abbrev pub outcomes_after : ℕ → List Job → Job → List (List Outcome) → List Outcome
 outcomes_after width before j outcomes = take (length (calls_of j))
     (drop (place_after width before) (slice_index_or outcomes (lane_after width before) []))
 
--- what became of the files after these
+-- The results of the files after these.
 abbrev pub verdicts_after : ℕ → List Job → List Job → List (List Outcome) → List Verdict
 verdicts_after width before [] outcomes = []
 verdicts_after width before (j ∷ jobs) outcomes =
     verdict_of j (outcomes_after width before j outcomes) ∷ verdicts_after width (before ++ j ∷ []) jobs outcomes
 
--- what became of each file
+-- The result of each file.
 abbrev pub verdicts_of : ℕ → List Job → List (List Outcome) → List Verdict
 verdicts_of width jobs outcomes = verdicts_after width [] jobs outcomes
 
--- ---- text
+-- ---- Text
 
--- the words of what became of a file; its path is as it was given
+-- The words of a file's result. Its path is as it was given.
 abbrev pub verdict_text : Job → Verdict → List ℕ
 verdict_text j (verdict.Refused why) = codes "refused " ++ hex_word (path_of j) ++ refusal_text why
 verdict_text j verdict.GivenUp = codes "givenup " ++ hex_word (path_of j)
@@ -102,7 +102,7 @@ verdict_text (job.Up name content) verdict.Copied =
 verdict_text (job.Down name bound) verdict.Copied = codes "copied " ++ hex_word name
 verdict_text j (verdict.Got bytes) = codes "got " ++ hex_word (path_of j) ++ codes " " ++ hex_word bytes
 
--- a line for each file
+-- A line for each file.
 abbrev pub verdict_lines : List Job → List Verdict → List ℕ
 verdict_lines [] verdicts = []
 verdict_lines (j ∷ jobs) [] = []

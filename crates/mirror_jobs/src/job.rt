@@ -1,10 +1,13 @@
+//! The files to copy.
 use sftp_values::ByteText;
 
-/// One file that is to be copied.
+/// A file to copy.
+///
+/// Example: `crates/mirror_jobs/src/tests.rt`.
 #[derive(Debug, Drop, PartialEq, Eq)]
 pub enum Job {
-    /// To the server: the file at the path is made or emptied, written, and read back.
+    /// To the server: the file at the path is created or truncated, written, and read back.
     Up { name: ByteText, content: ByteText },
-    /// From the server: the file at the path is read, by at most `bound` READs that bring bytes.
+    /// From the server: the file at the path is read, by at most `bound` READs that return bytes.
     Down { name: ByteText, bound: u32 },
 }

@@ -13,7 +13,7 @@ use sftp_values::Items;
 use ssh_encoding::OutOfMemory;
 use std::alloc::Global;
 
-/// The lane that makes directories.
+/// Returns the lane that creates directories.
 fn mkdir_lane(alloc: Global, directories: &[Directory]) -> Result<Lane, OutOfMemory>
     ensures { IfOk result (λ lane. lane ≡ record { calls = map mkdir_call directories.now }) }
 {
@@ -27,7 +27,7 @@ fn mkdir_lane(alloc: Global, directories: &[Directory]) -> Result<Lane, OutOfMem
     })
 }
 
-/// The calls that copy a file come after others.
+/// Appends the calls that copy a file.
 fn push_calls(alloc: Global, job: &Job, calls: &mut Vec<Call>) -> Result<(), OutOfMemory>
     requires { is_bounded job.now ≡ true }
     ensures { OnOk result (calls.new.items ≡ calls.old.items ++ calls_of job.now) }
@@ -53,7 +53,7 @@ fn push_calls(alloc: Global, job: &Job, calls: &mut Vec<Call>) -> Result<(), Out
     }
 }
 
-/// Lane k of so many that copy.
+/// Returns lane k of `width` lanes that copy.
 fn copy_lane(alloc: Global, width: u32, jobs: &[Job], k: u32) -> Result<Lane, OutOfMemory>
     requires wide { 1 ≤ width }
     requires bounded { list_all is_bounded jobs.now ≡ true }
@@ -70,7 +70,7 @@ fn copy_lane(alloc: Global, width: u32, jobs: &[Job], k: u32) -> Result<Lane, Ou
     })
 }
 
-/// After the lane that makes directories: so many that copy.
+/// Appends `width` lanes that copy, after the lane that creates directories.
 fn push_copy_lanes(
     alloc: Global,
     width: u32,
@@ -88,8 +88,12 @@ fn push_copy_lanes(
     Ok(())
 }
 
-/// The lanes that copy files: lane 0 makes the directories that the files need, and the files are dealt out to the lanes
-/// from 1 to `width`. A file that goes up is written and then read back. Refused only for want of memory.
+/// Returns the lanes that copy files. Lane 0 creates the directories that the files need, and the files are dealt out
+/// to the lanes from 1 to `width`. An upload is written and then read back.
+///
+/// # Errors
+///
+/// `OutOfMemory` if an allocation fails.
 pub fn lanes_of(
     alloc: Global,
     width: u32,

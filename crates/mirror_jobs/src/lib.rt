@@ -1,4 +1,4 @@
-//! Copying a list of files: the lanes that copy them and the turns under which they go, and what became of each file by
+//! Copies of a list of files: the lanes that copy them, the turns under which they run, and the result of each file by
 //! the outcomes of its calls.
 #![tactic(auto)]
 
@@ -6,6 +6,7 @@ mod directories;
 mod directory;
 mod job;
 mod lanes;
+mod laws;
 #[cfg(test)]
 mod tests;
 mod text;
@@ -17,6 +18,7 @@ pub use directories::parents;
 pub use directory::Directory;
 pub use job::Job;
 pub use lanes::lanes_of;
+pub use laws::{copies_keep_files, good_files_are_copied, written_names_denote_themselves};
 pub use ssh_encoding::OutOfMemory;
 pub use text::write_verdicts;
 pub use turns::turns_for;

@@ -1,4 +1,4 @@
-//! A worked list of files: its directories, lanes, turns and verdicts, and their text.
+//! A test of a worked list of files: its directories, lanes, turns and verdicts, and their text.
 ghost use Rattle.std.specs.Prelude.{◌≡◌, true, IfOk};
 ghost use Rattle.std.specs.List.{list_all};
 ghost use Rattle.mirror_jobs.specs.Jobs.{is_bounded};
@@ -15,7 +15,7 @@ fn bytes_of(alloc: Global, text: &[u8]) -> Result<ByteText, OutOfMemory>
     Ok(ByteText::new(Vec::from_slice(alloc, text)?))
 }
 
-/// A file that goes up into a directory.
+/// Returns an upload into a directory.
 fn job(alloc: Global) -> Result<Job, OutOfMemory>
     ensures { IfOk result (λ j. is_bounded j ≡ true) }
 {
@@ -24,7 +24,7 @@ fn job(alloc: Global) -> Result<Job, OutOfMemory>
     Ok(Job::Up { name, content })
 }
 
-/// It was written, and read back.
+/// Returns the outcomes of a file that was written and read back.
 fn outcomes(alloc: Global) -> Result<Vec<Items<Outcome>>, OutOfMemory> {
     let mut own = Vec::new(alloc);
     own.push(Outcome::Done)?;
@@ -35,7 +35,7 @@ fn outcomes(alloc: Global) -> Result<Vec<Items<Outcome>>, OutOfMemory> {
     Ok(all)
 }
 
-/// The numbers of directories, lanes and turns, and the text.
+/// Returns the numbers of directories, lanes and turns, and appends the text.
 fn copied(
     alloc: Global,
     jobs: &[Job],
@@ -56,7 +56,7 @@ fn copied(
     ))
 }
 
-/// A file in a directory is copied by one lane, in one round.
+/// Checks that a file in a directory is copied by one lane, in one round.
 #[test]
 fn one_file(rt: HostRuntime) -> Result<(), Fail> {
     let job = job(rt.alloc())?;

@@ -1,19 +1,19 @@
-//! The lines of what became of files.
+//! The lines of the files' results.
 ghost use Rattle.std.specs.Prelude.{◌≡◌, ◌++◌, codes, OnErr, OnOk};
-ghost use Rattle.sftp_text.specs.Texts.{hex_word, line, refusal_text};
-ghost use Rattle.sftp_wire.specs.Body.{Grows};
+ghost use Rattle.script_text.specs.Texts.{hex_word, line, refusal_text};
+ghost use Rattle.sftp_wire.specs.Body.{AppendsBytes};
 ghost use Rattle.mirror_jobs.specs.Jobs.{path_of};
 ghost use Rattle.mirror_jobs.specs.declared.verdict.Verdict.TheVariants as verdict;
 ghost use Rattle.mirror_jobs.specs.Verdicts.{verdict_lines, verdict_text};
 
 use crate::job::Job;
 use crate::verdict::Verdict;
+use script_text::{put_bytes, put_number, put_refusal, put_word};
 use sftp_model::Error;
-use sftp_text::{put_bytes, put_number, put_refusal, put_word};
 use ssh_encoding::OutOfMemory;
 use std::alloc::Global;
 
-/// The path of a file on the server.
+/// Returns the path of a file on the server.
 fn path_of(job: &Job) -> &[u8]
     ensures { result.now ≡ path_of job.now }
 {
@@ -23,17 +23,17 @@ fn path_of(job: &Job) -> &[u8]
     }
 }
 
-/// A word, and after it the digits of a path.
+/// Appends a word, and the digits of a path after it.
 #[tactic(auto, using(sftp_wire::proofs::Puts::puts))]
 fn put_path(alloc: Global, word: &str, path: &[u8], out: &mut Vec<u8>) -> Result<(), OutOfMemory>
     ensures ok { OnOk result (out.new.items ≡ out.old.items ++ (word.now ++ hex_word path.now)) }
-    ensures grows { Grows out.old.items out.new.items }
+    ensures grows { AppendsBytes out.old.items out.new.items }
 {
     put_word(word, out)?;
     put_bytes(alloc, path, out)
 }
 
-/// The words of a file that was refused.
+/// Appends the words of a file that was refused.
 #[tactic(auto, using(sftp_wire::proofs::Puts::puts))]
 fn put_refused(
     alloc: Global,
@@ -42,17 +42,17 @@ fn put_refused(
     out: &mut Vec<u8>,
 ) -> Result<(), OutOfMemory>
     ensures ok { OnOk result (out.new.items ≡ out.old.items ++ (codes "refused " ++ hex_word path.now ++ refusal_text why.now)) }
-    ensures grows { Grows out.old.items out.new.items }
+    ensures grows { AppendsBytes out.old.items out.new.items }
 {
     put_path(alloc, "refused ", path, out)?;
     put_refusal(why, out)
 }
 
-/// The words of a file that was copied.
+/// Appends the words of a file that was copied.
 #[tactic(auto, using(sftp_wire::proofs::Puts::puts))]
 fn put_copied(alloc: Global, job: &Job, out: &mut Vec<u8>) -> Result<(), OutOfMemory>
     ensures ok { OnOk result (out.new.items ≡ out.old.items ++ verdict_text job.now verdict.Copied) }
-    ensures grows { Grows out.old.items out.new.items }
+    ensures grows { AppendsBytes out.old.items out.new.items }
 {
     match job {
         Job::Up { name, content } => {
@@ -64,18 +64,18 @@ fn put_copied(alloc: Global, job: &Job, out: &mut Vec<u8>) -> Result<(), OutOfMe
     }
 }
 
-/// The words of a file whose bytes were read.
+/// Appends the words of a file whose bytes were read.
 #[tactic(auto, using(sftp_wire::proofs::Puts::puts))]
 fn put_got(alloc: Global, path: &[u8], bytes: &[u8], out: &mut Vec<u8>) -> Result<(), OutOfMemory>
     ensures ok { OnOk result (out.new.items ≡ out.old.items ++ (codes "got " ++ hex_word path.now ++ codes " " ++ hex_word bytes.now)) }
-    ensures grows { Grows out.old.items out.new.items }
+    ensures grows { AppendsBytes out.old.items out.new.items }
 {
     put_path(alloc, "got ", path, out)?;
     put_word(" ", out)?;
     put_bytes(alloc, bytes, out)
 }
 
-/// The words of what became of a file.
+/// Appends the words of a file's result.
 #[tactic(auto, using(sftp_wire::proofs::Puts::puts))]
 fn put_verdict(
     alloc: Global,
@@ -84,7 +84,7 @@ fn put_verdict(
     out: &mut Vec<u8>,
 ) -> Result<(), OutOfMemory>
     ensures ok { OnOk result (out.new.items ≡ out.old.items ++ verdict_text job.now verdict.now) }
-    ensures grows { Grows out.old.items out.new.items }
+    ensures grows { AppendsBytes out.old.items out.new.items }
 {
     match verdict {
         Verdict::Refused(why) => put_refused(alloc, path_of(job), why, out),
@@ -95,7 +95,7 @@ fn put_verdict(
     }
 }
 
-/// The line of what became of a file.
+/// Appends the line of a file's result.
 #[tactic(auto, using(sftp_wire::proofs::Puts::puts))]
 fn put_line(
     alloc: Global,
@@ -104,13 +104,13 @@ fn put_line(
     out: &mut Vec<u8>,
 ) -> Result<(), OutOfMemory>
     ensures ok { OnOk result (out.new.items ≡ out.old.items ++ line (verdict_text job.now verdict.now)) }
-    ensures grows { Grows out.old.items out.new.items }
+    ensures grows { AppendsBytes out.old.items out.new.items }
 {
     put_verdict(alloc, job, verdict, out)?;
     put_word("\n", out)
 }
 
-/// The lines of what became of files.
+/// Appends the lines of the files' results.
 #[tactic(auto, using(sftp_wire::proofs::Puts::puts))]
 fn put_lines(
     alloc: Global,
@@ -119,7 +119,7 @@ fn put_lines(
     out: &mut Vec<u8>,
 ) -> Result<(), OutOfMemory>
     ensures ok { OnOk result (out.new.items ≡ out.old.items ++ verdict_lines jobs.now verdicts.now) }
-    ensures grows { Grows out.old.items out.new.items }
+    ensures grows { AppendsBytes out.old.items out.new.items }
 {
     let mut said = verdicts;
     let mut rest = jobs;
@@ -138,9 +138,12 @@ fn put_lines(
     }
 }
 
-/// Appends a line for each file: `refused` with its path and why, `givenup` or `differs` with its path, `copied` with
-/// its path and how many bytes it has, or `got` with its path and the bytes. Refused only for want of memory; `out` is
-/// unchanged then.
+/// Appends a line for each file: `refused` with its path and the reason, `givenup` or `differs` with its path, `copied`
+/// with its path and its size in bytes, or `got` with its path and the bytes.
+///
+/// # Errors
+///
+/// `OutOfMemory` if an allocation fails; `out` is unchanged.
 pub fn write_verdicts(
     alloc: Global,
     jobs: &[Job],
@@ -148,7 +151,7 @@ pub fn write_verdicts(
     out: &mut Vec<u8>,
 ) -> Result<(), OutOfMemory>
     ensures ok { OnOk result (out.new.items ≡ out.old.items ++ verdict_lines jobs.now verdicts.now) }
-    ensures err { OnErr result (out.new.items ≡ out.old.items) }
+    ensures unchanged { OnErr result (out.new.items ≡ out.old.items) }
 {
     let before = out.len();
     match put_lines(alloc, jobs, verdicts, out) {

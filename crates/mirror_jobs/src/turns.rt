@@ -1,14 +1,14 @@
 //! The turns under which files are copied.
 ghost use Rattle.std.specs.Prelude.{◌≡◌, ◌≤◌, ◌++◌, IfOk, OnOk, replicate};
 ghost use Rattle.session_model.specs.declared.turn.Turn.TheVariants as turn;
-ghost use Rattle.mirror_jobs.specs.JobLanes.{mkdir_turns, repeated, round, steps_from, turns_for};
+ghost use Rattle.mirror_jobs.specs.JobLanes.{mkdir_turns, repeat_turn, round, steps_from, turns_for};
 
 use session_model::Turn;
 use sftp_values::Items;
 use ssh_encoding::OutOfMemory;
 use std::alloc::Global;
 
-/// The turns for one directory.
+/// Appends the turns for one directory.
 fn push_mkdir(turns: &mut Vec<Turn>) -> Result<(), OutOfMemory>
     ensures { OnOk result (turns.new.items ≡ turns.old.items ++ mkdir_turns) }
 {
@@ -19,9 +19,9 @@ fn push_mkdir(turns: &mut Vec<Turn>) -> Result<(), OutOfMemory>
     Ok(())
 }
 
-/// The turns for so many directories.
+/// Appends the turns for this many directories.
 fn push_all_mkdirs(count: usize, turns: &mut Vec<Turn>) -> Result<(), OutOfMemory>
-    ensures { OnOk result (turns.new.items ≡ turns.old.items ++ repeated count mkdir_turns) }
+    ensures { OnOk result (turns.new.items ≡ turns.old.items ++ repeat_turn count mkdir_turns) }
 {
     for _k in 0..count {
         push_mkdir(turns)?;
@@ -29,7 +29,7 @@ fn push_all_mkdirs(count: usize, turns: &mut Vec<Turn>) -> Result<(), OutOfMemor
     Ok(())
 }
 
-/// A step of each lane that copies.
+/// Appends a step of each lane that copies.
 fn push_steps(width: u32, turns: &mut Vec<Turn>) -> Result<(), OutOfMemory>
     requires { width ≤ 64 }
     ensures { OnOk result (turns.new.items ≡ turns.old.items ++ steps_from 1 width) }
@@ -40,7 +40,7 @@ fn push_steps(width: u32, turns: &mut Vec<Turn>) -> Result<(), OutOfMemory>
     Ok(())
 }
 
-/// So many takes.
+/// Appends this many takes.
 fn push_takes(width: u32, turns: &mut Vec<Turn>) -> Result<(), OutOfMemory>
     ensures { OnOk result (turns.new.items ≡ turns.old.items ++ replicate width turn.Take) }
 {
@@ -50,7 +50,7 @@ fn push_takes(width: u32, turns: &mut Vec<Turn>) -> Result<(), OutOfMemory>
     Ok(())
 }
 
-/// A round of the lanes that copy.
+/// Appends a round of the lanes that copy.
 fn push_round(width: u32, turns: &mut Vec<Turn>) -> Result<(), OutOfMemory>
     requires { width ≤ 64 }
     ensures { OnOk result (turns.new.items ≡ turns.old.items ++ round width) }
@@ -60,10 +60,10 @@ fn push_round(width: u32, turns: &mut Vec<Turn>) -> Result<(), OutOfMemory>
     push_takes(width, turns)
 }
 
-/// So many rounds.
+/// Appends this many rounds.
 fn push_rounds(width: u32, rounds: u32, turns: &mut Vec<Turn>) -> Result<(), OutOfMemory>
     requires { width ≤ 64 }
-    ensures { OnOk result (turns.new.items ≡ turns.old.items ++ repeated rounds (round width)) }
+    ensures { OnOk result (turns.new.items ≡ turns.old.items ++ repeat_turn rounds (round width)) }
 {
     for _k in 0..rounds {
         push_round(width, turns)?;
@@ -71,9 +71,12 @@ fn push_rounds(width: u32, rounds: u32, turns: &mut Vec<Turn>) -> Result<(), Out
     Ok(())
 }
 
-/// The turns under which files are copied: for each of so many directories a step of lane 0, a flush, a take and a step,
-/// and then so many rounds of a step of each lane from 1 to `width`, a flush and as many takes. Refused only for want of
-/// memory.
+/// Returns the turns under which files are copied: for each of this many directories a step of lane 0, a flush, a take
+/// and a step. Then come `rounds` rounds of a step of each lane from 1 to `width`, a flush and `width` takes.
+///
+/// # Errors
+///
+/// `OutOfMemory` if an allocation fails.
 pub fn turns_for(
     alloc: Global,
     directories: usize,

@@ -1,4 +1,4 @@
-//! What became of files that were copied.
+//! The results of files that were copied.
 ghost use Rattle.std.specs.Prelude.{◌≡◌, ◌≤◌, [], IfOk, length, take, drop, slice_index_or};
 ghost use Rattle.mirror_jobs.specs.JobLanes.{calls_of};
 ghost use Rattle.mirror_jobs.specs.Verdicts.{first_refusal, gave_up, verdict_of, verdict_read, verdicts_of};
@@ -10,7 +10,7 @@ use sftp_values::Items;
 use ssh_encoding::OutOfMemory;
 use std::alloc::Global;
 
-/// The first refusal.
+/// Returns the first refusal.
 fn first_refusal(alloc: Global, outcomes: &[Outcome]) -> Result<Option<Error>, OutOfMemory>
     ensures { IfOk result (λ why. why ≡ first_refusal outcomes.now) }
 {
@@ -27,7 +27,7 @@ fn first_refusal(alloc: Global, outcomes: &[Outcome]) -> Result<Option<Error>, O
     }
 }
 
-/// Whether a call reached its bound.
+/// Returns true if a call reached its bound.
 fn gave_up(outcomes: &[Outcome]) -> bool
     ensures { result ≡ gave_up outcomes.now }
 {
@@ -41,7 +41,7 @@ fn gave_up(outcomes: &[Outcome]) -> bool
     }
 }
 
-/// Where no call was refused, and none reached its bound.
+/// Returns the result if no call was refused, and none reached its bound.
 fn verdict_read(alloc: Global, job: &Job, outcomes: &[Outcome]) -> Result<Verdict, OutOfMemory>
     ensures { IfOk result (λ verdict. verdict ≡ verdict_read job.now outcomes.now) }
 {
@@ -65,8 +65,12 @@ fn verdict_read(alloc: Global, job: &Job, outcomes: &[Outcome]) -> Result<Verdic
     }
 }
 
-/// What became of a file, by the outcomes of its calls: the first refusal, or that a call reached its bound, or that what
-/// was read back differs, or that it was copied, or the bytes that were read. Refused only for want of memory.
+/// Returns the result of a file, by the outcomes of its calls: the first refusal, or that a call reached its bound, or
+/// that the bytes read back differ, or that it was copied, or the bytes that were read.
+///
+/// # Errors
+///
+/// `OutOfMemory` if an allocation fails.
 pub fn verdict_of(alloc: Global, job: &Job, outcomes: &[Outcome]) -> Result<Verdict, OutOfMemory>
     ensures { IfOk result (λ verdict. verdict ≡ verdict_of job.now outcomes.now) }
 {
@@ -79,7 +83,7 @@ pub fn verdict_of(alloc: Global, job: &Job, outcomes: &[Outcome]) -> Result<Verd
     verdict_read(alloc, job, outcomes)
 }
 
-/// How many calls copy a file.
+/// Returns the number of calls that copy a file.
 fn count_of(job: &Job) -> usize
     ensures value { result ≡ length (calls_of job.now) }
     ensures few { result ≤ 2 }
@@ -90,7 +94,7 @@ fn count_of(job: &Job) -> usize
     }
 }
 
-/// So many outcomes from a place on.
+/// Returns `count` outcomes from a place on.
 fn outcomes_at(outcomes: &[Outcome], place: usize, count: usize) -> &[Outcome]
     ensures { result.now ≡ take count (drop place outcomes.now) }
 {
@@ -104,7 +108,7 @@ fn outcomes_at(outcomes: &[Outcome], place: usize, count: usize) -> &[Outcome]
     &rest[..count]
 }
 
-/// The outcomes of a lane, or none where there is no such lane.
+/// Returns the outcomes of a lane, or none if there is no such lane.
 fn outcomes_in(outcomes: &[Items<Outcome>], lane: usize) -> &[Outcome]
     ensures { result.now ≡ slice_index_or outcomes.now lane [] }
 {
@@ -114,8 +118,12 @@ fn outcomes_in(outcomes: &[Items<Outcome>], lane: usize) -> &[Outcome]
     }
 }
 
-/// What became of each file, by the outcomes of the lanes, whose first makes directories and whose others copy files that
-/// are dealt out to them. Refused only for want of memory.
+/// Returns the result of each file, by the outcomes of the lanes. The first lane creates directories, and the others
+/// copy the files that are dealt out to them.
+///
+/// # Errors
+///
+/// `OutOfMemory` if an allocation fails.
 pub fn verdicts_of(
     alloc: Global,
     width: u32,
@@ -125,7 +133,7 @@ pub fn verdicts_of(
     requires { 1 ≤ width }
     ensures { IfOk result (λ verdicts. verdicts ≡ verdicts_of width jobs.now outcomes.now) }
 {
-    // the place of the next file's first outcome in each lane
+    // The place of the next file's first outcome in each lane.
     let mut places = Vec::from_elem(alloc, 0usize, width as usize)?;
     let mut verdicts = Vec::with_capacity(alloc, jobs.len())?;
     for (i, job) in jobs.iter().enumerate() {

@@ -24,7 +24,8 @@ pub record MadeOf {A B : Type 0} (f : A → B) (xs : List A) (b : B) : Type 0 wh
 pub from_map : {A B : Type 0} (f : A → B) (b : B) (xs : List A) → Among b (map f xs) → MadeOf f xs b
 from_map f b [] h = absurd h
 from_map f b (y ∷ ys) (inl e) = record { of = y; there = inl refl; gives = e }
-from_map f b (y ∷ ys) (inr h) = let m : MadeOf f ys b = from_map f b ys h in record { of = m.of; there = inr m.there; gives = m.gives }
+from_map f b (y ∷ ys) (inr h) = let m : MadeOf f ys b = from_map f b ys h in
+    record { of = m.of; there = inr m.there; gives = m.gives }
 
 -- an element passes the test, and stands in the list
 pub from_filter : {A : Type 0} (t : A → Bool) (x : A) (xs : List A) → Among x (filter t xs) → Among x xs × (t x ≡ true)
@@ -41,7 +42,8 @@ pub into_filter : {A : Type 0} (t : A → Bool) (x : A) (xs : List A) → Among 
 into_filter t x [] h is = absurd h
 into_filter t x (y ∷ ys) h is = by_test (t y) refl h (λ k. into_filter t x ys k is)
   where
-    by_test : (b : Bool) → t y ≡ b → Among x (y ∷ ys) → (Among x ys → Among x (filter t ys)) → Among x (cond b (y ∷ filter t ys) (filter t ys))
+    by_test : (b : Bool) → t y ≡ b → Among x (y ∷ ys) → (Among x ys → Among x (filter t ys))
+        → Among x (cond b (y ∷ filter t ys) (filter t ys))
     by_test true at (inl e) later = inl e
     by_test true at (inr k) later = inr (later k)
     by_test false at (inl e) later = absurd (let z : true ≡ false = sym is ∙ ap t e ∙ at in cc)
@@ -94,20 +96,27 @@ pub least_among : (p : ℕ) (xs : List ℕ) → least xs ≡ Some p → Among p 
 least_among p [] e = absurd cc
 least_among p (x ∷ xs) e = by_rest (least xs) refl e (λ is. least_among p xs is)
   where
-    by_rest : (o : Option ℕ) → least xs ≡ o → lesser x o ≡ Some p → (least xs ≡ Some p → Among p xs) → (p ≡ x) ⊎ Among p xs
+    by_rest : (o : Option ℕ) → least xs ≡ o → lesser x o ≡ Some p → (least xs ≡ Some p → Among p xs) → (p ≡ x)
+        ⊎ Among p xs
     by_rest None is e later = inl (sym (some_is x p e))
     by_rest (Some q) is e later =
-        elim (min_is x q) [ inl a ↦ inl (sym (some_is (min x q) p e) ∙ a) | inr b ↦ inr (later (is ∙ ap (λ (n : ℕ). Some n) (sym b ∙ some_is (min x q) p e))) ]
+        elim (min_is x q) [
+          | inl a ↦ inl (sym (some_is (min x q) p e) ∙ a)
+          | inr b ↦
+              inr (later (is ∙ ap (λ (n : ℕ). Some n) (sym b ∙ some_is (min x q) p e)))
+        ]
 
 pub least_under : (p x : ℕ) (xs : List ℕ) → least xs ≡ Some p → Among x xs → p ≤ x
 least_under p x [] e h = absurd h
 least_under p x (y ∷ ys) e h = by_rest (least ys) refl e h (λ q is k. least_under q x ys is k)
   where
-    by_rest : (o : Option ℕ) → least ys ≡ o → lesser y o ≡ Some p → Among x (y ∷ ys) → ((q : ℕ) → least ys ≡ Some q → Among x ys → q ≤ x) → p ≤ x
+    by_rest : (o : Option ℕ) → least ys ≡ o → lesser y o ≡ Some p → Among x (y ∷ ys)
+        → ((q : ℕ) → least ys ≡ Some q → Among x ys → q ≤ x) → p ≤ x
     by_rest None is e (inl same) later = let a : y ≡ p = some_is y p e in omega (arith, a, same)
     by_rest None is e (inr k) later = absurd (least_there x ys k is)
     by_rest (Some q) is e (inl same) later = let a : min y q ≡ p = some_is (min y q) p e in omega (arith, a, same)
-    by_rest (Some q) is e (inr k) later = let a : min y q ≡ p = some_is (min y q) p e in let b : q ≤ x = later q is k in omega (arith, a, b)
+    by_rest (Some q) is e (inr k) later = let a : min y q ≡ p = some_is (min y q) p e in let b : q ≤ x = later q is k in
+        omega (arith, a, b)
 
 pub greatest_over : (x : ℕ) (xs : List ℕ) → Among x xs → x ≤ greatest xs
 greatest_over x [] h = absurd h
@@ -131,7 +140,8 @@ none_is p x (y ∷ ys) e h same = by_head (y == p) refl e h (λ none k. none_is 
     equal : y ≡ p → (y == p) ≡ true
     equal e = grind (arith, nat_tests)
 
-    by_head : (b : Bool) → (y == p) ≡ b → (b || list_any (λ z. z == p) ys) ≡ false → Among x (y ∷ ys) → (list_any (λ z. z == p) ys ≡ false → Among x ys → ⊥) → ⊥
+    by_head : (b : Bool) → (y == p) ≡ b → (b || list_any (λ z. z == p) ys) ≡ false → Among x (y ∷ ys)
+        → (list_any (λ z. z == p) ys ≡ false → Among x ys → ⊥) → ⊥
     by_head true is e h later = cc
     by_head false is e (inl k) later = let z : true ≡ false = sym (equal (sym k ∙ same)) ∙ is in cc
     by_head false is e (inr k) later = later e k
@@ -141,10 +151,13 @@ none_is p x (y ∷ ys) e h same = by_head (y == p) refl e h (λ none k. none_is 
 pub fewer : {A : Type 0} (narrow wide : A → Bool) (xs : List A)
     → ((x : A) → Among x xs → narrow x ≡ true → wide x ≡ true) → length (filter narrow xs) ≤ length (filter wide xs)
 fewer narrow wide [] h = omega arith
-fewer narrow wide (y ∷ ys) h = by_test (narrow y) (wide y) refl refl (h y (inl refl)) (fewer narrow wide ys (λ x k. h x (inr k)))
+fewer narrow wide (y ∷ ys) h = by_test (narrow y) (wide y) refl refl (h y (inl refl))
+    (fewer narrow wide ys (λ x k. h x (inr k)))
   where
-    by_test : (a b : Bool) → narrow y ≡ a → wide y ≡ b → (narrow y ≡ true → wide y ≡ true) → length (filter narrow ys) ≤ length (filter wide ys)
-        → length (cond a (y ∷ filter narrow ys) (filter narrow ys)) ≤ length (cond b (y ∷ filter wide ys) (filter wide ys))
+    by_test : (a b : Bool) → narrow y ≡ a → wide y ≡ b → (narrow y ≡ true → wide y ≡ true)
+        → length (filter narrow ys) ≤ length (filter wide ys)
+        → length (cond a (y ∷ filter narrow ys) (filter narrow ys)) ≤ length
+        (cond b (y ∷ filter wide ys) (filter wide ys))
     by_test true true is at up rest = omega (arith, rest)
     by_test true false is at up rest = absurd (let z : true ≡ false = sym (up is) ∙ at in cc)
     by_test false true is at up rest = omega (arith, rest)
@@ -163,7 +176,8 @@ fewer_by_one narrow wide (y ∷ ys) z there ins out h = by_test (narrow y) (wide
 
     by_test : (a b : Bool) → narrow y ≡ a → wide y ≡ b → (narrow y ≡ true → wide y ≡ true) → Among z (y ∷ ys)
         → (Among z ys → length (filter narrow ys) < length (filter wide ys))
-        → length (cond a (y ∷ filter narrow ys) (filter narrow ys)) < length (cond b (y ∷ filter wide ys) (filter wide ys))
+        → length (cond a (y ∷ filter narrow ys) (filter narrow ys)) < length
+        (cond b (y ∷ filter wide ys) (filter wide ys))
     by_test true true is at up (inl e) less = absurd (let c : true ≡ false = sym is ∙ ap narrow (sym e) ∙ out in cc)
     by_test true true is at up (inr k) less = omega (arith, less k)
     by_test true false is at up k less = absurd (let c : true ≡ false = sym (up is) ∙ at in cc)

@@ -22,7 +22,8 @@ use Rattle.plan_model.proofs.AskedReads.{whole_range, whole_work, may_oldest, ol
 pub asked_range : (c : Call) (site : Site) (facts : Facts) (past : Own) (answers : Answers) → FitsCall c
     → FitsFacts facts → IsCallSoFar c site facts past answers → WithinRange c site facts (oldest_first past) answers
 asked_range (call.FsRead path bound) site facts past answers fits k so_far =
-    whole_range path (Some bound) site facts past answers k.read_len.0 k.read_len.1 small (λ e. absurd cc) so_far.asked so_far.answered
+    whole_range path (Some bound) site facts past answers k.read_len.0 k.read_len.1 small (λ e. absurd cc) so_far.asked
+    so_far.answered
   where
     small : (made n : ℕ) → (let b : Option ℕ = Some bound in b) ≡ Some n → made < n + facts.read_window → made < 2 ^ 43
     small made n same few = let is : bound ≡ n = cc in let narrow : facts.read_window ≤ 64 = k.read_window.1 in
@@ -32,7 +33,8 @@ asked_range other site facts past answers fits k so_far = tt
 pub asked_good : (c : Call) (site : Site) (facts : Facts) (past : Own) (answers : Answers) → FitsCall c
     → FitsFacts facts → IsCallSoFar c site facts past answers
     → IsGood (situation c site facts (oldest_first past) answers) (next c site facts (oldest_first past) answers)
-asked_good c site facts past answers fits k so_far = next_good c site facts (oldest_first past) answers (asked_range c site facts past answers fits k so_far)
+asked_good c site facts past answers fits k so_far = next_good c site facts (oldest_first past) answers
+    (asked_range c site facts past answers fits k so_far)
 
 pub asked_may : (c : Call) (site : Site) (facts : Facts) (past : Own) (answers : Answers) (r : Request) → FitsCall c
     → FitsFacts facts → IsCallSoFar c site facts past answers → next c site facts (oldest_first past) answers ≡ Ask r
@@ -58,11 +60,15 @@ asked_work c site facts past answers fits k limits so_far =
       whole = λ path bound is. of_whole path bound is fits so_far;
     }))
   where
-    of_whole : (path : List ℕ) (bound : ℕ) → c ≡ call.FsRead path bound → FitsCall c → IsCallSoFar c site facts past answers
-        → AsksBelow (length (oldest_first past)) (bound + facts.read_window) (next c site facts (oldest_first past) answers)
+    of_whole : (path : List ℕ) (bound : ℕ) → c ≡ call.FsRead path bound → FitsCall c
+        → IsCallSoFar c site facts past answers
+        → AsksBelow (length (oldest_first past)) (bound + facts.read_window)
+        (next c site facts (oldest_first past) answers)
     of_whole path bound is fits so_far =
-        subst (λ (n : ℕ). AsksBelow n (bound + facts.read_window) (next c site facts (oldest_first past) answers)) (sym (oldest_length past))
-        (subst (λ (d : Call). AsksBelow (length past) (bound + facts.read_window) (next d site facts (oldest_first past) answers)) (sym is)
+        subst (λ (n : ℕ). AsksBelow n (bound + facts.read_window) (next c site facts (oldest_first past) answers))
+        (sym (oldest_length past))
+        (subst (λ (d : Call). AsksBelow (length past) (bound + facts.read_window)
+        (next d site facts (oldest_first past) answers)) (sym is)
         (whole_work path bound site facts past answers k.read_len.0 k.read_window.0
         (subst (λ (d : Call). AreAsked (next d site facts) past answers) is so_far.asked) so_far.answered))
 

@@ -16,13 +16,13 @@ use Rattle.sftp_model.specs.declared.slot.Move.TheVariants.{Ask, Wait, Done}
 use Rattle.sftp_model.specs.declared.slot.Site.{Site}
 use Rattle.sftp_model.specs.Answers.{MayAnswer}
 use Rattle.sftp_model.specs.Frames.{is_too_long}
-use Rattle.plan_model.specs.Moves.{Answers, Own, once_answered, on_handle, refuses}
+use Rattle.plan_model.specs.Moves.{Answers, Own, once_answered, on_handle, refuse_locally}
 use Rattle.plan_model.specs.PathPlans.{from_directory}
 use Rattle.plan_model.specs.FilePlans.{open_request}
 use Rattle.plan_model.specs.TransferPlans.{offset_asked}
 use Rattle.plan_model.specs.WindowPlans.{len_asked, answered_prefix, outside, window_next, to_read, fs_read_next}
 use Rattle.plan_model.specs.GoodMoves.{ReadsWithin}
-use Rattle.plan_model.specs.OwnRequests.{Extends, oldest_first, AreAsked, MayBeAnswered}
+use Rattle.plan_model.specs.OwnRequests.{ExtendsAnswers, oldest_first, AreAsked, MayBeAnswered}
 use Rattle.plan_model.specs.RequestCounts.{AsksBelow}
 use Rattle.plan_model.proofs.MoveLaws.{either}
 use Rattle.plan_model.proofs.Tiles.{FitsIn}
@@ -32,9 +32,13 @@ use Rattle.plan_model.proofs.OpenSteps.{windowed_added, asked_below}
 
 -- ---- replies that may answer
 
-may_earlier : (past : Own) (before answers : Answers) → Extends before answers → MayBeAnswered past answers → MayBeAnswered past before
+may_earlier : (past : Own) (before answers : Answers) → ExtendsAnswers before answers → MayBeAnswered past answers
+    → MayBeAnswered past before
 may_earlier [] before answers stays may = tt
-may_earlier (a ∷ past) before answers stays may = (by_answer (before a.0) refl, may_earlier past before answers stays may.1)
+may_earlier (a ∷ past) before answers stays may = (
+  by_answer (before a.0) refl,
+  may_earlier past before answers stays may.1,
+)
   where
     by_answer : (o : Option Reply) → before a.0 ≡ o → IfSome o (MayAnswer a.1)
     by_answer None is = tt
@@ -45,7 +49,8 @@ may_added : (a : ℕ × Request) (own : Own) (answers : Answers) → MayBeAnswer
 may_added a [] answers may new = (new, tt)
 may_added a (b ∷ own) answers may new = (may.0, may_added a own answers may.1 new)
 
-pub may_oldest : (past : Own) (answers : Answers) → MayBeAnswered past answers → MayBeAnswered (oldest_first past) answers
+pub may_oldest : (past : Own) (answers : Answers) → MayBeAnswered past answers
+    → MayBeAnswered (oldest_first past) answers
 may_oldest [] answers may = tt
 may_oldest (a ∷ past) answers may = may_added a (oldest_first past) answers (may_oldest past answers may.1) may.0
 
@@ -68,19 +73,22 @@ window_asked path bound site facts first reads answers r e = by_answer (answers 
     go : List ℕ → Move
     go handle = window_next handle bound reads (answered_prefix reads answers) (outside reads answers) site facts
 
-    by_answer : (o : Option Reply) → once_answered first.0 o (λ y. on_handle y site go) ≡ Ask r → WindowAsked bound reads answers facts r
+    by_answer : (o : Option Reply) → once_answered first.0 o (λ y. on_handle y site go) ≡ Ask r
+        → WindowAsked bound reads answers facts r
     by_answer None e = absurd cc
     by_answer (Some (reply.Handle handle)) e = record {
       handle = handle;
       asks =
           asking handle bound reads (answered_prefix reads answers) (outside reads answers) site facts r e;
     }
-    by_answer (Some (reply.Status code message language)) e = absurd (ends_no_ask (reply.Status code message language) site r e)
+    by_answer (Some (reply.Status code message language)) e = absurd
+        (ends_no_ask (reply.Status code message language) site r e)
     by_answer (Some (reply.Content bytes)) e = absurd (ends_no_ask (reply.Content bytes) site r e)
     by_answer (Some (reply.Names names)) e = absurd (ends_no_ask (reply.Names names) site r e)
     by_answer (Some (reply.Attrs attrs)) e = absurd (ends_no_ask (reply.Attrs attrs) site r e)
     by_answer (Some (reply.Extended content)) e = absurd (ends_no_ask (reply.Extended content) site r e)
-    by_answer (Some (reply.Version version extensions)) e = absurd (ends_no_ask (reply.Version version extensions) site r e)
+    by_answer (Some (reply.Version version extensions)) e = absurd
+        (ends_no_ask (reply.Version version extensions) site r e)
 
 -- the OPEN and the READs of a whole read that has asked
 pub record AskedReads (facts : Facts) (past : Own) (answers : Answers) : Type 0 where
@@ -104,7 +112,8 @@ asked_reads path bound site facts a (b ∷ past) answers one (before, earlier, i
     let m : AskedReads facts (b ∷ past) before = asked_reads path bound site facts b past before one earlier old in
     let are : oldest_first (a ∷ b ∷ past) ≡ m.first ∷ (m.reads ++ a ∷ []) = ap (λ (l : Own). l ++ a ∷ []) m.are in
     let w : WindowAsked bound m.reads before facts a.1 =
-    window_asked path bound site facts m.first m.reads before a.1 (subst (λ (l : Own). fs_read_next path bound site facts l before ≡ Ask a.1) m.are is) in
+    window_asked path bound site facts m.first m.reads before a.1
+    (subst (λ (l : Own). fs_read_next path bound site facts l before ≡ Ask a.1) m.are is) in
     let added : Windowed facts (length (b ∷ past) * facts.read_len + facts.read_len) (m.reads ++ a ∷ []) before =
     windowed_added w.handle bound facts (length (b ∷ past) * facts.read_len) a m.reads before none one
     (may_reads (b ∷ past) before m.first m.reads m.are old) m.window w.asks in
@@ -114,12 +123,14 @@ asked_reads path bound site facts a (b ∷ past) answers one (before, earlier, i
       are = are;
       window = windowed_later facts (length (a ∷ b ∷ past) * facts.read_len) (m.reads ++ a ∷ []) before answers stays
           (may_reads (a ∷ b ∷ past) answers m.first (m.reads ++ a ∷ []) are may)
-          (subst (λ (n : ℕ). Windowed facts n (m.reads ++ a ∷ []) before) (sym (suc-mul (length (b ∷ past)) facts.read_len)) added);
+          (subst (λ (n : ℕ). Windowed facts n (m.reads ++ a ∷ []) before)
+          (sym (suc-mul (length (b ∷ past)) facts.read_len)) added);
     }
 
 -- ---- what a whole read asks
 
-reads_within : (facts : Facts) (r : Request) → offset_asked 0 r + len_asked r < 2 ^ 64 → len_asked r ≤ facts.read_len → ReadsWithin facts (Ask r)
+reads_within : (facts : Facts) (r : Request) → offset_asked 0 r + len_asked r < 2 ^ 64 → len_asked r ≤ facts.read_len
+    → ReadsWithin facts (Ask r)
 reads_within facts (request.Read handle offset len) below le = (below, le)
 reads_within facts other below le = tt
 
@@ -139,7 +150,8 @@ read_asked path bound site facts a past answers r one asked may is =
     let w : WindowAsked bound m.reads answers facts r = window_asked path bound site facts m.first m.reads answers r
     (subst (λ (l : Own). fs_read_next path bound site facts l answers ≡ Ask r) m.are is) in
     let may_be : MayBeAnswered m.reads answers = may_reads (a ∷ past) answers m.first m.reads m.are may in
-    let f : FitsIn facts.read_len (length (a ∷ past) * facts.read_len) m.reads answers (offset_asked 0 r) (len_asked r) =
+    let f : FitsIn facts.read_len (length (a ∷ past) * facts.read_len) m.reads answers (offset_asked 0 r) (len_asked r)
+    =
     asked_fits w.handle bound facts (length (a ∷ past) * facts.read_len) m.reads answers r one may_be m.window w.asks in
     let all : length (oldest_first (a ∷ past)) ≡ suc (length m.reads) = ap length m.are in
     let same : length (oldest_first (a ∷ past)) ≡ suc (length past) = oldest_length (a ∷ past) in
@@ -176,12 +188,14 @@ pub whole_range : (path : List ℕ) (bound : Option ℕ) (site : Site) (facts : 
     → ReadsWithin facts (fs_read_next path bound site facts (oldest_first past) answers)
 whole_range path bound site facts [] answers one short small free asked may =
     either (ReadsWithin facts) (is_too_long (open_request to_read (from_directory site path)))
-    (refuses kind.PathTooLong site) (Ask (open_request to_read (from_directory site path))) (λ e. tt) (λ e. tt)
+    (refuse_locally kind.PathTooLong site) (Ask (open_request to_read (from_directory site path))) (λ e. tt) (λ e. tt)
 whole_range path bound site facts (a ∷ past) answers one short small free asked may =
-    by_ask (ReadsWithin facts) (fs_read_next path bound site facts (oldest_first (a ∷ past)) answers) (λ place. tt) (λ o x. tt)
+    by_ask (ReadsWithin facts) (fs_read_next path bound site facts (oldest_first (a ∷ past)) answers) (λ place. tt)
+    (λ o x. tt)
     (λ r is. of_read r (read_asked path bound site facts a past answers r one asked may is))
   where
-    by_bound : (o : Option ℕ) → bound ≡ o → ((n : ℕ) → bound ≡ Some n → suc (length past) < n + facts.read_window) → suc (length past) < 2 ^ 43
+    by_bound : (o : Option ℕ) → bound ≡ o → ((n : ℕ) → bound ≡ Some n → suc (length past) < n + facts.read_window)
+        → suc (length past) < 2 ^ 43
     by_bound None is few = free is
     by_bound (Some n) is few = small (suc (length past)) n is (few n is)
 
@@ -191,10 +205,11 @@ whole_range path bound site facts (a ∷ past) answers one short small free aske
 
 pub whole_work : (path : List ℕ) (bound : ℕ) (site : Site) (facts : Facts) (past : Own) (answers : Answers)
     → 1 ≤ facts.read_len → 1 ≤ facts.read_window → AreAsked (fs_read_next path (Some bound) site facts) past answers
-    → MayBeAnswered past answers → AsksBelow (length past) (bound + facts.read_window) (fs_read_next path (Some bound) site facts (oldest_first past) answers)
+    → MayBeAnswered past answers → AsksBelow (length past) (bound + facts.read_window)
+    (fs_read_next path (Some bound) site facts (oldest_first past) answers)
 whole_work path bound site facts [] answers one some asked may =
     either (AsksBelow 0 (bound + facts.read_window)) (is_too_long (open_request to_read (from_directory site path)))
-    (refuses kind.PathTooLong site) (Ask (open_request to_read (from_directory site path))) (λ e. tt)
+    (refuse_locally kind.PathTooLong site) (Ask (open_request to_read (from_directory site path))) (λ e. tt)
     (λ e. omega (arith, some))
 whole_work path bound site facts (a ∷ past) answers one some asked may =
     by_ask (AsksBelow (suc (length past)) (bound + facts.read_window))

@@ -14,7 +14,7 @@ use Rattle.sftp_model.specs.declared.slot.Slot.TheVariants.{Buffered}
 use Rattle.sftp_model.specs.Slots.{slot_at}
 use Rattle.plan_model.specs.Moves.{Answers, Own}
 use Rattle.plan_model.specs.BufferPlans.{
-  pending,
+  pending_bytes,
   with_deferred,
   taken_out,
   is_full,
@@ -28,7 +28,8 @@ use Rattle.plan_model.proofs.MoveLaws.{either, by_status, at_buffered}
 use Rattle.plan_model.specs.RequestCounts.{AsksBelow, EachHasByte, IsWithinLimit}
 use Rattle.plan_model.proofs.CountLaws.{raised, fresh, answered_in}
 
-pending_more : (writes : List (ℕ × ℕ)) (place n : ℕ) → pending (writes ++ (place, n) ∷ []) ≡ pending writes + n
+pending_more : (writes : List (ℕ × ℕ)) (place n : ℕ) → pending_bytes (writes ++ (place, n) ∷ [])
+    ≡ pending_bytes writes + n
 pending_more [] place n = omega arith
 pending_more (write ∷ writes) place n = omega (arith, pending_more writes place n)
 
@@ -38,7 +39,7 @@ each_more (write ∷ writes) place n each some = (each.0, each_more writes place
 
 -- a WRITE of at most what the limit leaves keeps it
 pub after_within : (facts : Facts) (buffer : Buffer) (place n : ℕ) → IsWithinLimit facts buffer → 1 ≤ n
-    → pending buffer.deferred + n ≤ facts.write_limit → IsWithinLimit facts (after_write buffer place n)
+    → pending_bytes buffer.deferred + n ≤ facts.write_limit → IsWithinLimit facts (after_write buffer place n)
 after_within facts buffer place n w some le = record {
   within = omega (arith, le, pending_more buffer.deferred place n);
   each = each_more buffer.deferred place n w.each some;
@@ -62,17 +63,20 @@ capacity_any made most slot file buffer site facts answers go goes =
 -- after it less than the limit is pending
 capacity_left : (made most slot : ℕ) (file : FileAt) (buffer : Buffer) (site : Site) (facts : Facts) (answers : Answers)
     (go : Buffer → Site → Move) → 1 ≤ facts.write_limit → IsWithinLimit facts buffer
-    → ((b : Buffer) (x : Site) → IsWithinLimit facts b → pending b.deferred < facts.write_limit
+    → ((b : Buffer) (x : Site) → IsWithinLimit facts b → pending_bytes b.deferred < facts.write_limit
     → AsksBelow made most (go b x)) → AsksBelow made most (with_capacity slot file buffer site facts answers go)
 capacity_left made most slot file buffer site facts answers go some w goes =
-    either (AsksBelow made most) (is_full facts buffer) (taken_out slot file buffer site answers buffer.deferred go) (go buffer site)
+    either (AsksBelow made most) (is_full facts buffer) (taken_out slot file buffer site answers buffer.deferred go)
+    (go buffer site)
     (λ e. taken buffer.deferred w.each (grind (arith, nat_tests)))
-    (λ e. let le : pending buffer.deferred ≤ facts.write_limit = w.within in goes buffer site w (grind (arith, nat_tests)))
+    (λ e. let le : pending_bytes buffer.deferred ≤ facts.write_limit = w.within in
+    goes buffer site w (grind (arith, nat_tests)))
   where
-    taken : (writes : List (ℕ × ℕ)) → EachHasByte writes → pending writes ≡ facts.write_limit
+    taken : (writes : List (ℕ × ℕ)) → EachHasByte writes → pending_bytes writes ≡ facts.write_limit
         → AsksBelow made most (taken_out slot file buffer site answers writes go)
     taken [] each full = absurd (omega (arith, some, full))
-    taken (write ∷ writes) each full = answered_in (AsksBelow made most) answers write.0 (answers write.0) _ refl tt (λ r is.
+    taken (write ∷ writes) each full = answered_in (AsksBelow made most) answers write.0 (answers write.0) _ refl tt
+        (λ r is.
         by_status (AsksBelow made most) r (with_deferred slot file buffer site writes) _ (λ o. tt)
         (let one : 1 ≤ write.1 = each.0 in
         goes (record buffer { deferred = writes }) (with_deferred slot file buffer site writes)
@@ -84,7 +88,8 @@ nothing_asked : (slot : ℕ) (bytes : List ℕ) (file : FileAt) (buffer : Buffer
     (answers : Answers) → length bytes ≡ 0 → AsksBelow (length own) 0
     (buffered_rest slot bytes file buffer site facts own answers)
 nothing_asked slot bytes file buffer site facts [] answers none =
-    either (AsksBelow 0 0) (length bytes == 0) (Done outcome.Done site) _ (λ z. tt) (λ z. absurd (grind (arith, nat_tests)))
+    either (AsksBelow 0 0) (length bytes == 0) (Done outcome.Done site) _ (λ z. tt)
+    (λ z. absurd (grind (arith, nat_tests)))
 nothing_asked slot bytes file buffer site facts (asked ∷ later) answers none =
     capacity_any (suc (length later)) 0 slot file buffer site facts answers _ (λ b x.
     raised (length later) 0 (suc (length later)) 0 _ (λ lt. absurd (omega (arith, lt)))
@@ -95,10 +100,13 @@ pub buffered_within : (slot : ℕ) (bytes : List ℕ) (file : FileAt) (buffer : 
     (own : Own) (answers : Answers) → 1 ≤ facts.write_len → 1 ≤ facts.write_limit → IsWithinLimit facts buffer
     → AsksBelow (length own) (length bytes) (buffered_rest slot bytes file buffer site facts own answers)
 buffered_within slot bytes file buffer site facts [] answers len limit w =
-    either (AsksBelow 0 (length bytes)) (length bytes == 0) (Done outcome.Done site) _ (λ z. tt) (λ z. fresh (length bytes) _ (grind (arith, nat_tests)))
-buffered_within slot [] file buffer site facts (asked ∷ later) answers len limit w = nothing_asked slot [] file buffer site facts (asked ∷ later) answers refl
+    either (AsksBelow 0 (length bytes)) (length bytes == 0) (Done outcome.Done site) _ (λ z. tt)
+    (λ z. fresh (length bytes) _ (grind (arith, nat_tests)))
+buffered_within slot [] file buffer site facts (asked ∷ later) answers len limit w =
+    nothing_asked slot [] file buffer site facts (asked ∷ later) answers refl
 buffered_within slot (c ∷ bytes) file buffer site facts (asked ∷ later) answers len limit w =
-    capacity_left (suc (length later)) (suc (length bytes)) slot file buffer site facts answers _ limit w (λ b x wb free.
+    capacity_left (suc (length later)) (suc (length bytes)) slot file buffer site facts answers _ limit w
+    (λ b x wb free.
     raised (length later) (length (drop (deferrable_len facts (c ∷ bytes) b) (c ∷ bytes))) (suc (length later))
     (suc (length bytes)) _ (λ lt. omega (
       arith,
@@ -109,7 +117,8 @@ buffered_within slot (c ∷ bytes) file buffer site facts (asked ∷ later) answ
     ))
     (buffered_within slot (drop (deferrable_len facts (c ∷ bytes) b) (c ∷ bytes)) _
     (after_write b asked.0 (deferrable_len facts (c ∷ bytes) b)) _ facts later answers len limit
-    (after_within facts b asked.0 (deferrable_len facts (c ∷ bytes) b) wb (omega (arith, len, free)) (omega (arith, free)))))
+    (after_within facts b asked.0 (deferrable_len facts (c ∷ bytes) b) wb (omega (arith, len, free))
+    (omega (arith, free)))))
 
 pub buf_write_all_within : (slot : ℕ) (bytes : List ℕ) (site : Site) (facts : Facts) (own : Own) (answers : Answers)
     → 1 ≤ facts.write_len → 1 ≤ facts.write_limit → ((file : FileAt) (buffer : Buffer) → slot_at site slot

@@ -6,17 +6,18 @@ use Rattle.ssh_encoding.specs.Writing.{uint32, string}
 use Rattle.sftp_model.specs.Frames.{attributes, request_body}
 use Rattle.sftp_model.specs.Slots.{fresh_site}
 use Rattle.plan_model.specs.declared.call.Call.TheVariants as call
-use Rattle.plan_model.specs.OwnRequests.{Extends, IsCallSoFar}
+use Rattle.plan_model.specs.OwnRequests.{ExtendsAnswers, IsCallSoFar}
 use Rattle.plan_model.specs.PlanWords.{known, granted, read_at}
 use Rattle.plan_model.specs.WindowPlanRows.{got, opened, three}
 
-data_stays : Extends (known ((0, granted) ∷ [])) (known ((1, got (codes "ab")) ∷ (0, granted) ∷ []))
+data_stays : ExtendsAnswers (known ((0, granted) ∷ [])) (known ((1, got (codes "ab")) ∷ (0, granted) ∷ []))
 data_stays place r e = by_test (1 == place) refl
   where
     second : place ≡ 1 → known ((0, granted) ∷ []) 1 ≡ Some r
     second is = subst (λ (n : ℕ). known ((0, granted) ∷ []) n ≡ Some r) is e
 
-    by_test : (b : Bool) → (1 == place) ≡ b → (if b then Some (got (codes "ab")) else known ((0, granted) ∷ []) place) ≡ Some r
+    by_test : (b : Bool) → (1 == place) ≡ b → (if b then Some (got (codes "ab")) else known ((0, granted) ∷ []) place)
+        ≡ Some r
     by_test true is = absurd (let z : known ((0, granted) ∷ []) 1 ≡ Some r = second (grind (arith, nat_tests)) in cc)
     by_test false is = e
 

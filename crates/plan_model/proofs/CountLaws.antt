@@ -17,8 +17,8 @@ use Rattle.sftp_model.specs.declared.slot.FileAt.{FileAt}
 use Rattle.sftp_model.specs.declared.slot.Site.{Site}
 use Rattle.sftp_model.specs.Answers.{MayAnswer}
 use Rattle.sftp_model.specs.Slots.{slot_at}
-use Rattle.plan_model.specs.Moves.{Answers, Own, Plan, once_answered, by_reply, ask_read, ask_write, refuses, refused, on_content, on_handle, further}
-use Rattle.plan_model.specs.TransferPlans.{missing_next, read_all_next, part_len, next_part, Keeping, rest_next, in_slot, write_all_next}
+use Rattle.plan_model.specs.Moves.{Answers, Own, Plan, once_answered, by_reply, ask_read, ask_write, refuse_locally, refusal_move, on_content, on_handle, further}
+use Rattle.plan_model.specs.TransferPlans.{missing_next, read_all_next, part_len, next_part, FileKeeper, rest_next, in_slot, write_all_next}
 use Rattle.plan_model.specs.WholePlans.{once_opened, on_names, entries_next}
 use Rattle.plan_model.specs.OwnRequests.{MayBeAnswered}
 use Rattle.plan_model.specs.RequestCounts.{AsksBelow}
@@ -57,7 +57,7 @@ pub on_data : (P : Move → Type 0) (r : Reply) (site : Site) (ended : Move) (go
     → P (on_content r site ended go)
 on_data P (reply.Content bytes) site ended go ends e goes = goes bytes refl
 on_data P (reply.Status code message language) site ended go ends e goes =
-    either P (code == 1) ended (refused (reply.Status code message language) site) (λ x. e) (λ x. ends _)
+    either P (code == 1) ended (refusal_move (reply.Status code message language) site) (λ x. e) (λ x. ends _)
 on_data P r site ended go ends e goes = ends _
 
 pub missing_within : (slot : ℕ) (file : FileAt) (got : List ℕ) (n : ℕ) (site : Site) (facts : Facts) (own : Own)
@@ -68,7 +68,8 @@ missing_within slot file got n site facts [] answers may =
     (λ z. tt) (λ z. fresh n (ask_read file (min n facts.read_len) site answers) (grind (arith, nat_tests)))
 missing_within slot file got n site facts (asked ∷ later) answers may =
     answered_in (AsksBelow (suc (length later)) n) answers asked.0 (answers asked.0) _ refl tt (λ r is.
-    on_data (AsksBelow (suc (length later)) n) r site (refuses kind.UnexpectedEof site) _ (λ o. tt) tt (λ bytes e.
+    on_data (AsksBelow (suc (length later)) n) r site (refuse_locally kind.UnexpectedEof site) _ (λ o. tt) tt
+    (λ bytes e.
     let k : 1 ≤ length bytes = (content_fits asked.1 bytes (subst (λ (o : Option Reply). IfSome o (MayAnswer asked.1))
     (is ∙ ap (λ (x : Reply). Some x) e) may.0)).0 in
     raised (length later) (n - length bytes) (suc (length later)) n _ (λ lt. omega (arith, lt, k))
@@ -77,11 +78,12 @@ missing_within slot file got n site facts (asked ∷ later) answers may =
 pub read_all_within : (slot n : ℕ) (site : Site) (facts : Facts) (own : Own) (answers : Answers)
     → MayBeAnswered own answers → AsksBelow (length own) n (read_all_next slot n site facts own answers)
 read_all_within slot n site facts own answers may =
-    at_file (AsksBelow (length own) n) (slot_at site slot) site _ (λ o. tt) (λ file at. missing_within slot file [] n site facts own answers may)
+    at_file (AsksBelow (length own) n) (slot_at site slot) site _ (λ o. tt)
+    (λ file at. missing_within slot file [] n site facts own answers may)
 
 -- ---- write_all: a request for each byte at most
 
-pub rest_within : (keep : Keeping) (file : FileAt) (bytes : List ℕ) (site : Site) (facts : Facts) (own : Own)
+pub rest_within : (keep : FileKeeper) (file : FileAt) (bytes : List ℕ) (site : Site) (facts : Facts) (own : Own)
     (answers : Answers) → 1 ≤ facts.write_len → AsksBelow (length own) (length bytes)
     (rest_next keep file bytes site facts own answers)
 rest_within keep file bytes site facts [] answers some =
@@ -93,7 +95,8 @@ rest_within keep file bytes site facts (asked ∷ later) answers some =
     by_status (AsksBelow (suc (length later)) (length bytes)) r site _ (λ o. tt)
     (raised (length later) (length (drop (part_len facts bytes) bytes)) (suc (length later)) (length bytes) _
     (λ lt. omega (arith, lt, some, length-drop (part_len facts bytes) bytes))
-    (rest_within keep (further file (part_len facts bytes)) (drop (part_len facts bytes) bytes) _ facts later answers some)))
+    (rest_within keep (further file (part_len facts bytes)) (drop (part_len facts bytes) bytes) _ facts later answers
+    some)))
 
 pub write_all_within : (slot : ℕ) (bytes : List ℕ) (site : Site) (facts : Facts) (own : Own) (answers : Answers)
     → 1 ≤ facts.write_len → AsksBelow (length own) (length bytes) (write_all_next slot bytes site facts own answers)
@@ -127,7 +130,7 @@ pub on_entries : (P : Move → Type 0) (r : Reply) (site : Site) (ended : Move) 
 on_entries P (reply.Names []) site ended go ends e goes = e
 on_entries P (reply.Names (entry ∷ entries)) site ended go ends e goes = goes (entry ∷ entries)
 on_entries P (reply.Status code message language) site ended go ends e goes =
-    either P (code == 1) ended (refused (reply.Status code message language) site) (λ x. e) (λ x. ends _)
+    either P (code == 1) ended (refusal_move (reply.Status code message language) site) (λ x. e) (λ x. ends _)
 on_entries P r site ended go ends e goes = ends _
 
 pub entries_within : (handle : List ℕ) (got : List NameEntry) (bound : ℕ) (site : Site) (own : Own) (answers : Answers)

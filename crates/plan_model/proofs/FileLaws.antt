@@ -14,7 +14,7 @@ use Rattle.sftp_model.specs.declared.slot.Slot.{Slot}
 use Rattle.sftp_model.specs.declared.slot.Site.{Site}
 use Rattle.sftp_model.specs.declared.slot.Slot.TheVariants.{File}
 use Rattle.sftp_model.specs.Slots.{slot_at, with_slot, grant_of}
-use Rattle.plan_model.specs.Moves.{Own, ask_read, ask_write, handle_of, overflows, refuses, on_file, further}
+use Rattle.plan_model.specs.Moves.{Own, ask_read, ask_write, handle_of, overflows, refuse_locally, on_file, further}
 use Rattle.plan_model.specs.TransferPlans.{
   was_read,
   read_first,
@@ -26,7 +26,7 @@ use Rattle.plan_model.specs.TransferPlans.{
   was_written,
   write_first,
   write_next,
-  Keeping,
+  FileKeeper,
   rest_next,
   in_slot,
   write_all_next,
@@ -49,7 +49,8 @@ stands_set s slot site grant x new st =
       here = ap grant_of (set_there site.slots slot grant x st.here) ∙ new;
     }
 
-pub first_stands : (s : Situation) (slot grant : ℕ) → grant_of (slot_at s.site slot) ≡ Some grant → Stands s slot s.site grant
+pub first_stands : (s : Situation) (slot grant : ℕ) → grant_of (slot_at s.site slot) ≡ Some grant
+    → Stands s slot s.site grant
 first_stands s slot grant here = record { within = λ g h. inl h; here = here }
 
 -- what stands there is held
@@ -70,16 +71,16 @@ in_range offset n e = grind (arith, nat_tests)
 pub ask_read_good : (s : Situation) (site : Site) (file : FileAt) (len : ℕ) → HoldsWithin s site → IsHeld s file.grant
     → len ≤ s.facts.read_len → IsGood s (ask_read file len site s.answers)
 ask_read_good s site file len within held le =
-    either (IsGood s) (not file.readable) (refuses kind.NotReadable site) _ (λ e. within)
-    (λ e. either (IsGood s) (overflows file.offset len) (refuses kind.OffsetOverflow site)
+    either (IsGood s) (not file.readable) (refuse_locally kind.NotReadable site) _ (λ e. within)
+    (λ e. either (IsGood s) (overflows file.offset len) (refuse_locally kind.OffsetOverflow site)
     (Ask (request.Read (handle_of (s.answers file.grant)) file.offset len)) (λ o. within)
     (λ o. (held_handle s file.grant held, in_range file.offset len o, le)))
 
 pub ask_write_good : (s : Situation) (site : Site) (file : FileAt) (bytes : List ℕ) → HoldsWithin s site
     → IsHeld s file.grant → length bytes ≤ s.facts.write_len → IsGood s (ask_write file bytes site s.answers)
 ask_write_good s site file bytes within held le =
-    either (IsGood s) (not file.writable) (refuses kind.NotWritable site) _ (λ e. within)
-    (λ e. either (IsGood s) (overflows file.offset (length bytes)) (refuses kind.OffsetOverflow site)
+    either (IsGood s) (not file.writable) (refuse_locally kind.NotWritable site) _ (λ e. within)
+    (λ e. either (IsGood s) (overflows file.offset (length bytes)) (refuse_locally kind.OffsetOverflow site)
     (Ask (request.Write (handle_of (s.answers file.grant)) file.offset bytes)) (λ o. within)
     (λ o. (held_handle s file.grant held, in_range file.offset (length bytes) o, le)))
 
@@ -97,23 +98,29 @@ on_file_good s slot go goes = at_file (IsGood s) (slot_at s.site slot) s.site go
 -- the file, moved
 pub moved_within : (s : Situation) (slot : ℕ) (site : Site) (file to : FileAt) → to.grant ≡ file.grant
     → Stands s slot site file.grant → HoldsWithin s (with_slot site slot (File to))
-moved_within s slot site file to same st = Stands.within (stands_set s slot site file.grant (File to) (ap (λ (n : ℕ). Some n) same) st)
+moved_within s slot site file to same st = Stands.within (stands_set s slot site file.grant (File to)
+    (ap (λ (n : ℕ). Some n) same) st)
 
 pub read_good : (s : Situation) (slot n : ℕ) → IsGood s (read_next slot n s.site s.facts s.own s.answers)
 read_good s slot n = on_file_good s slot _ (λ file st.
     replied s s.own (read_first file n s.site s.facts s.answers) (was_read slot file s.site)
-    (λ fresh. either (IsGood s) (n == 0) (Done outcome.End s.site) (ask_read file (min n s.facts.read_len) s.site s.answers) (λ z. as_begun s outcome.End)
-    (λ z. ask_read_good s s.site file (min n s.facts.read_len) st.within (stands_held s slot s.site file.grant st) (omega arith)))
+    (λ fresh. either (IsGood s) (n == 0) (Done outcome.End s.site)
+    (ask_read file (min n s.facts.read_len) s.site s.answers) (λ z. as_begun s outcome.End)
+    (λ z. ask_read_good s s.site file (min n s.facts.read_len) st.within (stands_held s slot s.site file.grant st)
+    (omega arith)))
     (λ r. by_content (IsGood s) r s.site (Done outcome.End s.site) _ (as_begun s) (as_begun s outcome.End)
     (λ bytes. moved_within s slot s.site file (further file (length bytes)) refl st)))
 
 missing_good : (s : Situation) (slot : ℕ) (file : FileAt) (got : List ℕ) (n : ℕ) (site : Site) (own : Own)
     → Stands s slot site file.grant → IsGood s (missing_next slot file got n site s.facts own s.answers)
 missing_good s slot file got n site [] st =
-    either (IsGood s) (n == 0) (Done (outcome.Bytes got) site) (ask_read file (min n s.facts.read_len) site s.answers) (λ z. st.within)
-    (λ z. ask_read_good s site file (min n s.facts.read_len) st.within (stands_held s slot site file.grant st) (omega arith))
+    either (IsGood s) (n == 0) (Done (outcome.Bytes got) site) (ask_read file (min n s.facts.read_len) site s.answers)
+    (λ z. st.within)
+    (λ z. ask_read_good s site file (min n s.facts.read_len) st.within (stands_held s slot site file.grant st)
+    (omega arith))
 missing_good s slot file got n site (asked ∷ later) st =
-    answered s asked.0 (s.answers asked.0) _ refl (λ r is. by_content (IsGood s) r site (refuses kind.UnexpectedEof site) _ (ends_in s site st.within) st.within
+    answered s asked.0 (s.answers asked.0) _ refl (λ r is. by_content (IsGood s) r site
+    (refuse_locally kind.UnexpectedEof site) _ (ends_in s site st.within) st.within
     (λ bytes. missing_good s slot (further file (length bytes)) _ _
     (with_slot site slot (File (further file (length bytes)))) later
     (stands_set s slot site file.grant (File (further file (length bytes))) refl st)))
@@ -121,30 +128,39 @@ missing_good s slot file got n site (asked ∷ later) st =
 pub read_all_good : (s : Situation) (slot n : ℕ) → IsGood s (read_all_next slot n s.site s.facts s.own s.answers)
 read_all_good s slot n = on_file_good s slot _ (λ file st. missing_good s slot file [] n s.site s.own st)
 
-pub write_good : (s : Situation) (slot : ℕ) (bytes : List ℕ) → IsGood s (write_next slot bytes s.site s.facts s.own s.answers)
+pub write_good : (s : Situation) (slot : ℕ) (bytes : List ℕ)
+    → IsGood s (write_next slot bytes s.site s.facts s.own s.answers)
 write_good s slot bytes = on_file_good s slot _ (λ file st.
-    replied s s.own (write_first file bytes s.site s.facts s.answers) (was_written slot file (part_len s.facts bytes) s.site)
+    replied s s.own (write_first file bytes s.site s.facts s.answers)
+    (was_written slot file (part_len s.facts bytes) s.site)
     (λ fresh. either (IsGood s) (length bytes == 0) (Done (outcome.Count 0) s.site)
     (ask_write file (next_part s.facts bytes) s.site s.answers) (λ z. as_begun s outcome.End)
     (λ z. ask_write_good s s.site file (next_part s.facts bytes) st.within (stands_held s slot s.site file.grant st)
     (taken_within (part_len s.facts bytes) s.facts.write_len bytes (omega arith))))
-    (λ r. by_status (IsGood s) r s.site _ (as_begun s) (moved_within s slot s.site file (further file (part_len s.facts bytes)) refl st)))
+    (λ r. by_status (IsGood s) r s.site _ (as_begun s) (moved_within s slot s.site file
+    (further file (part_len s.facts bytes)) refl st)))
 
 -- Writes whose moved file is kept so that what the site holds stays held.
-pub rest_good : (s : Situation) (Kept : Site → Type 0) (keep : Keeping) (file : FileAt) (bytes : List ℕ) (site : Site) (own : Own)
-    → ((x : Site) → Kept x → HoldsWithin s x) → ((x : Site) (n : FileAt) → n.grant ≡ file.grant → Kept x → Kept (keep n x)) → IsHeld s file.grant → Kept site
+pub rest_good : (s : Situation) (Kept : Site → Type 0) (keep : FileKeeper) (file : FileAt) (bytes : List ℕ)
+    (site : Site) (own : Own)
+    → ((x : Site) → Kept x → HoldsWithin s x) → ((x : Site) (n : FileAt) → n.grant ≡ file.grant → Kept x
+    → Kept (keep n x)) → IsHeld s file.grant → Kept site
     → IsGood s (rest_next keep file bytes site s.facts own s.answers)
 rest_good s Kept keep file bytes site [] within keeps held kept =
-    either (IsGood s) (length bytes == 0) (Done outcome.Done site) (ask_write file (next_part s.facts bytes) site s.answers) (λ z. within site kept)
+    either (IsGood s) (length bytes == 0) (Done outcome.Done site)
+    (ask_write file (next_part s.facts bytes) site s.answers) (λ z. within site kept)
     (λ z. ask_write_good s site file (next_part s.facts bytes) (within site kept) held
     (taken_within (part_len s.facts bytes) s.facts.write_len bytes (omega arith)))
 rest_good s Kept keep file bytes site (asked ∷ later) within keeps held kept =
-    answered s asked.0 (s.answers asked.0) _ refl (λ r is. by_status (IsGood s) r site _ (ends_in s site (within site kept))
+    answered s asked.0 (s.answers asked.0) _ refl (λ r is. by_status (IsGood s) r site _
+    (ends_in s site (within site kept))
     (rest_good s Kept keep (further file (part_len s.facts bytes)) (drop (part_len s.facts bytes) bytes)
     (keep (further file (part_len s.facts bytes)) site) later within keeps held
     (keeps site (further file (part_len s.facts bytes)) refl kept)))
 
-pub write_all_good : (s : Situation) (slot : ℕ) (bytes : List ℕ) → IsGood s (write_all_next slot bytes s.site s.facts s.own s.answers)
+pub write_all_good : (s : Situation) (slot : ℕ) (bytes : List ℕ)
+    → IsGood s (write_all_next slot bytes s.site s.facts s.own s.answers)
 write_all_good s slot bytes = on_file_good s slot _ (λ file st.
     rest_good s (λ x. Stands s slot x file.grant) (in_slot slot) file bytes s.site s.own (λ x k. k.within)
-    (λ x n same k. stands_set s slot x file.grant (File n) (ap (λ (m : ℕ). Some m) same) k) (stands_held s slot s.site file.grant st) st)
+    (λ x n same k. stands_set s slot x file.grant (File n) (ap (λ (m : ℕ). Some m) same) k)
+    (stands_held s slot s.site file.grant st) st)

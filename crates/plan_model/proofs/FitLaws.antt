@@ -7,7 +7,7 @@ use Rattle.sftp_model.specs.declared.request.Request.{Request}
 use Rattle.sftp_model.specs.declared.request.Request.TheVariants as request
 use Rattle.sftp_model.specs.Fits.{FitsHandle, FitsAttributes, FitsRequest, AsksWithinReply}
 use Rattle.sftp_model.specs.Numbers.{MAX_BODY_LEN, MAX_TRANSFER_LEN}
-use Rattle.sftp_model.specs.Frames.{no_attributes, attributes, request_body, of_type, extended, posix_rename_name, hardlink_name, expand_path_name, is_too_long}
+use Rattle.sftp_model.specs.Frames.{no_attributes, attributes, request_body, of_type, extended_body, posix_rename_name, hardlink_name, expand_path_name, is_too_long}
 use Rattle.sftp_model.specs.declared.slot.Facts.{Facts}
 use Rattle.sftp_model.specs.declared.slot.Move.TheVariants.{Ask}
 use Rattle.sftp_model.specs.declared.slot.Site.{Site}
@@ -16,7 +16,7 @@ use Rattle.plan_model.specs.declared.call.Call.{Call}
 use Rattle.plan_model.specs.CallPlans.{next}
 use Rattle.plan_model.proofs.CallLaws.{asks_good}
 use Rattle.plan_model.specs.Moves.{Answers, Own, handle_of}
-use Rattle.plan_model.specs.GoodMoves.{Situation, IsHeldHandle, IsGoodAsk, FitsCall, FitsFacts, HandlesFit, WithinRange, closes, situation}
+use Rattle.plan_model.specs.GoodMoves.{Situation, IsHeldHandle, IsGoodAsk, FitsCall, FitsFacts, HandlesFit, WithinRange, MayCloseGrant, situation}
 
 -- ---- a part is no longer than what it stands in
 
@@ -33,7 +33,7 @@ first_in a b = omega (arith, length-append (string a) b, in_text a)
 second_in : (a b : List ℕ) → length b ≤ length (string a ++ string b)
 second_in a b = omega (arith, length-append (string a) (string b), in_text b)
 
-in_extended : (name : List ℕ) (id : ℕ) (fields : List ℕ) → length fields ≤ length (extended name id fields)
+in_extended : (name : List ℕ) (id : ℕ) (fields : List ℕ) → length fields ≤ length (extended_body name id fields)
 in_extended name id fields = omega (arith, length-append (string name) fields, in_type 200 id (string name ++ fields))
 
 short : (r : Request) → is_too_long r ≡ false → length (request_body r 0) ≤ MAX_BODY_LEN
@@ -47,7 +47,8 @@ one_path t path n le = omega (arith, le, in_type t 0 (string path), in_text path
 first_path : (t : ℕ) (path rest : List ℕ) (n : ℕ) → length (of_type t 0 (string path ++ rest)) ≤ n → length path ≤ n
 first_path t path rest n le = omega (arith, le, in_type t 0 (string path ++ rest), first_in path rest)
 
-open_path : (path flags attrs : List ℕ) (n : ℕ) → length (of_type 3 0 (string path ++ flags ++ attrs)) ≤ n → length path ≤ n
+open_path : (path flags attrs : List ℕ) (n : ℕ) → length (of_type 3 0 (string path ++ flags ++ attrs)) ≤ n
+    → length path ≤ n
 open_path path flags attrs n le = omega (
   arith,
   le,
@@ -59,18 +60,19 @@ open_path path flags attrs n le = omega (
 second_path : (t : ℕ) (a b : List ℕ) (n : ℕ) → length (of_type t 0 (string a ++ string b)) ≤ n → length b ≤ n
 second_path t a b n le = omega (arith, le, in_type t 0 (string a ++ string b), second_in a b)
 
-first_extended : (name a b : List ℕ) (n : ℕ) → length (extended name 0 (string a ++ string b)) ≤ n → length a ≤ n
+first_extended : (name a b : List ℕ) (n : ℕ) → length (extended_body name 0 (string a ++ string b)) ≤ n → length a ≤ n
 first_extended name a b n le = omega (arith, le, in_extended name 0 (string a ++ string b), first_in a (string b))
 
-second_extended : (name a b : List ℕ) (n : ℕ) → length (extended name 0 (string a ++ string b)) ≤ n → length b ≤ n
+second_extended : (name a b : List ℕ) (n : ℕ) → length (extended_body name 0 (string a ++ string b)) ≤ n → length b ≤ n
 second_extended name a b n le = omega (arith, le, in_extended name 0 (string a ++ string b), second_in a b)
 
-one_extended : (name path : List ℕ) (n : ℕ) → length (extended name 0 (string path)) ≤ n → length path ≤ n
+one_extended : (name path : List ℕ) (n : ℕ) → length (extended_body name 0 (string path)) ≤ n → length path ≤ n
 one_extended name path n le = omega (arith, le, in_extended name 0 (string path), in_text path)
 
 -- ---- the law
 
--- the numbers of a situation fit, its handles have at most 256 bytes, and its lengths are those that one frame can bring
+-- the numbers of a situation fit, its handles have at most 256 bytes, and its lengths are those that one frame can
+-- bring
 pub record FitsSituation (s : Situation) : Type 0 where
   pub numbers : s.numbers
   pub grants : (place : ℕ) → FitsHandle (handle_of (s.answers place))
@@ -96,15 +98,27 @@ ask_fits s (request.OpenFile path flags attrs) f g = (
   subst FitsAttributes (sym g.2) none_fit,
 )
 ask_fits s (request.Opendir path) f g = one_path 11 path MAX_BODY_LEN (short (request.Opendir path) g.1)
-ask_fits s (request.Read handle offset len) f g = (handle_fits s handle f g.0, omega (arith, g.1), omega (arith, g.2, f.read_len))
-ask_fits s (request.Write handle offset content) f g = (handle_fits s handle f g.0, omega (arith, g.1), omega (arith, g.2, f.write_len))
+ask_fits s (request.Read handle offset len) f g = (
+  handle_fits s handle f g.0,
+  omega (arith, g.1),
+  omega (arith, g.2, f.read_len),
+)
+ask_fits s (request.Write handle offset content) f g = (
+  handle_fits s handle f g.0,
+  omega (arith, g.1),
+  omega (arith, g.2, f.write_len),
+)
 ask_fits s (request.Fstat handle) f g = handle_fits s handle f g
 ask_fits s (request.Fsync handle) f g = handle_fits s handle f g
 ask_fits s (request.Readdir handle) f g = handle_fits s handle f g
 ask_fits s (request.Fsetstat handle attrs) f g = (handle_fits s handle f g.0, g.1 f.numbers)
 ask_fits s (request.CopyData from from_offset len to to_offset) f g =
     (handle_fits s from f g.0, omega (arith, g.2), omega (arith, g.2), handle_fits s to f g.1, omega (arith, g.3))
-ask_fits s (request.Setstat path attrs) f g = (first_path 9 path (attributes attrs) MAX_BODY_LEN (short (request.Setstat path attrs) g.1), g.0 f.numbers)
+ask_fits s (request.Setstat path attrs) f g = (
+  first_path 9 path (attributes attrs) MAX_BODY_LEN
+      (short (request.Setstat path attrs) g.1),
+  g.0 f.numbers,
+)
 ask_fits s (request.Mkdir path attrs) f g = (
   first_path 14 path (attributes attrs) MAX_BODY_LEN
       (short (request.Mkdir path attrs) g.1),
@@ -137,7 +151,8 @@ ask_fits s (request.Hardlink old to) f g = (
   second_extended hardlink_name old to MAX_BODY_LEN
       (short (request.Hardlink old to) g),
 )
-ask_fits s (request.ExpandPath path) f g = one_extended expand_path_name path MAX_BODY_LEN (short (request.ExpandPath path) g)
+ask_fits s (request.ExpandPath path) f g = one_extended expand_path_name path MAX_BODY_LEN
+    (short (request.ExpandPath path) g)
 
 pub ask_within_reply : (s : Situation) (r : Request) → FitsSituation s → IsGoodAsk s r → AsksWithinReply r
 ask_within_reply s (request.Read handle offset len) f g = omega (arith, g.2, f.read_len)
@@ -146,7 +161,7 @@ ask_within_reply s other f g = tt
 -- ---- of all calls
 
 closes_fit : (c : Call) (site : Site) (own : Own) (answers : Answers) → HandlesFit answers → (handle : List ℕ)
-    → closes c site own answers handle → FitsHandle handle
+    → MayCloseGrant c site own answers handle → FitsHandle handle
 closes_fit (call.Close slot) site own answers f handle c = subst FitsHandle (sym c.bears) (f c.grant)
 closes_fit other site own answers f handle c = absurd c
 
@@ -166,5 +181,8 @@ pub requests_fit : (c : Call) (site : Site) (facts : Facts) (own : Own) (answers
     → next c site facts own answers ≡ Ask r → FitsRequest r × AsksWithinReply r
 requests_fit c site facts own answers r fits k f w is =
     let good : IsGoodAsk (situation c site facts own answers) r = asks_good c site facts own answers r w is in
-    let s : FitsSituation (situation c site facts own answers) = situation_fits c site facts own answers fits k f in
-    (ask_fits (situation c site facts own answers) r s good, ask_within_reply (situation c site facts own answers) r s good)
+    let s : FitsSituation (situation c site facts own answers) = situation_fits c site facts own answers fits k f in (
+      ask_fits (situation c site facts own answers) r s good,
+      ask_within_reply (situation c site facts own answers) r s
+          good,
+    )

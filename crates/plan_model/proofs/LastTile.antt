@@ -13,8 +13,10 @@ use Rattle.plan_model.proofs.Tiles.{Tiled, FitsIn, Followed, one_span}
 
 -- where no span is empty
 
-pub after_fits : (read_len top : ℕ) (reads : Own) (answers : Answers) → 1 ≤ read_len → Tiled read_len top reads answers → MayBeAnswered reads answers
-    → ((x : Span) → Among x (spans reads answers) → 1 ≤ x.extent) → FitsIn read_len top reads answers (greatest (map span_end (spans reads answers))) read_len
+pub after_fits : (read_len top : ℕ) (reads : Own) (answers : Answers) → 1 ≤ read_len → Tiled read_len top reads answers
+    → MayBeAnswered reads answers
+    → ((x : Span) → Among x (spans reads answers) → 1 ≤ x.extent)
+    → FitsIn read_len top reads answers (greatest (map span_end (spans reads answers))) read_len
 after_fits read_len top reads answers one t may some =
     record {
       free = λ h. free (from_map begins p reads h);
@@ -30,7 +32,8 @@ after_fits read_len top reads answers one t may some =
     p = greatest (map span_end (spans reads answers))
 
     ends : (x : Span) → Among x (spans reads answers) → span_end x ≤ p
-    ends x hx = greatest_over (span_end x) (map span_end (spans reads answers)) (among_map span_end x (spans reads answers) hx)
+    ends x hx = greatest_over (span_end x) (map span_end (spans reads answers))
+        (among_map span_end x (spans reads answers) hx)
 
     begun : (a : ℕ × Request) → Among a reads → begins a < p
     begun a there =
@@ -69,7 +72,8 @@ after_fits read_len top reads answers one t may some =
     follows a there lt m =
         let last : MadeOf span_end (spans reads answers) p = reached p refl (omega (arith, lt)) in
         let e : p ≡ span_end last.of = last.gives in
-        let at : Among (begins last.of.asked) (map begins reads) = among_map begins last.of.asked reads (span_read last.of reads answers last.there) in
+        let at : Among (begins last.of.asked) (map begins reads) =
+        among_map begins last.of.asked reads (span_read last.of reads answers last.there) in
         elim (t.apart last.of last.there (begins a) (among_map begins a reads there)) [
           | inr le ↦ absurd (omega (arith, e, le, lt))
           | inl le ↦ by_test last.of last.there e at le (nat_lt (begins a) (begins last.of.asked)) refl

@@ -34,7 +34,7 @@ use Rattle.plan_model.specs.Moves.{
   ask_write,
   handle_of,
   overflows,
-  refuses,
+  refuse_locally,
   refuses_extension,
   offers,
   on_status,
@@ -48,7 +48,7 @@ use Rattle.plan_model.specs.Moves.{
 use Rattle.plan_model.specs.PathPlans.{path_done, path_told, path_named, named_by}
 use Rattle.plan_model.specs.FilePlans.{
   open_request,
-  opened,
+  opened_move,
   opened_file,
   first_place,
   close_grant_next,
@@ -59,7 +59,7 @@ use Rattle.plan_model.specs.FilePlans.{
   ask_meta,
   ask_sync,
   ask_copy,
-  copied,
+  site_after_copy,
   copy_files_next,
   on_seek,
 }
@@ -71,7 +71,7 @@ use Rattle.plan_model.specs.TransferPlans.{
   next_part,
   write_first,
   was_written,
-  Keeping,
+  FileKeeper,
   rest_next,
   last_offset,
   cancelled_transfer,
@@ -112,15 +112,19 @@ pub record IsKept (P : Site → Type 0) : Type 0 where
 pub once_leaves : (P : Site → Type 0) (first : Move) (go : Reply → Move) (own : Own) (answers : Answers)
     → EndsLeaving P first → ((r : Reply) → EndsLeaving P (go r)) → EndsLeaving P (by_reply first go own answers)
 once_leaves P first go [] answers asks goes = asks
-once_leaves P first go (asked ∷ later) answers asks goes = answered_in (EndsLeaving P) answers asked.0 (answers asked.0) go refl tt (λ r is. goes r)
+once_leaves P first go (asked ∷ later) answers asks goes = answered_in (EndsLeaving P) answers asked.0 (answers asked.0)
+    go refl tt (λ r is. goes r)
 
 pub path_leaves : (P : Site → Type 0) (r : Request) (site : Site) → P site → EndsLeaving P (ask_path r site)
-path_leaves P r site b = either (EndsLeaving P) (is_too_long r) (refuses kind.PathTooLong site) (Ask r) (λ e. b) (λ e. tt)
+path_leaves P r site b = either (EndsLeaving P) (is_too_long r) (refuse_locally kind.PathTooLong site) (Ask r) (λ e. b)
+    (λ e. tt)
 
-done_leaves : (P : Site → Type 0) (site left : Site) (o : Outcome) (r : Reply) → P site → P left → EndsLeaving P (on_status r site (Done o left))
+done_leaves : (P : Site → Type 0) (site left : Site) (o : Outcome) (r : Reply) → P site → P left
+    → EndsLeaving P (on_status r site (Done o left))
 done_leaves P site left o r b l = by_status (EndsLeaving P) r site (Done o left) (λ x. b) l
 
-pub path_done_leaves : (P : Site → Type 0) (r : Request) (site : Site) (own : Own) (answers : Answers) → P site → EndsLeaving P (path_done r site own answers)
+pub path_done_leaves : (P : Site → Type 0) (r : Request) (site : Site) (own : Own) (answers : Answers) → P site
+    → EndsLeaving P (path_done r site own answers)
 path_done_leaves P r site own answers b = once_leaves P (ask_path r site) (done_by site) own answers
     (path_leaves P r site b) (λ y. done_leaves P site site outcome.Done y b b)
 
@@ -129,10 +133,12 @@ pub link_leaves : (P : Site → Type 0) (facts : Facts) (bit : ℕ) (r : Request
     refuses_extension bit site) (done_by site) own answers)
 link_leaves P facts bit r site own answers b =
     once_leaves P (if offers facts bit then ask_path r site else refuses_extension bit site) (done_by site) own answers
-    (either (EndsLeaving P) (offers facts bit) (ask_path r site) (refuses_extension bit site) (λ e. path_leaves P r site b)
+    (either (EndsLeaving P) (offers facts bit) (ask_path r site) (refuses_extension bit site)
+    (λ e. path_leaves P r site b)
     (λ e. b)) (λ y. done_leaves P site site outcome.Done y b b)
 
-pub path_told_leaves : (P : Site → Type 0) (r : Request) (site : Site) (own : Own) (answers : Answers) → P site → EndsLeaving P (path_told r site own answers)
+pub path_told_leaves : (P : Site → Type 0) (r : Request) (site : Site) (own : Own) (answers : Answers) → P site
+    → EndsLeaving P (path_told r site own answers)
 path_told_leaves P r site own answers b = once_leaves P (ask_path r site) (told_by site) own answers
     (path_leaves P r site b) (λ y. by_attrs (EndsLeaving P) y site (λ o. b))
 
@@ -142,8 +148,10 @@ named_leaves P site (reply.Names (entry ∷ entries)) b = b
 named_leaves P site (reply.Status code message language) b = b
 named_leaves P site y b = b
 
-pub path_named_leaves : (P : Site → Type 0) (r : Request) (site : Site) (own : Own) (answers : Answers) → P site → EndsLeaving P (path_named r site own answers)
-path_named_leaves P r site own answers b = once_leaves P (ask_path r site) (named_by site) own answers (path_leaves P r site b) (λ y. named_leaves P site y b)
+pub path_named_leaves : (P : Site → Type 0) (r : Request) (site : Site) (own : Own) (answers : Answers) → P site
+    → EndsLeaving P (path_named r site own answers)
+path_named_leaves P r site own answers b = once_leaves P (ask_path r site) (named_by site) own answers
+    (path_leaves P r site b) (λ y. named_leaves P site y b)
 
 -- ---- files in slots
 
@@ -151,16 +159,18 @@ pub file_leaves : (P : Site → Type 0) (site : Site) (slot : ℕ) (go : FileAt 
     → ((file : FileAt) → EndsLeaving P (go file)) → EndsLeaving P (on_file (slot_at site slot) site go)
 file_leaves P site slot go b goes = at_file (EndsLeaving P) (slot_at site slot) site go (λ o. b) (λ file at. goes file)
 
-pub set_file : (P : Site → Type 0) (k : IsKept P) (site : Site) (slot : ℕ) (file : FileAt) → P site → P (with_slot site slot (File file))
+pub set_file : (P : Site → Type 0) (k : IsKept P) (site : Site) (slot : ℕ) (file : FileAt) → P site
+    → P (with_slot site slot (File file))
 set_file P k site slot file b = k.set site slot (File file) tt b
 
 pub open_leaves : (P : Site → Type 0) (k : IsKept P) (slot : ℕ) (flags : OpenFlags) (path : List ℕ) (site : Site)
     (own : Own) (answers : Answers) → P site → EndsLeaving P (by_reply (ask_path (open_request flags path) site)
-    (opened slot flags site (first_place own)) own answers)
+    (opened_move slot flags site (first_place own)) own answers)
 open_leaves P k slot flags path site own answers b =
-    once_leaves P (ask_path (open_request flags path) site) (opened slot flags site (first_place own)) own answers
+    once_leaves P (ask_path (open_request flags path) site) (opened_move slot flags site (first_place own)) own answers
     (path_leaves P (open_request flags path) site b)
-    (λ r. on_granted (EndsLeaving P) r site _ (λ o. b) (λ handle. set_file P k site slot (opened_file flags (first_place own)) b))
+    (λ r. on_granted (EndsLeaving P) r site _ (λ o. b) (λ handle. set_file P k site slot
+    (opened_file flags (first_place own)) b))
 
 pub close_leaves : (P : Site → Type 0) (k : IsKept P) (slot : ℕ) (site : Site) (own : Own) (answers : Answers)
     (x : Slot) → P site → EndsLeaving P (close_slot_next slot site own answers x)
@@ -174,7 +184,8 @@ close_leaves P k slot site own answers x b = by_slot x
         once_leaves P (if has_grant (with_slot site slot Empty) grant then
         Done outcome.Done (with_slot site slot Empty) else Ask (request.Close (handle_of (answers grant))))
         (done_by (with_slot site slot Empty)) own answers
-        (either (EndsLeaving P) (has_grant (with_slot site slot Empty) grant) (Done outcome.Done (with_slot site slot Empty))
+        (either (EndsLeaving P) (has_grant (with_slot site slot Empty) grant)
+        (Done outcome.Done (with_slot site slot Empty))
         (Ask (request.Close (handle_of (answers grant)))) (λ e. emptied) (λ e. tt))
         (λ r. done_leaves P (with_slot site slot Empty) (with_slot site slot Empty) outcome.Done r emptied emptied)
 
@@ -187,37 +198,39 @@ pub set_leaves : (P : Site → Type 0) (facts : Facts) (slot : ℕ) (attrs : Fil
     (answers : Answers) → P site → EndsLeaving P (set_next slot attrs site facts own answers)
 set_leaves P facts slot attrs site own answers b = file_leaves P site slot _ b
     (λ file. once_leaves P (ask_set attrs file site answers) (done_by site) own answers
-    (either (EndsLeaving P) (not file.writable) (refuses kind.NotWritable site)
+    (either (EndsLeaving P) (not file.writable) (refuse_locally kind.NotWritable site)
     (Ask (request.Fsetstat (handle_of (answers file.grant)) attrs)) (λ e. b) (λ e. tt))
     (λ r. done_leaves P site site outcome.Done r b b))
 
 pub meta_leaves : (P : Site → Type 0) (file : FileAt) (site : Site) (own : Own) (answers : Answers) → P site
     → EndsLeaving P (by_reply (ask_meta file site answers) (told_by site) own answers)
 meta_leaves P file site own answers b = once_leaves P (ask_meta file site answers) (told_by site) own answers
-    (either (EndsLeaving P) (not file.readable) (refuses kind.NotReadable site)
+    (either (EndsLeaving P) (not file.readable) (refuse_locally kind.NotReadable site)
     (Ask (request.Fstat (handle_of (answers file.grant)))) (λ e. b) (λ e. tt))
     (λ y. by_attrs (EndsLeaving P) y site (λ o. b))
 
 pub sync_leaves : (P : Site → Type 0) (facts : Facts) (file : FileAt) (site : Site) (own : Own) (answers : Answers)
     → P site → EndsLeaving P (by_reply (ask_sync file site facts answers) (done_by site) own answers)
-sync_leaves P facts file site own answers b = once_leaves P (ask_sync file site facts answers) (done_by site) own answers
+sync_leaves P facts file site own answers b = once_leaves P (ask_sync file site facts answers) (done_by site) own
+    answers
     (either (EndsLeaving P) (not (offers facts FSYNC)) (refuses_extension FSYNC site) _ (λ e. b)
-    (λ e. either (EndsLeaving P) (not file.writable) (refuses kind.NotWritable site)
+    (λ e. either (EndsLeaving P) (not file.writable) (refuse_locally kind.NotWritable site)
     (Ask (request.Fsync (handle_of (answers file.grant)))) (λ n. b) (λ n. tt)))
     (λ r. done_leaves P site site outcome.Done r b b)
 
 pub copy_leaves : (P : Site → Type 0) (k : IsKept P) (facts : Facts) (from to n : ℕ) (site : Site) (own : Own)
     (answers : Answers) (source target : FileAt) → P site → EndsLeaving P
     (copy_files_next from to n site facts own answers source target)
-copy_leaves P k facts from to n site own answers source target b = once_leaves P (ask_copy source target n site facts answers) _ own answers
+copy_leaves P k facts from to n site own answers source target b =
+    once_leaves P (ask_copy source target n site facts answers) _ own answers
     (either (EndsLeaving P) (not (offers facts COPY_DATA)) (refuses_extension COPY_DATA site) _ (λ e. b)
-    (λ e. either (EndsLeaving P) (not target.writable) (refuses kind.NotWritable site) _ (λ f. b)
-    (λ f. either (EndsLeaving P) (not source.readable) (refuses kind.NotReadable site) _ (λ g. b)
-    (λ g. either (EndsLeaving P) (overflows source.offset n) (refuses kind.OffsetOverflow site) _ (λ h. b)
-    (λ h. either (EndsLeaving P) (overflows target.offset n) (refuses kind.OffsetOverflow site)
+    (λ e. either (EndsLeaving P) (not target.writable) (refuse_locally kind.NotWritable site) _ (λ f. b)
+    (λ f. either (EndsLeaving P) (not source.readable) (refuse_locally kind.NotReadable site) _ (λ g. b)
+    (λ g. either (EndsLeaving P) (overflows source.offset n) (refuse_locally kind.OffsetOverflow site) _ (λ h. b)
+    (λ h. either (EndsLeaving P) (overflows target.offset n) (refuse_locally kind.OffsetOverflow site)
     (Ask (request.CopyData (handle_of (answers source.grant)) source.offset n (handle_of (answers target.grant))
     target.offset)) (λ i. b) (λ i. tt))))))
-    (λ r. done_leaves P site (copied from to source target n site) outcome.Done r b
+    (λ r. done_leaves P site (site_after_copy from to source target n site) outcome.Done r b
     (set_file P k (with_slot site from (File (further source n))) to (further target n)
     (set_file P k site from (further source n) b)))
 
@@ -226,32 +239,36 @@ pub seek_leaves : (P : Site → Type 0) (position : SeekFrom) (offset : ℕ) (si
 seek_leaves P (Start n) offset site go b goes = goes n
 seek_leaves P (End n) offset site go b goes = b
 seek_leaves P (Current (pos n)) offset site go b goes = either (EndsLeaving P) (overflows offset n)
-    (refuses kind.SeekOverflow site) (go (offset + n)) (λ e. b) (λ e. goes (offset + n))
+    (refuse_locally kind.SeekOverflow site) (go (offset + n)) (λ e. b) (λ e. goes (offset + n))
 seek_leaves P (Current (negsuc n)) offset site go b goes = either (EndsLeaving P) (nat_le offset n)
-    (refuses kind.SeekUnderflow site) (go (offset - (n + 1))) (λ e. b) (λ e. goes (offset - (n + 1)))
+    (refuse_locally kind.SeekUnderflow site) (go (offset - (n + 1))) (λ e. b) (λ e. goes (offset - (n + 1)))
 
 -- ---- reads and writes
 
-pub read_leaves : (P : Site → Type 0) (file : FileAt) (len : ℕ) (site : Site) (answers : Answers) → P site → EndsLeaving P (ask_read file len site answers)
+pub read_leaves : (P : Site → Type 0) (file : FileAt) (len : ℕ) (site : Site) (answers : Answers) → P site
+    → EndsLeaving P (ask_read file len site answers)
 read_leaves P file len site answers b =
-    either (EndsLeaving P) (not file.readable) (refuses kind.NotReadable site) _ (λ e. b)
-    (λ e. either (EndsLeaving P) (overflows file.offset len) (refuses kind.OffsetOverflow site)
+    either (EndsLeaving P) (not file.readable) (refuse_locally kind.NotReadable site) _ (λ e. b)
+    (λ e. either (EndsLeaving P) (overflows file.offset len) (refuse_locally kind.OffsetOverflow site)
     (Ask (request.Read (handle_of (answers file.grant)) file.offset len)) (λ o. b) (λ o. tt))
 
 pub write_leaves : (P : Site → Type 0) (file : FileAt) (bytes : List ℕ) (site : Site) (answers : Answers) → P site
     → EndsLeaving P (ask_write file bytes site answers)
 write_leaves P file bytes site answers b =
-    either (EndsLeaving P) (not file.writable) (refuses kind.NotWritable site) _ (λ e. b)
-    (λ e. either (EndsLeaving P) (overflows file.offset (length bytes)) (refuses kind.OffsetOverflow site)
+    either (EndsLeaving P) (not file.writable) (refuse_locally kind.NotWritable site) _ (λ e. b)
+    (λ e. either (EndsLeaving P) (overflows file.offset (length bytes)) (refuse_locally kind.OffsetOverflow site)
     (Ask (request.Write (handle_of (answers file.grant)) file.offset bytes)) (λ o. b) (λ o. tt))
 
 pub was_read_leaves : (P : Site → Type 0) (k : IsKept P) (facts : Facts) (slot n : ℕ) (file : FileAt) (site : Site)
     (own : Own) (answers : Answers) → P site → EndsLeaving P (by_reply (read_first file n site facts answers)
     (was_read slot file site) own answers)
-was_read_leaves P k facts slot n file site own answers b = once_leaves P (read_first file n site facts answers) (was_read slot file site) own answers
-    (either (EndsLeaving P) (n == 0) (Done outcome.End site) (ask_read file (min n facts.read_len) site answers) (λ z. b)
+was_read_leaves P k facts slot n file site own answers b = once_leaves P (read_first file n site facts answers)
+    (was_read slot file site) own answers
+    (either (EndsLeaving P) (n == 0) (Done outcome.End site) (ask_read file (min n facts.read_len) site answers)
+    (λ z. b)
     (λ z. read_leaves P file (min n facts.read_len) site answers b))
-    (λ r. by_content (EndsLeaving P) r site (Done outcome.End site) _ (λ o. b) b (λ bytes. set_file P k site slot (further file (length bytes)) b))
+    (λ r. by_content (EndsLeaving P) r site (Done outcome.End site) _ (λ o. b) b
+    (λ bytes. set_file P k site slot (further file (length bytes)) b))
 
 pub missing_leaves : (P : Site → Type 0) (k : IsKept P) (facts : Facts) (slot : ℕ) (file : FileAt) (got : List ℕ)
     (n : ℕ) (site : Site) (own : Own) (answers : Answers) → P site
@@ -260,46 +277,55 @@ missing_leaves P k facts slot file got n site [] answers b =
     either (EndsLeaving P) (n == 0) (Done (outcome.Bytes got) site) (ask_read file (min n facts.read_len) site answers)
     (λ z. b) (λ z. read_leaves P file (min n facts.read_len) site answers b)
 missing_leaves P k facts slot file got n site (asked ∷ later) answers b =
-    answered_in (EndsLeaving P) answers asked.0 (answers asked.0) _ refl tt (λ r is. by_content (EndsLeaving P) r site (refuses kind.UnexpectedEof site) _ (λ o. b) b
+    answered_in (EndsLeaving P) answers asked.0 (answers asked.0) _ refl tt
+    (λ r is. by_content (EndsLeaving P) r site (refuse_locally kind.UnexpectedEof site) _ (λ o. b) b
     (λ bytes. missing_leaves P k facts slot (further file (length bytes)) _ _
     (with_slot site slot (File (further file (length bytes)))) later answers
     (set_file P k site slot (further file (length bytes)) b)))
 
 pub was_written_leaves : (P : Site → Type 0) (k : IsKept P) (facts : Facts) (slot : ℕ) (bytes : List ℕ) (file : FileAt)
     (site : Site) (own : Own) (answers : Answers) → P site
-    → EndsLeaving P (by_reply (write_first file bytes site facts answers) (was_written slot file (part_len facts bytes) site) own answers)
+    → EndsLeaving P (by_reply (write_first file bytes site facts answers)
+    (was_written slot file (part_len facts bytes) site) own answers)
 was_written_leaves P k facts slot bytes file site own answers b =
     once_leaves P (write_first file bytes site facts answers) (was_written slot file (part_len facts bytes) site) own
     answers
-    (either (EndsLeaving P) (length bytes == 0) (Done (outcome.Count 0) site) _ (λ z. b) (λ z. write_leaves P file (next_part facts bytes) site answers b))
+    (either (EndsLeaving P) (length bytes == 0) (Done (outcome.Count 0) site) _ (λ z. b)
+    (λ z. write_leaves P file (next_part facts bytes) site answers b))
     (λ r. done_leaves P site (with_slot site slot (File (further file (part_len facts bytes))))
     (outcome.Count (part_len facts bytes)) r b (set_file P k site slot (further file (part_len facts bytes)) b))
 
-pub parts_leave : (P : Site → Type 0) (facts : Facts) (keep : Keeping) (file : FileAt) (bytes : List ℕ) (site : Site)
+pub parts_leave : (P : Site → Type 0) (facts : Facts) (keep : FileKeeper) (file : FileAt) (bytes : List ℕ) (site : Site)
     (own : Own) (answers : Answers) → ((x : Site) (f : FileAt) → P x → P (keep f x)) → P site
     → EndsLeaving P (rest_next keep file bytes site facts own answers)
 parts_leave P facts keep file bytes site [] answers keeps b =
-    either (EndsLeaving P) (length bytes == 0) (Done outcome.Done site) _ (λ z. b) (λ z. write_leaves P file (next_part facts bytes) site answers b)
+    either (EndsLeaving P) (length bytes == 0) (Done outcome.Done site) _ (λ z. b)
+    (λ z. write_leaves P file (next_part facts bytes) site answers b)
 parts_leave P facts keep file bytes site (asked ∷ later) answers keeps b =
-    answered_in (EndsLeaving P) answers asked.0 (answers asked.0) _ refl tt (λ r is. by_status (EndsLeaving P) r site _ (λ o. b)
+    answered_in (EndsLeaving P) answers asked.0 (answers asked.0) _ refl tt
+    (λ r is. by_status (EndsLeaving P) r site _ (λ o. b)
     (parts_leave P facts keep (further file (part_len facts bytes)) (drop (part_len facts bytes) bytes)
     (keep (further file (part_len facts bytes)) site) later answers keeps
     (keeps site (further file (part_len facts bytes)) b)))
 
 -- ---- whole files and listings
 
-pub opened_leaves : (P : Site → Type 0) (first : Move) (site : Site) (go : ℕ → List ℕ → Plan) (own : Own) (answers : Answers) → P site → EndsLeaving P first
-    → ((place : ℕ) (handle : List ℕ) (later : Own) → EndsLeaving P (go place handle later answers)) → EndsLeaving P (once_opened first site go own answers)
+pub opened_leaves : (P : Site → Type 0) (first : Move) (site : Site) (go : ℕ → List ℕ → Plan) (own : Own)
+    (answers : Answers) → P site → EndsLeaving P first
+    → ((place : ℕ) (handle : List ℕ) (later : Own) → EndsLeaving P (go place handle later answers))
+    → EndsLeaving P (once_opened first site go own answers)
 opened_leaves P first site go [] answers b asks goes = asks
 opened_leaves P first site go (asked ∷ later) answers b asks goes =
-    answered_in (EndsLeaving P) answers asked.0 (answers asked.0) _ refl tt (λ r is. on_granted (EndsLeaving P) r site _ (λ o. b) (λ handle. goes asked.0 handle later))
+    answered_in (EndsLeaving P) answers asked.0 (answers asked.0) _ refl tt
+    (λ r is. on_granted (EndsLeaving P) r site _ (λ o. b) (λ handle. goes asked.0 handle later))
 
 pub entries_leave : (P : Site → Type 0) (handle : List ℕ) (got : List NameEntry) (bound : ℕ) (site : Site) (own : Own)
     (answers : Answers) → P site → EndsLeaving P (entries_next handle got bound site own answers)
 entries_leave P handle got bound site [] answers b = either (EndsLeaving P) (bound == 0) (Done outcome.GivenUp site)
     (Ask (request.Readdir handle)) (λ e. b) (λ e. tt)
 entries_leave P handle got bound site (asked ∷ later) answers b =
-    answered_in (EndsLeaving P) answers asked.0 (answers asked.0) _ refl tt (λ r is. on_entries (EndsLeaving P) r site (Done (outcome.Names got) site) _ (λ o. b) b
+    answered_in (EndsLeaving P) answers asked.0 (answers asked.0) _ refl tt
+    (λ r is. on_entries (EndsLeaving P) r site (Done (outcome.Names got) site) _ (λ o. b) b
     (λ entries. entries_leave P handle (got ++ entries) (bound - 1) site later answers b))
 
 awaits_leave : (P : Site → Type 0) (waiting : Own) (site : Site) → P site → EndsLeaving P (await_first waiting site)
@@ -344,7 +370,8 @@ window_leaves P facts handle bound reads replies waiting site b = by_refused (fi
 
 -- ---- cancelled
 
-pub on_file_left : (P : Site → Type 0) (site : Site) (x : Slot) (go : FileAt → Site) → P site → ((file : FileAt) → P (go file)) → P (left_on_file x site go)
+pub on_file_left : (P : Site → Type 0) (site : Site) (x : Slot) (go : FileAt → Site) → P site
+    → ((file : FileAt) → P (go file)) → P (left_on_file x site go)
 on_file_left P site Empty go b goes = b
 on_file_left P site (File file) go b goes = goes file
 on_file_left P site (Buffered file buffer) go b goes = b

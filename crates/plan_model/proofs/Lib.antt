@@ -1,36 +1,36 @@
 pub mod MoveLaws
 pub mod SlotLaws
-pub mod PathLaws
-pub mod FileLaws
-pub mod OpenLaws
-pub mod BufferLaws
-pub mod WholeLaws
+mod PathLaws
+mod FileLaws
+mod OpenLaws
+mod BufferLaws
+mod WholeLaws
 pub mod CallLaws
 pub mod CancelLaws
 pub mod FitLaws
 pub mod CountLaws
-pub mod BufferCounts
-pub mod CallCounts
+mod BufferCounts
+mod CallCounts
 pub mod Among
 pub mod Spans
 pub mod SpanLaws
 pub mod Tiles
-pub mod TileSteps
-pub mod LastTile
-pub mod OpenReads
+mod TileSteps
+mod LastTile
+mod OpenReads
 pub mod WindowAsks
-pub mod WindowLaws
+mod WindowLaws
 pub mod WindowSteps
 pub mod OpenSteps
 pub mod AskedReads
 pub mod AskedLaws
-pub mod CallRows
+mod CallRows
 pub mod LeftSites
-pub mod LeftCalls
-pub mod LimitLaws
-pub mod LimitWrites
-pub mod LimitBuffers
+mod LeftCalls
+mod LimitLaws
+mod LimitWrites
+mod LimitBuffers
 pub mod LimitEnds
-pub mod ReadAsks
+mod ReadAsks
 pub mod ReadEnds
-pub mod Weights
+mod Weights

@@ -12,12 +12,12 @@ use Rattle.sftp_model.specs.declared.slot.Buffer.{Buffer}
 use Rattle.sftp_model.specs.declared.slot.Slot.TheVariants.{Buffered}
 use Rattle.sftp_model.specs.declared.slot.Site.{Site}
 use Rattle.sftp_model.specs.Slots.{slot_at, with_slot}
-use Rattle.plan_model.specs.Moves.{Answers, Own, ask_read, refuses, on_buffered, further}
+use Rattle.plan_model.specs.Moves.{Answers, Own, ask_read, refuse_locally, on_buffered, further}
 use Rattle.plan_model.specs.BufferPlans.{
-  pending,
+  pending_bytes,
   sought_slot,
   sought_buffer,
-  given,
+  buffered_bytes,
   without_reading,
   was_filled,
   fill_next,
@@ -26,7 +26,7 @@ use Rattle.plan_model.specs.BufferPlans.{
   with_deferred,
   flush_next,
   is_good,
-  unflushed,
+  unflushed_writes,
 }
 use Rattle.plan_model.specs.RequestCounts.{EachHasByte, IsWithinLimit, BuffersWithin, LeavesWithin}
 use Rattle.plan_model.proofs.MoveLaws.{either, by_status, by_content, at_buffered}
@@ -45,7 +45,11 @@ set_buffer : (facts : Facts) (site : Site) (slot : ℕ) (file : FileAt) (old new
     → IsWithinLimit facts old → BuffersWithin facts site → BuffersWithin facts (with_slot site slot (Buffered file new))
 set_buffer facts site slot file old new same w b =
     within_set facts site slot (Buffered file new)
-    (record { within = subst (λ (l : List (ℕ × ℕ)). pending l ≤ facts.write_limit) (sym same) w.within; each = subst EachHasByte (sym same) w.each }) b
+    (record {
+      within = subst (λ (l : List (ℕ × ℕ)). pending_bytes l ≤ facts.write_limit) (sym same) w.within;
+      each =
+          subst EachHasByte (sym same) w.each;
+    }) b
 
 -- ---- seeks and reads
 
@@ -58,10 +62,12 @@ sought_leaves facts site slot file to buffer w b = by_same (to == file.offset)
         (if t then Buffered file buffer else Buffered (record file { offset = to })
         (sought_buffer file.offset to buffer)))
     by_same true = set_buffer facts site slot file buffer buffer refl w b
-    by_same false = set_buffer facts site slot (record file { offset = to }) buffer (sought_buffer file.offset to buffer) refl w b
+    by_same false = set_buffer facts site slot (record file { offset = to }) buffer
+        (sought_buffer file.offset to buffer) refl w b
 
 given_leaves : (facts : Facts) (slot n : ℕ) (bytes : List ℕ) (file : FileAt) (buffer : Buffer) (site : Site)
-    → IsWithinLimit facts buffer → BuffersWithin facts site → LeavesWithin facts (given slot n bytes file buffer site)
+    → IsWithinLimit facts buffer → BuffersWithin facts site → LeavesWithin facts
+    (buffered_bytes slot n bytes file buffer site)
 given_leaves facts slot n bytes file buffer site w b = set_buffer facts site slot (further file (length (take n bytes)))
     buffer (record buffer { bytes = drop n bytes }) refl w b
 
@@ -70,8 +76,10 @@ filled_leaves : (facts : Facts) (slot n : ℕ) (file : FileAt) (buffer : Buffer)
 filled_leaves facts slot n file buffer site r w b =
     let left : BuffersWithin facts (without_reading slot file buffer site) =
     set_buffer facts site slot file buffer (record buffer { reading = None }) refl w b in
-    by_content (LeavesWithin facts) r (without_reading slot file buffer site) (Done outcome.End (without_reading slot file buffer site)) _ (λ o. left) left
-    (λ bytes. given_leaves facts slot n bytes file (record buffer { reading = None }) site (record { within = w.within; each = w.each }) b)
+    by_content (LeavesWithin facts) r (without_reading slot file buffer site)
+    (Done outcome.End (without_reading slot file buffer site)) _ (λ o. left) left
+    (λ bytes. given_leaves facts slot n bytes file (record buffer { reading = None }) site
+    (record { within = w.within; each = w.each }) b)
 
 fill_leaves : (facts : Facts) (slot n : ℕ) (file : FileAt) (buffer : Buffer) (site : Site) (reading : Option ℕ)
     (own : Own) (answers : Answers) → IsWithinLimit facts buffer → BuffersWithin facts site
@@ -88,14 +96,16 @@ fill_leaves facts slot n file buffer site None own answers w b =
 from_leaves : (facts : Facts) (slot n : ℕ) (file : FileAt) (buffer : Buffer) (site : Site) (bytes : List ℕ) (own : Own)
     (answers : Answers) → IsWithinLimit facts buffer → BuffersWithin facts site
     → LeavesWithin facts (from_buffer slot n file buffer site facts bytes own answers)
-from_leaves facts slot n file buffer site [] own answers w b = fill_leaves facts slot n file buffer site buffer.reading own answers w b
-from_leaves facts slot n file buffer site (c ∷ bytes) own answers w b = given_leaves facts slot n (c ∷ bytes) file buffer site w b
+from_leaves facts slot n file buffer site [] own answers w b =
+    fill_leaves facts slot n file buffer site buffer.reading own answers w b
+from_leaves facts slot n file buffer site (c ∷ bytes) own answers w b =
+    given_leaves facts slot n (c ∷ bytes) file buffer site w b
 
 pub buf_read_leaves : (facts : Facts) (slot n : ℕ) (file : FileAt) (buffer : Buffer) (site : Site) (own : Own)
     (answers : Answers) → IsWithinLimit facts buffer → BuffersWithin facts site
     → LeavesWithin facts (buf_read_file_next slot n site facts own answers file buffer)
 buf_read_leaves facts slot n file buffer site own answers w b =
-    either (LeavesWithin facts) (not file.readable) (refuses kind.NotReadable site) _ (λ e. b)
+    either (LeavesWithin facts) (not file.readable) (refuse_locally kind.NotReadable site) _ (λ e. b)
     (λ e. either (LeavesWithin facts) (n == 0) (Done (outcome.Bytes []) site)
     (from_buffer slot n file buffer site facts buffer.bytes own answers) (λ z. b)
     (λ z. from_leaves facts slot n file buffer site buffer.bytes own answers w b))
@@ -103,12 +113,13 @@ buf_read_leaves facts slot n file buffer site own answers w b =
 pub reading_leaves : (facts : Facts) (site : Site) (slot place : ℕ) (file : FileAt) (buffer : Buffer)
     → IsWithinLimit facts buffer → BuffersWithin facts site → BuffersWithin facts
     (with_slot site slot (Buffered file (record buffer { reading = Some place })))
-reading_leaves facts site slot place file buffer w b = set_buffer facts site slot file buffer (record buffer { reading = Some place }) refl w b
+reading_leaves facts site slot place file buffer w b = set_buffer facts site slot file buffer
+    (record buffer { reading = Some place }) refl w b
 
 -- ---- flushes
 
 pub flush_leaves : (facts : Facts) (slot : ℕ) (file : FileAt) (buffer : Buffer) (site : Site) (answers : Answers)
-    (writes : List (ℕ × ℕ)) → pending writes ≤ facts.write_limit → EachHasByte writes → BuffersWithin facts site
+    (writes : List (ℕ × ℕ)) → pending_bytes writes ≤ facts.write_limit → EachHasByte writes → BuffersWithin facts site
     → LeavesWithin facts (flush_next slot file buffer site answers writes)
 flush_leaves facts slot file buffer site answers [] le each b = b
 flush_leaves facts slot file buffer site answers (write ∷ writes) le each b =
@@ -117,23 +128,30 @@ flush_leaves facts slot file buffer site answers (write ∷ writes) le each b =
     (record { within = omega (arith, le); each = each.1 }) b in
     answered_in (LeavesWithin facts) answers write.0 (answers write.0) _ refl tt
     (λ r is. by_status (LeavesWithin facts) r (with_deferred slot file buffer site writes) _ (λ o. left)
-    (flush_leaves facts slot file buffer (with_deferred slot file buffer site writes) answers writes (omega (arith, le)) each.1 left))
+    (flush_leaves facts slot file buffer (with_deferred slot file buffer site writes) answers writes (omega (arith, le))
+    each.1 left))
 
-unflushed_within : (limit : ℕ) (answers : Answers) (writes : List (ℕ × ℕ)) → pending writes ≤ limit → EachHasByte writes
-    → (pending (unflushed answers writes) ≤ limit) × EachHasByte (unflushed answers writes)
+unflushed_within : (limit : ℕ) (answers : Answers) (writes : List (ℕ × ℕ)) → pending_bytes writes ≤ limit
+    → EachHasByte writes
+    → (pending_bytes (unflushed_writes answers writes) ≤ limit) × EachHasByte (unflushed_writes answers writes)
 unflushed_within limit answers [] le each = (le, each)
-unflushed_within limit answers (write ∷ writes) le each = by_test (is_good (answers write.0)) (unflushed_within limit answers writes (omega (arith, le)) each.1)
+unflushed_within limit answers (write ∷ writes) le each = by_test (is_good (answers write.0))
+    (unflushed_within limit answers writes (omega (arith, le)) each.1)
   where
-    by_test : (t : Bool) → (pending (unflushed answers writes) ≤ limit) × EachHasByte (unflushed answers writes)
-        → (pending (if t then unflushed answers writes else write ∷ writes) ≤ limit) × EachHasByte (if t then unflushed answers writes else write ∷ writes)
+    by_test : (t : Bool) → (pending_bytes (unflushed_writes answers writes) ≤ limit)
+        × EachHasByte (unflushed_writes answers writes)
+        → (pending_bytes (if t then unflushed_writes answers writes else write ∷ writes) ≤ limit)
+        × EachHasByte (if t then unflushed_writes answers writes else write ∷ writes)
     by_test true rest = rest
     by_test false rest = (le, each)
 
 pub unflushed_leaves : (facts : Facts) (site : Site) (slot : ℕ) (file : FileAt) (buffer : Buffer) (answers : Answers)
     → IsWithinLimit facts buffer → BuffersWithin facts site → BuffersWithin facts
-    (with_deferred slot file buffer site (unflushed answers buffer.deferred))
+    (with_deferred slot file buffer site (unflushed_writes answers buffer.deferred))
 unflushed_leaves facts site slot file buffer answers w b =
-    let u : (pending (unflushed answers buffer.deferred) ≤ facts.write_limit)
-    × EachHasByte (unflushed answers buffer.deferred) = unflushed_within facts.write_limit answers buffer.deferred
+    let u : (pending_bytes (unflushed_writes answers buffer.deferred) ≤ facts.write_limit)
+    × EachHasByte (unflushed_writes answers buffer.deferred) =
+    unflushed_within facts.write_limit answers buffer.deferred
     w.within w.each in
-    within_set facts site slot (Buffered file (record buffer { deferred = unflushed answers buffer.deferred })) (record { within = u.0; each = u.1 }) b
+    within_set facts site slot (Buffered file (record buffer { deferred = unflushed_writes answers buffer.deferred }))
+    (record { within = u.0; each = u.1 }) b

@@ -13,7 +13,7 @@ use Rattle.sftp_model.specs.declared.slot.Slot.TheVariants.{Empty, File, Buffere
 use Rattle.sftp_model.specs.declared.slot.Site.{Site}
 use Rattle.sftp_model.specs.Slots.{slot_at, with_slot}
 use Rattle.plan_model.specs.Moves.{Answers, Own, further}
-use Rattle.plan_model.specs.BufferPlans.{pending, with_deferred, taken_out, is_full, with_capacity, deferrable_len, after_write, carried, freed, after_writes}
+use Rattle.plan_model.specs.BufferPlans.{pending_bytes, with_deferred, taken_out, is_full, with_capacity, deferrable_len, after_write, carried_length, with_oldest_settled, after_writes}
 use Rattle.plan_model.specs.RequestCounts.{EachHasByte, IsWithinLimit, BuffersWithin}
 use Rattle.plan_model.proofs.MoveLaws.{by_status}
 use Rattle.plan_model.proofs.CountLaws.{answered_in}
@@ -48,13 +48,14 @@ within_set facts site slot x new w = λ j file buffer is. subst (SlotWithin fact
 
 -- ---- where the window is full, the oldest write is taken out
 
-dropped : (writes : List (ℕ × ℕ)) (limit : ℕ) → 1 ≤ limit → pending writes ≡ limit → EachHasByte writes
-    → EachHasByte (drop 1 writes) × (pending (drop 1 writes) < limit)
+dropped : (writes : List (ℕ × ℕ)) (limit : ℕ) → 1 ≤ limit → pending_bytes writes ≡ limit → EachHasByte writes
+    → EachHasByte (drop 1 writes) × (pending_bytes (drop 1 writes) < limit)
 dropped [] limit some full each = absurd (omega (arith, some, full))
 dropped (write ∷ writes) limit some full each = let one : 1 ≤ write.1 = each.0 in (each.1, omega (arith, one, full))
 
 pub freed_within : (facts : Facts) (buffer : Buffer) → 1 ≤ facts.write_limit → IsWithinLimit facts buffer
-    → IsWithinLimit facts (freed facts buffer) × (pending (freed facts buffer).deferred < facts.write_limit)
+    → IsWithinLimit facts (with_oldest_settled facts buffer) ×
+    (pending_bytes (with_oldest_settled facts buffer).deferred < facts.write_limit)
 freed_within facts buffer some w = by_test (is_full facts buffer) refl
   where
     equal : (n m : ℕ) → (n == m) ≡ true → n ≡ m
@@ -65,27 +66,29 @@ freed_within facts buffer some w = by_test (is_full facts buffer) refl
 
     by_test : (t : Bool) → is_full facts buffer ≡ t
         → IsWithinLimit facts (if t then record buffer { deferred = drop 1 buffer.deferred } else buffer)
-        × (pending (if t then record buffer { deferred = drop 1 buffer.deferred } else buffer).deferred <
+        × (pending_bytes (if t then record buffer { deferred = drop 1 buffer.deferred } else buffer).deferred <
         facts.write_limit)
     by_test true is =
-        let d : EachHasByte (drop 1 buffer.deferred) × (pending (drop 1 buffer.deferred) < facts.write_limit) =
-        dropped buffer.deferred facts.write_limit some (equal (pending buffer.deferred) facts.write_limit is) w.each
+        let d : EachHasByte (drop 1 buffer.deferred) × (pending_bytes (drop 1 buffer.deferred) < facts.write_limit) =
+        dropped buffer.deferred facts.write_limit some (equal (pending_bytes buffer.deferred) facts.write_limit is)
+        w.each
         in
         (record { within = omega (arith, d.1); each = d.0 }, d.1)
-    by_test false is = (w, below (pending buffer.deferred) facts.write_limit is w.within)
+    by_test false is = (w, below (pending_bytes buffer.deferred) facts.write_limit is w.within)
 
 pub by_capacity : (P : Move → Type 0) (slot : ℕ) (file : FileAt) (buffer : Buffer) (site : Site) (facts : Facts)
     (answers : Answers) (go : Buffer → Site → Move) → 1 ≤ facts.write_limit → IsWithinLimit facts buffer
     → BuffersWithin facts site
     → ((place : ℕ) → P (Wait place)) → ((o : Outcome) (x : Site) → BuffersWithin facts x → P (Done o x))
-    → ((x : Site) → BuffersWithin facts x → P (go (freed facts buffer) x))
+    → ((x : Site) → BuffersWithin facts x → P (go (with_oldest_settled facts buffer) x))
     → P (with_capacity slot file buffer site facts answers go)
 by_capacity P slot file buffer site facts answers go some w b waits ends goes = by_test (is_full facts buffer) refl goes
   where
     equal : (n m : ℕ) → (n == m) ≡ true → n ≡ m
     equal n m e = grind (arith, nat_tests)
 
-    taken : (writes : List (ℕ × ℕ)) → buffer.deferred ≡ writes → EachHasByte writes → pending writes ≡ facts.write_limit
+    taken : (writes : List (ℕ × ℕ)) → buffer.deferred ≡ writes → EachHasByte writes → pending_bytes writes
+        ≡ facts.write_limit
         → ((x : Site) → BuffersWithin facts x → P (go (record buffer { deferred = drop 1 buffer.deferred }) x))
         → P (taken_out slot file buffer site answers writes go)
     taken [] is each full goes = absurd (omega (arith, some, full))
@@ -95,34 +98,39 @@ by_capacity P slot file buffer site facts answers go some w b waits ends goes = 
         within_set facts site slot (Buffered file (record buffer { deferred = writes }))
         (record { within = omega (arith, one, full); each = each.1 }) b in
         answered_in P answers write.0 (answers write.0) _ refl (waits write.0) (λ r k.
-        by_status P r (with_deferred slot file buffer site writes) _ (λ o. ends o (with_deferred slot file buffer site writes) left)
+        by_status P r (with_deferred slot file buffer site writes) _
+        (λ o. ends o (with_deferred slot file buffer site writes) left)
         (subst (λ (l : List (ℕ × ℕ)). P (go (record buffer { deferred = drop 1 l })
         (with_deferred slot file buffer site writes))) is (goes (with_deferred slot file buffer site writes) left)))
 
     by_test : (t : Bool) → is_full facts buffer ≡ t → ((x : Site) → BuffersWithin facts x
         → P (go (if t then record buffer { deferred = drop 1 buffer.deferred } else buffer) x))
         → P (if t then taken_out slot file buffer site answers buffer.deferred go else go buffer site)
-    by_test true is goes = taken buffer.deferred refl w.each (equal (pending buffer.deferred) facts.write_limit is) goes
+    by_test true is goes = taken buffer.deferred refl w.each (equal (pending_bytes buffer.deferred) facts.write_limit
+        is) goes
     by_test false is goes = goes site b
 
 -- ---- a WRITE of at least a byte, and of no more than the limit leaves
 
 pub some_deferrable : (facts : Facts) (bytes : List ℕ) (buffer : Buffer) → 1 ≤ facts.write_len
-    → pending buffer.deferred < facts.write_limit → 1 ≤ length bytes → 1 ≤ deferrable_len facts bytes buffer
+    → pending_bytes buffer.deferred < facts.write_limit → 1 ≤ length bytes → 1 ≤ deferrable_len facts bytes buffer
 some_deferrable facts bytes buffer len free some = omega (arith, len, free, some)
 
 pub written_within : (facts : Facts) (bytes : List ℕ) (buffer : Buffer) (place : ℕ) → IsWithinLimit facts buffer
-    → pending buffer.deferred < facts.write_limit → 1 ≤ deferrable_len facts bytes buffer
+    → pending_bytes buffer.deferred < facts.write_limit → 1 ≤ deferrable_len facts bytes buffer
     → IsWithinLimit facts (after_write buffer place (deferrable_len facts bytes buffer))
-written_within facts bytes buffer place w free some = after_within facts buffer place (deferrable_len facts bytes buffer) w some (omega (arith, free))
+written_within facts bytes buffer place w free some = after_within facts buffer place
+    (deferrable_len facts bytes buffer) w some (omega (arith, free))
 
 -- the own WRITEs of a call carry what its plan sends
 abbrev pub Carries : Facts → List ℕ → Buffer → Own → Type 0
 Carries facts bytes buffer [] = Unit {0}
 Carries facts bytes buffer (asked ∷ later) =
-    (carried asked.1 ≡ deferrable_len facts bytes (freed facts buffer)) × (1 ≤ deferrable_len facts bytes (freed facts buffer))
-    × Carries facts (drop (deferrable_len facts bytes (freed facts buffer)) bytes)
-    (after_write (freed facts buffer) asked.0 (deferrable_len facts bytes (freed facts buffer))) later
+    (carried_length asked.1 ≡ deferrable_len facts bytes (with_oldest_settled facts buffer))
+    × (1 ≤ deferrable_len facts bytes (with_oldest_settled facts buffer))
+    × Carries facts (drop (deferrable_len facts bytes (with_oldest_settled facts buffer)) bytes)
+    (after_write (with_oldest_settled facts buffer) asked.0 (deferrable_len facts bytes
+    (with_oldest_settled facts buffer))) later
 
 -- what such WRITEs leave
 pub carried_within : (facts : Facts) (bytes : List ℕ) (file : FileAt) (buffer : Buffer) (own : Own)
@@ -130,9 +138,13 @@ pub carried_within : (facts : Facts) (bytes : List ℕ) (file : FileAt) (buffer 
     → SlotWithin facts (after_writes facts file buffer own)
 carried_within facts bytes file buffer [] some w c = w
 carried_within facts bytes file buffer (asked ∷ later) some w c =
-    let f : IsWithinLimit facts (freed facts buffer) × (pending (freed facts buffer).deferred < facts.write_limit) = freed_within facts buffer some w in
-    subst (λ (n : ℕ). SlotWithin facts (after_writes facts (further file n) (after_write (freed facts buffer) asked.0 n) later)) (sym c.0)
-    (carried_within facts (drop (deferrable_len facts bytes (freed facts buffer)) bytes)
-    (further file (deferrable_len facts bytes (freed facts buffer)))
-    (after_write (freed facts buffer) asked.0 (deferrable_len facts bytes (freed facts buffer))) later some
-    (written_within facts bytes (freed facts buffer) asked.0 f.0 f.1 c.1) c.2)
+    let f : IsWithinLimit facts (with_oldest_settled facts buffer)
+    × (pending_bytes (with_oldest_settled facts buffer).deferred < facts.write_limit) =
+    freed_within facts buffer some w in
+    subst (λ (n : ℕ). SlotWithin facts (after_writes facts (further file n)
+    (after_write (with_oldest_settled facts buffer) asked.0 n) later)) (sym c.0)
+    (carried_within facts (drop (deferrable_len facts bytes (with_oldest_settled facts buffer)) bytes)
+    (further file (deferrable_len facts bytes (with_oldest_settled facts buffer)))
+    (after_write (with_oldest_settled facts buffer) asked.0 (deferrable_len facts bytes
+    (with_oldest_settled facts buffer))) later some
+    (written_within facts bytes (with_oldest_settled facts buffer) asked.0 f.0 f.1 c.1) c.2)

@@ -12,7 +12,7 @@ use Rattle.sftp_model.specs.declared.slot.Buffer.{Buffer}
 use Rattle.sftp_model.specs.declared.slot.Slot.{Slot}
 use Rattle.sftp_model.specs.declared.slot.Site.{Site}
 use Rattle.sftp_model.specs.declared.slot.Slot.TheVariants.{Empty, File, Buffered}
-use Rattle.plan_model.specs.Moves.{Own, once_answered, by_reply, refused, on_status, on_content, on_file, on_buffered, told_by}
+use Rattle.plan_model.specs.Moves.{Own, once_answered, by_reply, refusal_move, on_status, on_content, on_file, on_buffered, told_by}
 
 -- ---- cases, of any predicate on moves
 
@@ -30,12 +30,14 @@ pub replied : (s : Situation) (own : Own) (first : Move) (go : Reply → Move) �
 replied s [] first go asks goes = asks refl
 replied s (asked ∷ later) first go asks goes = answered s asked.0 (s.answers asked.0) go refl (λ r is. goes r)
 
-pub by_status : (P : Move → Type 0) (r : Reply) (site : Site) (go : Move) → ((o : Outcome) → P (Done o site)) → P go → P (on_status r site go)
+pub by_status : (P : Move → Type 0) (r : Reply) (site : Site) (go : Move) → ((o : Outcome) → P (Done o site)) → P go
+    → P (on_status r site go)
 by_status P (reply.Status code message language) site go ends goes =
-    either P (code == 0) go (refused (reply.Status code message language) site) (λ e. goes) (λ e. ends _)
+    either P (code == 0) go (refusal_move (reply.Status code message language) site) (λ e. goes) (λ e. ends _)
 by_status P r site go ends goes = ends _
 
-pub by_refusal : (P : Move → Type 0) (r : Reply) (site : Site) → ((o : Outcome) → P (Done o site)) → P (refused r site)
+pub by_refusal : (P : Move → Type 0) (r : Reply) (site : Site) → ((o : Outcome) → P (Done o site))
+    → P (refusal_move r site)
 by_refusal P (reply.Status code message language) site ends = ends _
 by_refusal P r site ends = ends _
 
@@ -43,7 +45,7 @@ pub by_content : (P : Move → Type 0) (r : Reply) (site : Site) (ended : Move) 
     → ((o : Outcome) → P (Done o site)) → P ended → ((bytes : List ℕ) → P (go bytes)) → P (on_content r site ended go)
 by_content P (reply.Content bytes) site ended go ends e goes = goes bytes
 by_content P (reply.Status code message language) site ended go ends e goes =
-    either P (code == 1) ended (refused (reply.Status code message language) site) (λ x. e) (λ x. ends _)
+    either P (code == 1) ended (refusal_move (reply.Status code message language) site) (λ x. e) (λ x. ends _)
 by_content P r site ended go ends e goes = ends _
 
 pub by_attrs : (P : Move → Type 0) (r : Reply) (site : Site) → ((o : Outcome) → P (Done o site)) → P (told_by site r)

@@ -19,11 +19,11 @@ use Rattle.sftp_model.specs.declared.slot.Site.{Site}
 use Rattle.sftp_model.specs.declared.slot.Slot.TheVariants.{Empty, File, Buffered}
 use Rattle.sftp_model.specs.Slots.{slot_at, with_slot, grant_of, slot_has, has_grant}
 use Rattle.sftp_model.specs.Numbers.{FSYNC, COPY_DATA}
-use Rattle.plan_model.specs.Moves.{Own, ask_path, handle_of, overflows, refuses, refuses_extension, offers, done_by, told_by, by_reply, further}
+use Rattle.plan_model.specs.Moves.{Own, ask_path, handle_of, overflows, refuse_locally, refuses_extension, offers, done_by, told_by, by_reply, further}
 use Rattle.plan_model.specs.PathPlans.{set_attributes}
 use Rattle.plan_model.specs.FilePlans.{
   open_request,
-  opened,
+  opened_move,
   opened_file,
   first_place,
   open_next,
@@ -39,7 +39,7 @@ use Rattle.plan_model.specs.FilePlans.{
   ask_sync,
   sync_next,
   ask_copy,
-  copied,
+  site_after_copy,
   copy_files_next,
   copy_next,
   clone_next,
@@ -56,7 +56,8 @@ use Rattle.plan_model.proofs.FileLaws.{Stands, stands_set, stands_held, held_han
 -- a slot that is set holds what it is given
 pub set_within : (s : Situation) (site : Site) (slot : ℕ) (x : Slot) → HoldsWithin s site
     → ((g : ℕ) → slot_has g x ≡ true → IsHeld s g) → HoldsWithin s (with_slot site slot x)
-set_within s site slot x within new g h = elim (set_has g site.slots slot x h) [ inl was ↦ within g was | inr is ↦ new g is ]
+set_within s site slot x within new g h = elim (set_has g site.slots slot x h)
+    [ inl was ↦ within g was | inr is ↦ new g is ]
 
 pub emptied : (s : Situation) (slot : ℕ) → HoldsWithin s (with_slot s.site slot Empty)
 emptied s slot = set_within s s.site slot Empty (λ g h. inl h) (λ g e. absurd cc)
@@ -68,17 +69,19 @@ pub open_good : (s : Situation) (slot : ℕ) (flags : OpenFlags) (path : List �
     (open_next slot flags path s.site s.facts s.own s.answers)
 open_good s slot flags path fits brings = by_own s.own refl
   where
-    by_handle : (p : ℕ) (r : Reply) → ((handle : List ℕ) → r ≡ reply.Handle handle → s.brought p) → IsGood s (opened slot flags s.site p r)
+    by_handle : (p : ℕ) (r : Reply) → ((handle : List ℕ) → r ≡ reply.Handle handle → s.brought p)
+        → IsGood s (opened_move slot flags s.site p r)
     by_handle p (reply.Handle handle) came =
-        set_within s s.site slot (File (opened_file flags p)) (λ g h. inl h) (λ g is. inr (subst s.brought (sym (same_grant p g is)) (came handle refl)))
+        set_within s s.site slot (File (opened_file flags p)) (λ g h. inl h)
+        (λ g is. inr (subst s.brought (sym (same_grant p g is)) (came handle refl)))
     by_handle p (reply.Status code message language) came = as_begun s outcome.NoFile
     by_handle p r came = as_begun s outcome.NoFile
 
     by_own : (own : Own) → s.own ≡ own → IsGood s (by_reply (ask_path (open_request flags path) s.site)
-        (opened slot flags s.site (first_place own)) own s.answers)
+        (opened_move slot flags s.site (first_place own)) own s.answers)
     by_own [] is = path_good s (open_request flags path) (λ e. (is, fits, refl, e))
     by_own (asked ∷ later) is =
-        answered s asked.0 (s.answers asked.0) (opened slot flags s.site asked.0) refl
+        answered s asked.0 (s.answers asked.0) (opened_move slot flags s.site asked.0) refl
         (λ r got. by_handle asked.0 r (λ handle e. brings asked.0
         (record {
           asked = asked.1;
@@ -95,7 +98,8 @@ pub close_good : (s : Situation) (slot : ℕ) → ((handle : List ℕ) → Close
     → s.closes handle) → IsGood s (close_next slot s.site s.facts s.own s.answers)
 close_good s slot closes = by_slot (slot_at s.site slot) refl
   where
-    grant_good : (grant : ℕ) → grant_of (slot_at s.site slot) ≡ Some grant → IsGood s (close_grant_next grant (with_slot s.site slot Empty) s.own s.answers)
+    grant_good : (grant : ℕ) → grant_of (slot_at s.site slot) ≡ Some grant
+        → IsGood s (close_grant_next grant (with_slot s.site slot Empty) s.own s.answers)
     grant_good grant at =
         replied s s.own (if has_grant (with_slot s.site slot Empty) grant then
         Done outcome.Done (with_slot s.site slot Empty) else Ask (request.Close (handle_of (s.answers grant))))
@@ -103,7 +107,14 @@ close_good s slot closes = by_slot (slot_at s.site slot) refl
         (λ fresh. either (IsGood s) (has_grant (with_slot s.site slot Empty) grant)
         (Done outcome.Done (with_slot s.site slot Empty)) (Ask (request.Close (handle_of (s.answers grant))))
         (λ e. emptied s slot)
-        (λ e. closes (handle_of (s.answers grant)) (record { grant = grant; stood = at; fresh = fresh; last = e; bears = refl })))
+        (λ e. closes (handle_of (s.answers grant)) (record {
+          grant = grant;
+          stood = at;
+          fresh = fresh;
+          last = e;
+          bears =
+              refl;
+        })))
         (λ r. by_status (IsGood s) r (with_slot s.site slot Empty) (Done outcome.Done (with_slot s.site slot Empty))
         (ends_in s (with_slot s.site slot Empty) (emptied s slot)) (emptied s slot))
 
@@ -114,15 +125,17 @@ close_good s slot closes = by_slot (slot_at s.site slot) refl
 
 -- ---- attributes, sync
 
-set_good : (s : Situation) (slot : ℕ) (attrs : FileAttrs) → (s.numbers → FitsAttributes attrs) → IsGood s (set_next slot attrs s.site s.facts s.own s.answers)
+set_good : (s : Situation) (slot : ℕ) (attrs : FileAttrs) → (s.numbers → FitsAttributes attrs)
+    → IsGood s (set_next slot attrs s.site s.facts s.own s.answers)
 set_good s slot attrs fits = on_file_good s slot _ (λ file st.
     replied s s.own (ask_set attrs file s.site s.answers) (done_by s.site)
-    (λ e. either (IsGood s) (not file.writable) (refuses kind.NotWritable s.site)
+    (λ e. either (IsGood s) (not file.writable) (refuse_locally kind.NotWritable s.site)
     (Ask (request.Fsetstat (handle_of (s.answers file.grant)) attrs)) (λ x. as_begun s outcome.NoFile)
     (λ x. (held_handle s file.grant (stands_held s slot s.site file.grant st), fits)))
     (λ r. by_status (IsGood s) r s.site (Done outcome.Done s.site) (as_begun s) (as_begun s outcome.Done)))
 
-pub set_len_good : (s : Situation) (slot n : ℕ) → (s.numbers → FitsLong n) → IsGood s (set_len_next slot n s.site s.facts s.own s.answers)
+pub set_len_good : (s : Situation) (slot n : ℕ) → (s.numbers → FitsLong n)
+    → IsGood s (set_len_next slot n s.site s.facts s.own s.answers)
 set_len_good s slot n fits = set_good s slot (set_attributes (Some n) None) (λ k. fitting (Some n) None (fits k))
 
 pub set_perm_good : (s : Situation) (slot mode : ℕ) → IsGood s (set_perm_next slot mode s.site s.facts s.own s.answers)
@@ -131,7 +144,7 @@ set_perm_good s slot mode = set_good s slot (set_attributes None (Some mode)) (�
 pub meta_good : (s : Situation) (slot : ℕ) → IsGood s (meta_next slot s.site s.facts s.own s.answers)
 meta_good s slot = on_file_good s slot _ (λ file st.
     replied s s.own (ask_meta file s.site s.answers) (told_by s.site)
-    (λ e. either (IsGood s) (not file.readable) (refuses kind.NotReadable s.site)
+    (λ e. either (IsGood s) (not file.readable) (refuse_locally kind.NotReadable s.site)
     (Ask (request.Fstat (handle_of (s.answers file.grant)))) (λ x. as_begun s outcome.NoFile)
     (λ x. held_handle s file.grant (stands_held s slot s.site file.grant st)))
     (λ r. by_attrs (IsGood s) r s.site (as_begun s)))
@@ -139,8 +152,9 @@ meta_good s slot = on_file_good s slot _ (λ file st.
 pub sync_good : (s : Situation) (slot : ℕ) → IsGood s (sync_next slot s.site s.facts s.own s.answers)
 sync_good s slot = on_file_good s slot _ (λ file st.
     replied s s.own (ask_sync file s.site s.facts s.answers) (done_by s.site)
-    (λ e. either (IsGood s) (not (offers s.facts FSYNC)) (refuses_extension FSYNC s.site) _ (λ x. as_begun s outcome.NoFile)
-    (λ x. either (IsGood s) (not file.writable) (refuses kind.NotWritable s.site)
+    (λ e. either (IsGood s) (not (offers s.facts FSYNC)) (refuses_extension FSYNC s.site) _
+    (λ x. as_begun s outcome.NoFile)
+    (λ x. either (IsGood s) (not file.writable) (refuse_locally kind.NotWritable s.site)
     (Ask (request.Fsync (handle_of (s.answers file.grant)))) (λ y. as_begun s outcome.NoFile)
     (λ y. held_handle s file.grant (stands_held s slot s.site file.grant st))))
     (λ r. by_status (IsGood s) r s.site (Done outcome.Done s.site) (as_begun s) (as_begun s outcome.Done)))
@@ -157,22 +171,34 @@ copy_good_files s from to n source target sf st =
     let source_held : IsHeld s source.grant = stands_held s from s.site source.grant sf in
     let target_held : IsHeld s target.grant = stands_held s to s.site target.grant st in
     replied s s.own (ask_copy source target n s.site s.facts s.answers) _
-    (λ e. either (IsGood s) (not (offers s.facts COPY_DATA)) (refuses_extension COPY_DATA s.site) _ (λ x. as_begun s outcome.NoFile)
-    (λ x. either (IsGood s) (not target.writable) (refuses kind.NotWritable s.site) _ (λ y. as_begun s outcome.NoFile)
-    (λ y. either (IsGood s) (not source.readable) (refuses kind.NotReadable s.site) _ (λ z. as_begun s outcome.NoFile)
-    (λ z. either (IsGood s) (overflows source.offset n) (refuses kind.OffsetOverflow s.site) _ (λ u. as_begun s outcome.NoFile)
-    (λ u. either (IsGood s) (overflows target.offset n) (refuses kind.OffsetOverflow s.site)
+    (λ e. either (IsGood s) (not (offers s.facts COPY_DATA)) (refuses_extension COPY_DATA s.site) _
+    (λ x. as_begun s outcome.NoFile)
+    (λ x. either (IsGood s) (not target.writable) (refuse_locally kind.NotWritable s.site) _
+    (λ y. as_begun s outcome.NoFile)
+    (λ y. either (IsGood s) (not source.readable) (refuse_locally kind.NotReadable s.site) _
+    (λ z. as_begun s outcome.NoFile)
+    (λ z. either (IsGood s) (overflows source.offset n) (refuse_locally kind.OffsetOverflow s.site) _
+    (λ u. as_begun s outcome.NoFile)
+    (λ u. either (IsGood s) (overflows target.offset n) (refuse_locally kind.OffsetOverflow s.site)
     (Ask (request.CopyData (handle_of (s.answers source.grant)) source.offset n (handle_of (s.answers target.grant))
     target.offset)) (λ v. as_begun s outcome.NoFile)
-    (λ v. (held_handle s source.grant source_held, held_handle s target.grant target_held, in_range source.offset n u, in_range target.offset n v)))))))
-    (λ r. by_status (IsGood s) r s.site (Done outcome.Done (copied from to source target n s.site)) (as_begun s)
+    (λ v. (
+      held_handle s source.grant source_held,
+      held_handle s target.grant target_held,
+      in_range source.offset n u,
+      in_range target.offset n v,
+    )))))))
+    (λ r. by_status (IsGood s) r s.site (Done outcome.Done (site_after_copy from to source target n s.site))
+    (as_begun s)
     (set_within s (with_slot s.site from (File (further source n))) to (File (further target n))
-    (set_within s s.site from (File (further source n)) (λ g h. inl h) (held_alone s source.grant source_held)) (held_alone s target.grant target_held)))
+    (set_within s s.site from (File (further source n)) (λ g h. inl h) (held_alone s source.grant source_held))
+    (held_alone s target.grant target_held)))
 
 pub copy_good : (s : Situation) (from to n : ℕ) → IsGood s (copy_next from to n s.site s.facts s.own s.answers)
 copy_good s from to n =
     either (IsGood s) (from == to) (Done outcome.NoFile s.site) _ (λ e. as_begun s outcome.NoFile)
-    (λ e. on_file_good s from _ (λ source sf. on_file_good s to _ (λ target st. copy_good_files s from to n source target sf st)))
+    (λ e. on_file_good s from _ (λ source sf. on_file_good s to _
+    (λ target st. copy_good_files s from to n source target sf st)))
 
 pub clone_good : (s : Situation) (from to : ℕ) → IsGood s (clone_next from to s.site s.facts s.own s.answers)
 clone_good s from to =
@@ -182,15 +208,19 @@ clone_good s from to =
 
 -- ---- seek, buffer
 
-pub by_seek : (s : Situation) (position : SeekFrom) (offset : ℕ) (go : ℕ → Move) → ((to : ℕ) → IsGood s (go to)) → IsGood s (on_seek position offset s.site go)
+pub by_seek : (s : Situation) (position : SeekFrom) (offset : ℕ) (go : ℕ → Move) → ((to : ℕ) → IsGood s (go to))
+    → IsGood s (on_seek position offset s.site go)
 by_seek s (Start n) offset go goes = goes n
 by_seek s (End n) offset go goes = as_begun s outcome.NoFile
-by_seek s (Current (pos n)) offset go goes = either (IsGood s) (overflows offset n) (refuses kind.SeekOverflow s.site)
+by_seek s (Current (pos n)) offset go goes = either (IsGood s) (overflows offset n)
+    (refuse_locally kind.SeekOverflow s.site)
     (go (offset + n)) (λ e. as_begun s outcome.NoFile) (λ e. goes (offset + n))
-by_seek s (Current (negsuc n)) offset go goes = either (IsGood s) (nat_le offset n) (refuses kind.SeekUnderflow s.site)
+by_seek s (Current (negsuc n)) offset go goes = either (IsGood s) (nat_le offset n)
+    (refuse_locally kind.SeekUnderflow s.site)
     (go (offset - (n + 1))) (λ e. as_begun s outcome.NoFile) (λ e. goes (offset - (n + 1)))
 
-pub seek_good : (s : Situation) (slot : ℕ) (position : SeekFrom) → IsGood s (seek_next slot position s.site s.facts s.own s.answers)
+pub seek_good : (s : Situation) (slot : ℕ) (position : SeekFrom)
+    → IsGood s (seek_next slot position s.site s.facts s.own s.answers)
 seek_good s slot position = on_file_good s slot _ (λ file st. by_seek s position file.offset _
     (λ to. moved_within s slot s.site file (record file { offset = to }) refl st))
 

@@ -62,14 +62,16 @@ no_longer a reads q e = by_tests (list_any (λ asked. begins asked == q) reads) 
     by_tests true c e = absurd cc
     by_tests false c e = (refl, e)
 
-gone : (a : ℕ × Request) (reads : Own) (replies : List (ℕ × Reply)) (waiting : Own) → is_gap (reads ++ a ∷ []) replies waiting (begins a) ≡ false
+gone : (a : ℕ × Request) (reads : Own) (replies : List (ℕ × Reply)) (waiting : Own)
+    → is_gap (reads ++ a ∷ []) replies waiting (begins a) ≡ false
 gone a reads replies waiting = by_gap (is_gap (reads ++ a ∷ []) replies waiting (begins a)) refl
   where
     itself : (n : ℕ) → (n == n) ≡ false → ⊥
     itself n e = absurd (grind (arith, nat_tests))
 
     by_gap : (b : Bool) → is_gap (reads ++ a ∷ []) replies waiting (begins a) ≡ b → b ≡ false
-    by_gap true is = absurd (itself (begins a) (no_longer a reads (begins a) (Gap.free (gap_is (reads ++ a ∷ []) replies waiting (begins a) is))).1)
+    by_gap true is = absurd (itself (begins a) (no_longer a reads (begins a)
+        (Gap.free (gap_is (reads ++ a ∷ []) replies waiting (begins a) is))).1)
     by_gap false is = refl
 
 -- with the READ that was asked
@@ -109,17 +111,21 @@ open_added handle bound facts top a reads answers is w k =
     narrower : (q : ℕ) → (reach (answered_prefix (reads ++ a ∷ []) answers) (outside (reads ++ a ∷ []) answers) ≤ reach
         replies (outside reads answers)) ⊎ ((q ≤ reach replies (outside reads answers))
         × (begins a ≡ reach replies (outside reads answers)))
-        → is_gap (reads ++ a ∷ []) replies (outside (reads ++ a ∷ []) answers) q ≡ true → is_gap reads replies (outside reads answers) q ≡ true
+        → is_gap (reads ++ a ∷ []) replies (outside (reads ++ a ∷ []) answers) q ≡ true
+        → is_gap reads replies (outside reads answers) q ≡ true
     narrower q near e = by_gap (gap_is (reads ++ a ∷ []) replies (outside (reads ++ a ∷ []) answers) q e)
       where
         by_end : (o : Option ℕ) → (begins a == q) ≡ false → is_inside o
             (reach replies (outside (reads ++ a ∷ []) answers)) q ≡ true
             → is_inside o (reach replies (outside reads answers)) q ≡ true
         by_end (Some end) other h = h
-        by_end None other h = test q (reach replies (outside reads answers)) (nearer (less q (reach replies (outside (reads ++ a ∷ []) answers)) h) near)
+        by_end None other h = test q (reach replies (outside reads answers))
+            (nearer (less q (reach replies (outside (reads ++ a ∷ []) answers)) h) near)
           where
-            same : reach (answered_prefix (reads ++ a ∷ []) answers) (outside (reads ++ a ∷ []) answers) ≡ reach replies (outside (reads ++ a ∷ []) answers)
-            same = ap (λ (l : List (ℕ × Reply)). reach l (outside (reads ++ a ∷ []) answers)) (prefix_added a reads answers is)
+            same : reach (answered_prefix (reads ++ a ∷ []) answers) (outside (reads ++ a ∷ []) answers)
+                ≡ reach replies (outside (reads ++ a ∷ []) answers)
+            same = ap (λ (l : List (ℕ × Reply)). reach l (outside (reads ++ a ∷ []) answers))
+                (prefix_added a reads answers is)
 
             apart : (n m : ℕ) → (n == m) ≡ false → m ≤ n → m < n
             apart n m e le = grind (arith, nat_tests)
@@ -134,7 +140,8 @@ open_added handle bound facts top a reads answers is w k =
                 let le : q ≤ begins a = omega (arith, at.0, e) in let below : q < begins a = apart (begins a) q other le
                 in omega (arith, below, e)
 
-        by_gap : Gap (reads ++ a ∷ []) replies (outside (reads ++ a ∷ []) answers) q → is_gap reads replies (outside reads answers) q ≡ true
+        by_gap : Gap (reads ++ a ∷ []) replies (outside (reads ++ a ∷ []) answers) q
+            → is_gap reads replies (outside reads answers) q ≡ true
         by_gap g = is_gap_of reads replies (outside reads answers) q
             (record {
               free = (no_longer a reads q g.free).0;
@@ -142,16 +149,20 @@ open_added handle bound facts top a reads answers is w k =
                   by_end (least_end replies) (no_longer a reads q g.free).1 g.within;
             })
 
-    at_gap : AtGap handle reads replies (outside reads answers) a.1 → open_by (reads ++ a ∷ []) replies (outside (reads ++ a ∷ []) answers) ≤ facts.read_window
+    at_gap : AtGap handle reads replies (outside reads answers) a.1
+        → open_by (reads ++ a ∷ []) replies (outside (reads ++ a ∷ []) answers) ≤ facts.read_window
     at_gap g =
         let f : GapFound reads answers g.gap = gap_found facts top g.gap reads answers w g.is in
-        let d : f.first.of ≤ reach replies (outside reads answers) = start_reached f.first.of reads answers f.first.there in
+        let d : f.first.of ≤ reach replies (outside reads answers) =
+        start_reached f.first.of reads answers f.first.there in
         let at : begins a ≡ g.gap = ap (λ (q : Request). offset_asked 0 q) g.asks in
         let len : len_asked a.1 ≡ gap_len reads g.gap = ap len_asked g.asks in
         let far : gap_len reads g.gap ≡ f.first.of - g.gap = f.first.far in
         let over : g.gap < f.first.of = f.first.over in
-        let near : reach (answered_prefix (reads ++ a ∷ []) answers) (outside (reads ++ a ∷ []) answers) ≤ reach replies (outside reads answers) =
-        reach_added (reach replies (outside reads answers)) a reads answers is (omega arith) (omega (arith, d, at, len, far, over)) in
+        let near : reach (answered_prefix (reads ++ a ∷ []) answers) (outside (reads ++ a ∷ []) answers) ≤ reach replies
+        (outside reads answers) =
+        reach_added (reach replies (outside reads answers)) a reads answers is (omega arith)
+        (omega (arith, d, at, len, far, over)) in
         let less : length (filter (is_gap (reads ++ a ∷ []) replies (outside (reads ++ a ∷ []) answers))
         (map content_end (contents replies))) < length (filter (is_gap reads replies (outside reads answers))
         (map content_end (contents replies))) =
@@ -172,7 +183,8 @@ open_added handle bound facts top a reads answers is w k =
         fewer (is_gap (reads ++ a ∷ []) replies (outside (reads ++ a ∷ []) answers))
         (is_gap reads replies (outside reads answers)) (map content_end (contents replies))
         (λ q there. narrower q (inr (reached q (gap_span q reads answers there), at))) in
-        let none : length (gaps reads replies (outside reads answers)) ≡ 0 = least_none (gaps reads replies (outside reads answers)) b.none in
+        let none : length (gaps reads replies (outside reads answers)) ≡ 0 =
+        least_none (gaps reads replies (outside reads answers)) b.none in
         let endless : length (ends_of replies) ≡ 0 = none_there (λ (g : ℕ × Reply). g.0) (ends_of replies) b.endless in
         let free : length (outside reads answers) < facts.read_window = k.free in
         omega (arith, le, none, endless, free, longer)
@@ -187,7 +199,8 @@ pub windowed_added : (handle : List ℕ) (bound : Option ℕ) (facts : Facts) (t
     → Windowed facts (top + facts.read_len) (reads ++ a ∷ []) answers
 windowed_added handle bound facts top a reads answers is one may w k =
     record {
-      tiled = tiled_added facts.read_len top a reads answers is w.tiled (asked_fits handle bound facts top reads answers a.1 one may w k);
+      tiled = tiled_added facts.read_len top a reads answers is w.tiled
+          (asked_fits handle bound facts top reads answers a.1 one may w k);
       few = open_added handle bound facts top a reads answers is w k;
     }
 
@@ -200,10 +213,12 @@ pub asked_below : (handle : List ℕ) (bound : Option ℕ) (facts : Facts) (top 
 asked_below handle bound facts top reads answers r w a n same =
     let all : length (answered_prefix reads answers) ≡ length (contents (answered_prefix reads answers)) + length
     (ends_of (answered_prefix reads answers)) = all_counted (answered_prefix reads answers) a.good in
-    let sum : length (answered_prefix reads answers) + length (outside reads answers) ≡ length reads = prefix_outside reads answers in
+    let sum : length (answered_prefix reads answers) + length (outside reads answers) ≡ length reads =
+    prefix_outside reads answers in
     let few : length (contents (answered_prefix reads answers)) < n = a.few n same in
     let free : length (outside reads answers) < facts.read_window = a.free in
-    let le : open_count (is_gap reads (answered_prefix reads answers) (outside reads answers)) reads answers ≤ facts.read_window = w.few in
+    let le : open_count (is_gap reads (answered_prefix reads answers) (outside reads answers)) reads answers ≤
+    facts.read_window = w.few in
     elim a.asked [
       | inl g ↦ (let one : 1 ≤ length (gaps reads (answered_prefix reads answers) (outside reads answers)) =
           some_there g.gap (gaps reads (answered_prefix reads answers) (outside reads answers))

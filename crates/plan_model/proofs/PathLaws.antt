@@ -12,7 +12,7 @@ use Rattle.sftp_model.specs.declared.slot.Move.TheVariants.{Ask, Done}
 use Rattle.sftp_model.specs.Fits.{FitsAttributes, FitsLong, FitsNumber}
 use Rattle.sftp_model.specs.Frames.{no_attributes, is_too_long}
 use Rattle.sftp_model.specs.Numbers.{POSIX_RENAME, HARDLINK, EXPAND_PATH}
-use Rattle.plan_model.specs.Moves.{Own, ask_path, refuses, refuses_extension, offers, done_by, told_by}
+use Rattle.plan_model.specs.Moves.{Own, ask_path, refuse_locally, refuses_extension, offers, done_by, told_by}
 use Rattle.sftp_model.specs.Readings.{permission_bits}
 use Rattle.plan_model.specs.PathPlans.{
   from_directory,
@@ -41,14 +41,18 @@ use Rattle.plan_model.proofs.MoveLaws.{either, replied, by_status, by_attrs, as_
 
 -- a request that is good where it fits a frame
 pub path_good : (s : Situation) (r : Request) → (is_too_long r ≡ false → IsGoodAsk s r) → IsGood s (ask_path r s.site)
-path_good s r fits = either (IsGood s) (is_too_long r) (refuses kind.PathTooLong s.site) (Ask r) (λ e. as_begun s (outcome.NoFile)) fits
+path_good s r fits = either (IsGood s) (is_too_long r) (refuse_locally kind.PathTooLong s.site) (Ask r)
+    (λ e. as_begun s (outcome.NoFile)) fits
 
-pub done_good : (s : Situation) (own : Own) (r : Request) → (is_too_long r ≡ false → IsGoodAsk s r) → IsGood s (path_done r s.site own s.answers)
+pub done_good : (s : Situation) (own : Own) (r : Request) → (is_too_long r ≡ false → IsGoodAsk s r)
+    → IsGood s (path_done r s.site own s.answers)
 done_good s own r fits = replied s own (ask_path r s.site) (done_by s.site) (λ e. path_good s r fits)
     (λ y. by_status (IsGood s) y s.site (Done outcome.Done s.site) (as_begun s) (as_begun s outcome.Done))
 
-told_good : (s : Situation) (own : Own) (r : Request) → (is_too_long r ≡ false → IsGoodAsk s r) → IsGood s (path_told r s.site own s.answers)
-told_good s own r fits = replied s own (ask_path r s.site) (told_by s.site) (λ e. path_good s r fits) (λ y. by_attrs (IsGood s) y s.site (as_begun s))
+told_good : (s : Situation) (own : Own) (r : Request) → (is_too_long r ≡ false → IsGoodAsk s r)
+    → IsGood s (path_told r s.site own s.answers)
+told_good s own r fits = replied s own (ask_path r s.site) (told_by s.site) (λ e. path_good s r fits)
+    (λ y. by_attrs (IsGood s) y s.site (as_begun s))
 
 by_name : (s : Situation) (y : Reply) → IsGood s (named_by s.site y)
 by_name s (reply.Names []) = as_begun s outcome.NoFile
@@ -56,7 +60,8 @@ by_name s (reply.Names (entry ∷ entries)) = as_begun s outcome.NoFile
 by_name s (reply.Status code message language) = as_begun s outcome.NoFile
 by_name s y = as_begun s outcome.NoFile
 
-named_good : (s : Situation) (own : Own) (r : Request) → (is_too_long r ≡ false → IsGoodAsk s r) → IsGood s (path_named r s.site own s.answers)
+named_good : (s : Situation) (own : Own) (r : Request) → (is_too_long r ≡ false → IsGoodAsk s r)
+    → IsGood s (path_named r s.site own s.answers)
 named_good s own r fits = replied s own (ask_path r s.site) (named_by s.site) (λ e. path_good s r fits) (by_name s)
 
 -- ---- attributes that are set
@@ -95,12 +100,14 @@ rename_good s old to = done_good s s.own (rename_request s.facts (from_directory
     (renames s (offers s.facts POSIX_RENAME) (from_directory s.site old) (from_directory s.site to))
 
 pub symlink_good : (s : Situation) (src dst : List ℕ) → IsGood s (symlink_next src dst s.site s.facts s.own s.answers)
-symlink_good s src dst = done_good s s.own (request.Symlink (from_directory s.site src) (from_directory s.site dst)) (λ e. e)
+symlink_good s src dst = done_good s s.own (request.Symlink (from_directory s.site src) (from_directory s.site dst))
+    (λ e. e)
 
 pub hard_link_good : (s : Situation) (old to : List ℕ) → IsGood s (hard_link_next old to s.site s.facts s.own s.answers)
 hard_link_good s old to =
     let r : Request = request.Hardlink (from_directory s.site old) (from_directory s.site to) in
-    replied s s.own (if offers s.facts HARDLINK then ask_path r s.site else refuses_extension HARDLINK s.site) (done_by s.site)
+    replied s s.own (if offers s.facts HARDLINK then ask_path r s.site else refuses_extension HARDLINK s.site)
+    (done_by s.site)
     (λ e. either (IsGood s) (offers s.facts HARDLINK) (ask_path r s.site) (refuses_extension HARDLINK s.site)
     (λ o. path_good s r (λ x. x)) (λ o. as_begun s outcome.NoFile))
     (λ y. by_status (IsGood s) y s.site (Done outcome.Done s.site) (as_begun s) (as_begun s outcome.Done))
@@ -120,7 +127,8 @@ expands : (s : Situation) (b : Bool) (path : List ℕ) → is_too_long
 expands s true path e = e
 expands s false path e = e
 
-pub canonicalize_good : (s : Situation) (path : List ℕ) → IsGood s (canonicalize_next path s.site s.facts s.own s.answers)
+pub canonicalize_good : (s : Situation) (path : List ℕ) → IsGood s
+    (canonicalize_next path s.site s.facts s.own s.answers)
 canonicalize_good s path = named_good s s.own (canonical_request s.facts (from_directory s.site path))
     (expands s (offers s.facts EXPAND_PATH) (from_directory s.site path))
 

@@ -15,8 +15,8 @@ use Rattle.sftp_model.specs.declared.slot.Slot.{Slot}
 use Rattle.sftp_model.specs.declared.slot.Slot.TheVariants.{Buffered}
 use Rattle.sftp_model.specs.declared.slot.Site.{Site}
 use Rattle.sftp_model.specs.Slots.{slot_at}
-use Rattle.plan_model.specs.Moves.{Answers, Own, Plan, ask_read, handle_of, overflows, refuses, on_buffered}
-use Rattle.plan_model.specs.BufferPlans.{given, without_reading, was_filled, fill_next, from_buffer, buf_read_file_next, buf_read_next}
+use Rattle.plan_model.specs.Moves.{Answers, Own, Plan, ask_read, handle_of, overflows, refuse_locally, on_buffered}
+use Rattle.plan_model.specs.BufferPlans.{buffered_bytes, without_reading, was_filled, fill_next, from_buffer, buf_read_file_next, buf_read_next}
 use Rattle.plan_model.specs.OwnRequests.{oldest_first, AreAsked}
 use Rattle.plan_model.specs.ReadsUnderWay.{IsReadAt}
 use Rattle.plan_model.proofs.MoveLaws.{either, by_content}
@@ -36,28 +36,35 @@ first_asked plan (b ∷ past) answers a later (before, earlier, asks, none, stay
     by_rest : (own : Own) → oldest_first past ≡ own → ((d : ℕ × Request) (rest : Own) → oldest_first past ≡ d ∷ rest
         → (x : Answers) × (plan [] x ≡ Ask d.1)) → (x : Answers) × (plan [] x ≡ Ask a.1)
     by_rest [] none first =
-        let same : b ≡ a = (let e : b ∷ [] ≡ a ∷ later = subst (λ (o : Own). o ++ b ∷ [] ≡ a ∷ later) none is in cc) in
-        (before, subst (λ (o : Own). plan o before ≡ Ask a.1) none (subst (λ (x : ℕ × Request). plan (oldest_first past) before ≡ Ask x.1) same asks))
+        let same : b ≡ a = (let e : b ∷ [] ≡ a ∷ later = subst (λ (o : Own). o ++ b ∷ [] ≡ a ∷ later) none is in cc) in (
+          before,
+          subst (λ (o : Own). plan o before ≡ Ask a.1) none
+              (subst (λ (x : ℕ × Request). plan (oldest_first past) before ≡ Ask x.1) same asks),
+        )
     by_rest (d ∷ own) some first =
-        let same : d ≡ a = (let e : d ∷ (own ++ b ∷ []) ≡ a ∷ later = subst (λ (o : Own). o ++ b ∷ [] ≡ a ∷ later) some is in cc) in
+        let same : d ≡ a = (let e : d ∷ (own ++ b ∷ []) ≡ a ∷ later =
+        subst (λ (o : Own). o ++ b ∷ [] ≡ a ∷ later) some is in cc) in
         let was : (x : Answers) × (plan [] x ≡ Ask d.1) = first d own some in
         (was.0, subst (λ (x : ℕ × Request). plan [] was.0 ≡ Ask x.1) same was.1)
 
 -- ---- the READ of a buffer
 
 -- nothing is asked once the READ under way is answered
-filled_asks : (slot n : ℕ) (file : FileAt) (buffer : Buffer) (site : Site) (y : Reply) (r : Request) → was_filled slot n file buffer site y ≡ Ask r → ⊥
+filled_asks : (slot n : ℕ) (file : FileAt) (buffer : Buffer) (site : Site) (y : Reply) (r : Request)
+    → was_filled slot n file buffer site y ≡ Ask r → ⊥
 filled_asks slot n file buffer site y r =
     by_content (λ (m : Move). m ≡ Ask r → ⊥) y (without_reading slot file buffer site)
     (Done outcome.End (without_reading slot file buffer site))
-    (λ bytes. given slot n bytes file (record buffer { reading = None }) site)
+    (λ bytes. buffered_bytes slot n bytes file (record buffer { reading = None }) site)
     (λ o. no_done o _ r) (no_done outcome.End _ r) (λ bytes. no_done _ _ r)
 
-read_asks : (file : FileAt) (len : ℕ) (site : Site) (answers : Answers) (r : Request) → ask_read file len site answers ≡ Ask r → IsReadAt (Some r) file.offset
+read_asks : (file : FileAt) (len : ℕ) (site : Site) (answers : Answers) (r : Request) → ask_read file len site answers
+    ≡ Ask r → IsReadAt (Some r) file.offset
 read_asks file len site answers r =
-    either (λ (m : Move). m ≡ Ask r → IsReadAt (Some r) file.offset) (not file.readable) (refuses kind.NotReadable site) _ (λ n e. absurd (no_done _ site r e))
+    either (λ (m : Move). m ≡ Ask r → IsReadAt (Some r) file.offset) (not file.readable)
+    (refuse_locally kind.NotReadable site) _ (λ n e. absurd (no_done _ site r e))
     (λ n. either (λ (m : Move). m ≡ Ask r → IsReadAt (Some r) file.offset) (overflows file.offset len)
-    (refuses kind.OffsetOverflow site) (Ask (request.Read (handle_of (answers file.grant)) file.offset len))
+    (refuse_locally kind.OffsetOverflow site) (Ask (request.Read (handle_of (answers file.grant)) file.offset len))
     (λ o e. absurd (no_done _ site r e))
     (λ o e. record {
       handle = handle_of (answers file.grant);
@@ -73,12 +80,16 @@ fill_asks : (slot n : ℕ) (file : FileAt) (buffer : Buffer) (site : Site) (fact
 fill_asks slot n file buffer site facts (Some place) answers r e =
     absurd (answered_in (λ (m : Move). m ≡ Ask r → ⊥) answers place (answers place) (was_filled slot n file buffer site)
     refl (no_wait place r) (λ y is. filled_asks slot n file buffer site y r) e)
-fill_asks slot n file buffer site facts None answers r e = read_asks file (min (max n buffer.len) facts.read_len) site answers r e
+fill_asks slot n file buffer site facts None answers r e = read_asks file (min (max n buffer.len) facts.read_len) site
+    answers r e
 
 from_asks : (slot n : ℕ) (file : FileAt) (buffer : Buffer) (site : Site) (facts : Facts) (bytes : List ℕ)
     (answers : Answers) (r : Request) → from_buffer slot n file buffer site facts bytes [] answers ≡ Ask r
     → (bytes ≡ []) × IsReadAt (Some r) file.offset
-from_asks slot n file buffer site facts [] answers r e = (refl, fill_asks slot n file buffer site facts buffer.reading answers r e)
+from_asks slot n file buffer site facts [] answers r e = (
+  refl,
+  fill_asks slot n file buffer site facts buffer.reading answers r e,
+)
 from_asks slot n file buffer site facts (b ∷ bytes) answers r e = absurd (no_done _ _ r e)
 
 pub buf_read_asks : (slot n : ℕ) (site : Site) (facts : Facts) (file : FileAt) (buffer : Buffer) (answers : Answers)
@@ -86,7 +97,7 @@ pub buf_read_asks : (slot n : ℕ) (site : Site) (facts : Facts) (file : FileAt)
     → (buffer.bytes ≡ []) × IsReadAt (Some r) file.offset
 buf_read_asks slot n site facts file buffer answers r at e =
     either (λ (m : Move). m ≡ Ask r → (buffer.bytes ≡ []) × IsReadAt (Some r) file.offset) (not file.readable)
-    (refuses kind.NotReadable site) _ (λ x k. absurd (no_done _ site r k))
+    (refuse_locally kind.NotReadable site) _ (λ x k. absurd (no_done _ site r k))
     (λ x. either (λ (m : Move). m ≡ Ask r → (buffer.bytes ≡ []) × IsReadAt (Some r) file.offset) (n == 0)
     (Done (outcome.Bytes []) site) (from_buffer slot n file buffer site facts buffer.bytes [] answers)
     (λ z k. absurd (no_done (outcome.Bytes []) site r k))

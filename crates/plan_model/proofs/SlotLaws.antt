@@ -9,7 +9,8 @@ use Rattle.sftp_model.specs.declared.slot.Slot.TheVariants.{Empty, File, Buffere
 use Rattle.sftp_model.specs.Slots.{slot_at, with_slot, grant_of, slot_has, has_grant}
 
 -- what is set where something stands is there
-pub set_there : (slots : List Slot) (k g : ℕ) (x : Slot) → grant_of (slice_index_or slots k Empty) ≡ Some g → slice_index_or (slice_set slots k x) k Empty ≡ x
+pub set_there : (slots : List Slot) (k g : ℕ) (x : Slot) → grant_of (slice_index_or slots k Empty) ≡ Some g
+    → slice_index_or (slice_set slots k x) k Empty ≡ x
 set_there [] k g x e = absurd cc
 set_there (slot ∷ slots) zero g x e = refl
 set_there (slot ∷ slots) (suc k) g x e = set_there slots k g x e
@@ -28,17 +29,23 @@ SameGrants a b = (g : ℕ) → has_grant a g ≡ has_grant b g
 has_by : (g : ℕ) (x y : Slot) (h : ℕ) → grant_of x ≡ Some g → grant_of y ≡ Some g → slot_has h y ≡ slot_has h x
 has_by g Empty y h ex ey = absurd cc
 has_by g (File f) Empty h ex ey = absurd cc
-has_by g (File f) (File e) h ex ey = ap (λ (n : ℕ). n == h) (let p : e.grant ≡ g = cc in let q : f.grant ≡ g = cc in p ∙ sym q)
-has_by g (File f) (Buffered e b) h ex ey = ap (λ (n : ℕ). n == h) (let p : e.grant ≡ g = cc in let q : f.grant ≡ g = cc in p ∙ sym q)
+has_by g (File f) (File e) h ex ey = ap (λ (n : ℕ). n == h) (let p : e.grant ≡ g = cc in let q : f.grant ≡ g = cc in p
+    ∙ sym q)
+has_by g (File f) (Buffered e b) h ex ey = ap (λ (n : ℕ). n == h)
+    (let p : e.grant ≡ g = cc in let q : f.grant ≡ g = cc in p ∙ sym q)
 has_by g (Buffered f c) Empty h ex ey = absurd cc
-has_by g (Buffered f c) (File e) h ex ey = ap (λ (n : ℕ). n == h) (let p : e.grant ≡ g = cc in let q : f.grant ≡ g = cc in p ∙ sym q)
-has_by g (Buffered f c) (Buffered e b) h ex ey = ap (λ (n : ℕ). n == h) (let p : e.grant ≡ g = cc in let q : f.grant ≡ g = cc in p ∙ sym q)
+has_by g (Buffered f c) (File e) h ex ey = ap (λ (n : ℕ). n == h)
+    (let p : e.grant ≡ g = cc in let q : f.grant ≡ g = cc in p ∙ sym q)
+has_by g (Buffered f c) (Buffered e b) h ex ey = ap (λ (n : ℕ). n == h)
+    (let p : e.grant ≡ g = cc in let q : f.grant ≡ g = cc in p ∙ sym q)
 
-pub same_set : (site : Site) (k g : ℕ) (x : Slot) → grant_of (slot_at site k) ≡ Some g → grant_of x ≡ Some g → SameGrants (with_slot site k x) site
+pub same_set : (site : Site) (k g : ℕ) (x : Slot) → grant_of (slot_at site k) ≡ Some g → grant_of x ≡ Some g
+    → SameGrants (with_slot site k x) site
 same_set site k g x here new h = alike h site.slots k x (has_by g (slot_at site k) x h here new)
 
 -- what stands in a slot is held
-pub slot_held : (slots : List Slot) (k g : ℕ) → grant_of (slice_index_or slots k Empty) ≡ Some g → list_any (slot_has g) slots ≡ true
+pub slot_held : (slots : List Slot) (k g : ℕ) → grant_of (slice_index_or slots k Empty) ≡ Some g
+    → list_any (slot_has g) slots ≡ true
 slot_held [] k g e = absurd cc
 slot_held (slot ∷ slots) zero g e = ap (λ b. b || list_any (slot_has g) slots) (has_own slot e)
   where

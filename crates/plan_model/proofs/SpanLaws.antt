@@ -8,7 +8,7 @@ use Rattle.sftp_model.specs.declared.request.Request.{Request}
 use Rattle.sftp_model.specs.declared.request.Request.TheVariants as request
 use Rattle.sftp_model.specs.Answers.{MayAnswer, is_end_of_file}
 use Rattle.plan_model.specs.Moves.{Answers, Own}
-use Rattle.plan_model.specs.OwnRequests.{Extends, MayBeAnswered}
+use Rattle.plan_model.specs.OwnRequests.{ExtendsAnswers, MayBeAnswered}
 use Rattle.plan_model.specs.WindowPlans.{begins, len_asked, answered_then, answered_prefix, outside, content_end, contents, least_end}
 use Rattle.plan_model.proofs.Among.{Among, MadeOf, among_map, from_map, from_filter, at_end, least_among}
 use Rattle.plan_model.proofs.Spans.{Span, span_end, extent_of, asked_whole, spans_from, spans, span_read, HasSpan, prefix_span}
@@ -20,7 +20,8 @@ pub record EndsAt (q : ℕ) (replies : List (ℕ × Reply)) : Type 0 where
   pub there : Among of replies
   pub ends : q ≡ of.0 + extent_of of.1
 
-pub content_ends : (q : ℕ) (replies : List (ℕ × Reply)) → Among q (map content_end (contents replies)) → EndsAt q replies
+pub content_ends : (q : ℕ) (replies : List (ℕ × Reply)) → Among q (map content_end (contents replies))
+    → EndsAt q replies
 content_ends q [] h = absurd h
 content_ends q (got ∷ rest) h = by_reply got.0 got.1 h (content_ends q rest)
   where
@@ -29,14 +30,17 @@ content_ends q (got ∷ rest) h = by_reply got.0 got.1 h (content_ends q rest)
 
     by_reply : (offset : ℕ) (r : Reply) → Among q (map content_end (contents ((offset, r) ∷ rest)))
         → (Among q (map content_end (contents rest)) → EndsAt q rest) → EndsAt q ((offset, r) ∷ rest)
-    by_reply offset (reply.Content bytes) (inl e) later = record { of = (offset, reply.Content bytes); there = inl refl; ends = e }
+    by_reply offset (reply.Content bytes) (inl e) later = record
+        { of = (offset, reply.Content bytes); there = inl refl; ends = e }
     by_reply offset (reply.Content bytes) (inr k) later = past (offset, reply.Content bytes) (later k)
-    by_reply offset (reply.Status code message language) k later = past (offset, reply.Status code message language) (later k)
+    by_reply offset (reply.Status code message language) k later =
+        past (offset, reply.Status code message language) (later k)
     by_reply offset (reply.Handle handle) k later = past (offset, reply.Handle handle) (later k)
     by_reply offset (reply.Names names) k later = past (offset, reply.Names names) (later k)
     by_reply offset (reply.Attrs attrs) k later = past (offset, reply.Attrs attrs) (later k)
     by_reply offset (reply.Extended content) k later = past (offset, reply.Extended content) (later k)
-    by_reply offset (reply.Version version extensions) k later = past (offset, reply.Version version extensions) (later k)
+    by_reply offset (reply.Version version extensions) k later =
+        past (offset, reply.Version version extensions) (later k)
 
 pub gap_span : (q : ℕ) (reads : Own) (answers : Answers) → Among q
     (map content_end (contents (answered_prefix reads answers))) → MadeOf span_end (spans reads answers) q
@@ -51,13 +55,16 @@ gap_span q reads answers h =
     }
 
 -- the end of the file is where a READ begins
-pub end_begins : (e : ℕ) (reads : Own) (answers : Answers) → least_end (answered_prefix reads answers) ≡ Some e → Among e (map begins reads)
+pub end_begins : (e : ℕ) (reads : Own) (answers : Answers) → least_end (answered_prefix reads answers) ≡ Some e
+    → Among e (map begins reads)
 end_begins e reads answers is =
     let m : MadeOf (λ (g : ℕ × Reply). g.0) (filter (λ g. is_end_of_file g.1) (answered_prefix reads answers)) e =
-    from_map (λ (g : ℕ × Reply). g.0) e (filter (λ g. is_end_of_file g.1) (answered_prefix reads answers)) (least_among e _ is) in
+    from_map (λ (g : ℕ × Reply). g.0) e (filter (λ g. is_end_of_file g.1) (answered_prefix reads answers))
+    (least_among e _ is) in
     let s : HasSpan m.of reads answers = prefix_span m.of reads answers
     (from_filter (λ (g : ℕ × Reply). is_end_of_file g.1) m.of (answered_prefix reads answers) m.there).0 in
-    subst (λ (n : ℕ). Among n (map begins reads)) (s.is.at ∙ sym m.gives) (among_map begins s.of.asked reads (span_read s.of reads answers s.is.there))
+    subst (λ (n : ℕ). Among n (map begins reads)) (s.is.at ∙ sym m.gives)
+    (among_map begins s.of.asked reads (span_read s.of reads answers s.is.there))
 
 -- ---- no span is longer than its READ asks
 
@@ -65,7 +72,8 @@ both : (a b : Bool) → (a && b) ≡ true → b ≡ true
 both true b e = e
 both false b e = absurd cc
 
-pub content_fits : (r : Request) (bytes : List ℕ) → MayAnswer r (reply.Content bytes) → (1 ≤ length bytes) × (length bytes ≤ len_asked r)
+pub content_fits : (r : Request) (bytes : List ℕ) → MayAnswer r (reply.Content bytes) → (1 ≤ length bytes)
+    × (length bytes ≤ len_asked r)
 content_fits (request.Read handle offset len) bytes h = (
   first (nat_lt 0 (length bytes)) (nat_le (length bytes) len)
       refl h,
@@ -98,7 +106,8 @@ whole_fits x xs h =
     let b : len_asked x.asked.1 ≡ len_asked m.of.1 = ap (λ (y : Span). len_asked y.asked.1) m.gives in
     omega (arith, a, b)
 
-pub span_fits : (x : Span) (reads : Own) (answers : Answers) → MayBeAnswered reads answers → Among x (spans reads answers) → x.extent ≤ len_asked x.asked.1
+pub span_fits : (x : Span) (reads : Own) (answers : Answers) → MayBeAnswered reads answers
+    → Among x (spans reads answers) → x.extent ≤ len_asked x.asked.1
 span_fits x [] answers may h = absurd h
 span_fits x (asked ∷ later) answers may h = by_answer (answers asked.0) may.0 h (span_fits x later answers may.1)
   where
@@ -120,7 +129,8 @@ pub record Longer (x : Span) (xs : List Span) : Type 0 where
   pub same : of.asked ≡ x.asked
   pub longer : x.extent ≤ of.extent
 
-pub shrinks : (x : Span) (reads : Own) (old new : Answers) → Extends old new → MayBeAnswered reads new → Among x (spans reads new) → Longer x (spans reads old)
+pub shrinks : (x : Span) (reads : Own) (old new : Answers) → ExtendsAnswers old new → MayBeAnswered reads new
+    → Among x (spans reads new) → Longer x (spans reads old)
 shrinks x [] old new stays may h = absurd h
 shrinks x (asked ∷ later) old new stays may h = by_answer (old asked.0) refl h (shrinks x later old new stays may.1)
   where
@@ -135,7 +145,8 @@ shrinks x (asked ∷ later) old new stays may h = by_answer (old asked.0) refl h
       longer = (let a : x.extent ≡ extent_of r = ap (λ (y : Span). y.extent) e in
           omega (arith, a));
     }
-    here r (inr k) rest = let l : Longer x (spans later old) = rest k in record { of = l.of; there = inr l.there; same = l.same; longer = l.longer }
+    here r (inr k) rest = let l : Longer x (spans later old) = rest k in
+        record { of = l.of; there = inr l.there; same = l.same; longer = l.longer }
 
     by_answer : (got : Option Reply) → old asked.0 ≡ got → Among x
         (spans_from asked (new asked.0) later (spans later new))
@@ -148,14 +159,16 @@ shrinks x (asked ∷ later) old new stays may h = by_answer (old asked.0) refl h
           same = refl;
           longer = span_fits x (asked ∷ later) new may k;
         }
-    by_answer (Some r) is k rest = here r (subst (λ (o : Option Reply). Among x (spans_from asked o later (spans later new))) (stays asked.0 r is) k) rest
+    by_answer (Some r) is k rest = here r (subst (λ (o : Option Reply). Among x
+        (spans_from asked o later (spans later new))) (stays asked.0 r is) k) rest
 
 -- ---- a READ that was asked and not answered
 
 pub prefix_added : (a : ℕ × Request) (reads : Own) (answers : Answers) → answers a.0 ≡ None
     → answered_prefix (reads ++ a ∷ []) answers ≡ answered_prefix reads answers
 prefix_added a [] answers is = ap (λ (o : Option Reply). answered_then (begins a) o []) is
-prefix_added a (asked ∷ later) answers is = ap (λ (l : List (ℕ × Reply)). answered_then (begins asked) (answers asked.0) l) (prefix_added a later answers is)
+prefix_added a (asked ∷ later) answers is = ap (λ (l : List (ℕ × Reply)). answered_then (begins asked) (answers asked.0)
+    l) (prefix_added a later answers is)
 
 pub outside_added : (a : ℕ × Request) (reads : Own) (answers : Answers) → answers a.0 ≡ None
     → outside (reads ++ a ∷ []) answers ≡ outside reads answers ++ a ∷ []
@@ -182,9 +195,11 @@ spans_added x a (asked ∷ later) answers is h = by_answer (answers asked.0) h (
         ⊎ (x ≡ asked_whole a))
         → Among x (spans_from asked got later (spans later answers)) ⊎ (x ≡ asked_whole a)
     by_answer None k rest =
-        let m : MadeOf asked_whole (asked ∷ (later ++ a ∷ [])) x = from_map asked_whole x (asked ∷ (later ++ a ∷ [])) k in
+        let m : MadeOf asked_whole (asked ∷ (later ++ a ∷ [])) x = from_map asked_whole x (asked ∷ (later ++ a ∷ [])) k
+        in
         elim (at_end m.of a (asked ∷ later) m.there) [
-          | inl there ↦ inl (subst (λ (y : Span). Among y (map asked_whole (asked ∷ later))) (sym m.gives) (among_map asked_whole m.of (asked ∷ later) there))
+          | inl there ↦ inl (subst (λ (y : Span). Among y (map asked_whole (asked ∷ later))) (sym m.gives)
+              (among_map asked_whole m.of (asked ∷ later) there))
           | inr e ↦ inr (m.gives ∙ ap asked_whole e)
         ]
     by_answer (Some r) (inl e) rest = inl (inl e)

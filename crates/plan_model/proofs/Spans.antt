@@ -5,7 +5,7 @@ use Rattle.sftp_model.specs.declared.reply.Reply.{Reply}
 use Rattle.sftp_model.specs.declared.reply.Reply.TheVariants as reply
 use Rattle.sftp_model.specs.declared.request.Request.{Request}
 use Rattle.plan_model.specs.Moves.{Answers, Own}
-use Rattle.plan_model.specs.WindowPlans.{begins, len_asked, answered_then, answered_prefix, outside, reached, reach, greatest}
+use Rattle.plan_model.specs.WindowPlans.{begins, len_asked, answered_then, answered_prefix, outside, end_of_read, reach, greatest}
 use Rattle.plan_model.proofs.Among.{Among, MadeOf, among_map, from_map}
 
 -- a READ, and how many bytes from its offset on it takes
@@ -49,11 +49,14 @@ spans_asked (asked ∷ later) answers = by_answer (answers asked.0) (spans_asked
     by_answer (Some r) rest = ap (λ (l : Own). asked ∷ l) rest
 
 pub span_read : (x : Span) (reads : Own) (answers : Answers) → Among x (spans reads answers) → Among x.asked reads
-span_read x reads answers h = subst (λ (l : Own). Among x.asked l) (spans_asked reads answers) (among_map (λ (y : Span). y.asked) x (spans reads answers) h)
+span_read x reads answers h = subst (λ (l : Own). Among x.asked l) (spans_asked reads answers)
+    (among_map (λ (y : Span). y.asked) x (spans reads answers) h)
 
 -- each READ has a span
-pub read_span : (a : ℕ × Request) (reads : Own) (answers : Answers) → Among a reads → MadeOf (λ (y : Span). y.asked) (spans reads answers) a
-read_span a reads answers h = from_map (λ (y : Span). y.asked) a (spans reads answers) (subst (λ (l : Own). Among a l) (sym (spans_asked reads answers)) h)
+pub read_span : (a : ℕ × Request) (reads : Own) (answers : Answers) → Among a reads
+    → MadeOf (λ (y : Span). y.asked) (spans reads answers) a
+read_span a reads answers h = from_map (λ (y : Span). y.asked) a (spans reads answers)
+    (subst (λ (l : Own). Among a l) (sym (spans_asked reads answers)) h)
 
 -- ---- the reach
 
@@ -64,7 +67,7 @@ ends_whole : (xs : Own) → map whole_end xs ≡ map span_end (map asked_whole x
 ends_whole [] = refl
 ends_whole (x ∷ xs) = ap (λ (l : List ℕ). whole_end x ∷ l) (ends_whole xs)
 
-reached_is : (offset : ℕ) (r : Reply) → reached (offset, r) ≡ offset + extent_of r
+reached_is : (offset : ℕ) (r : Reply) → end_of_read (offset, r) ≡ offset + extent_of r
 reached_is offset (reply.Content bytes) = refl
 reached_is offset (reply.Status code message language) = omega arith
 reached_is offset (reply.Handle handle) = omega arith
@@ -73,21 +76,23 @@ reached_is offset (reply.Attrs attrs) = omega arith
 reached_is offset (reply.Extended content) = omega arith
 reached_is offset (reply.Version version extensions) = omega arith
 
-ends_are : (reads : Own) (answers : Answers) → map reached (answered_prefix reads answers)
+ends_are : (reads : Own) (answers : Answers) → map end_of_read (answered_prefix reads answers)
     ++ map whole_end (outside reads answers) ≡ map span_end (spans reads answers)
 ends_are [] answers = refl
 ends_are (asked ∷ later) answers = by_answer (answers asked.0) (ends_are later answers)
   where
-    by_answer : (got : Option Reply) → map reached (answered_prefix later answers) ++ map whole_end (outside later answers) ≡ map span_end (spans later answers)
-        → map reached (answered_then (begins asked) got (answered_prefix later answers))
+    by_answer : (got : Option Reply) → map end_of_read (answered_prefix later answers)
+        ++ map whole_end (outside later answers) ≡ map span_end (spans later answers)
+        → map end_of_read (answered_then (begins asked) got (answered_prefix later answers))
         ++ map whole_end (if is_some got then outside later answers else asked ∷ later)
         ≡ map span_end (spans_from asked got later (spans later answers))
     by_answer None rest = ends_whole (asked ∷ later)
-    by_answer (Some r) rest = ap (λ (n : ℕ). n ∷ (map reached (answered_prefix later answers)
+    by_answer (Some r) rest = ap (λ (n : ℕ). n ∷ (map end_of_read (answered_prefix later answers)
         ++ map whole_end (outside later answers))) (reached_is (begins asked) r)
         ∙ ap (λ (l : List ℕ). (begins asked + extent_of r) ∷ l) rest
 
-pub reach_is : (reads : Own) (answers : Answers) → reach (answered_prefix reads answers) (outside reads answers) ≡ greatest (map span_end (spans reads answers))
+pub reach_is : (reads : Own) (answers : Answers) → reach (answered_prefix reads answers) (outside reads answers)
+    ≡ greatest (map span_end (spans reads answers))
 reach_is reads answers = ap greatest (ends_are reads answers)
 
 -- ---- the spans of the prefix
@@ -101,7 +106,8 @@ pub record HasSpan (got : ℕ × Reply) (reads : Own) (answers : Answers) : Type
   pub of : Span
   pub is : OfPrefix of got reads answers
 
-pub prefix_span : (got : ℕ × Reply) (reads : Own) (answers : Answers) → Among got (answered_prefix reads answers) → HasSpan got reads answers
+pub prefix_span : (got : ℕ × Reply) (reads : Own) (answers : Answers) → Among got (answered_prefix reads answers)
+    → HasSpan got reads answers
 prefix_span got [] answers h = absurd h
 prefix_span got (asked ∷ later) answers h = by_answer (answers asked.0) refl h (λ k. prefix_span got later answers k)
   where
@@ -122,7 +128,8 @@ prefix_span got (asked ∷ later) answers h = by_answer (answers asked.0) refl h
         record {
           of = k.of;
           is = record {
-            there = subst (λ (o : Option Reply). Among k.of (spans_from asked o later (spans later answers))) (sym is) (inr k.is.there);
+            there = subst (λ (o : Option Reply). Among k.of (spans_from asked o later (spans later answers))) (sym is)
+                (inr k.is.there);
             at = k.is.at;
             takes = k.is.takes;
           };

@@ -36,14 +36,16 @@ pub gap_below : (read_len top p : ℕ) (reads : Own) (answers : Answers) (x : Sp
     → Among x (spans reads answers) → p ≡ span_end x → (Among p (map begins reads) → ⊥)
     → is_inside (least_end (answered_prefix reads answers)) (reach (answered_prefix reads answers)
     (outside reads answers)) p ≡ true → Above p (map begins reads)
-gap_below read_len top p reads answers x t hx ends free within = by_end (least_end (answered_prefix reads answers)) refl within
+gap_below read_len top p reads answers x t hx ends free within =
+    by_end (least_end (answered_prefix reads answers)) refl within
   where
     less : (n m : ℕ) → nat_lt n m ≡ true → n < m
     less n m e = grind (arith, nat_tests)
 
     over : (y : Span) → Among y (spans reads answers) → p < span_end y → Above p (map begins reads)
     over y hy lt =
-        let there : Among (begins y.asked) (map begins reads) = among_map begins y.asked reads (span_read y reads answers hy) in
+        let there : Among (begins y.asked) (map begins reads) = among_map begins y.asked reads
+        (span_read y reads answers hy) in
         elim (gap_clear read_len top p reads answers x y t hx ends hy) [
           | inr le ↦ absurd (omega (arith, le, lt))
           | inl le ↦ record { of = begins y.asked; there = there; over = apart (begins y.asked) there le }
@@ -53,7 +55,8 @@ gap_below read_len top p reads answers x t hx ends free within = by_end (least_e
         apart s there le = by_test (p == s) refl
           where
             by_test : (b : Bool) → (p == s) ≡ b → p < s
-            by_test true is = absurd (free (subst (λ (n : ℕ). Among n (map begins reads)) (let e : s ≡ p = grind (arith, nat_tests) in e) there))
+            by_test true is = absurd (free (subst (λ (n : ℕ). Among n (map begins reads))
+                (let e : s ≡ p = grind (arith, nat_tests) in e) there))
             by_test false is = grind (arith, nat_tests)
 
     by_reach : (n : ℕ) → n ≡ greatest (map span_end (spans reads answers)) → p < n → Above p (map begins reads)
@@ -89,8 +92,10 @@ first_above p reads above = by_least (least (filter (λ n. nat_lt p n) (map begi
     less : (n : ℕ) → nat_lt p n ≡ true → p < n
     less n e = grind (arith, nat_tests)
 
-    by_least : (o : Option ℕ) → least (filter (λ n. nat_lt p n) (map begins reads)) ≡ o → FirstAbove p (unwrap_or o p - p) (map begins reads)
-    by_least None is = absurd (least_there above.of (filter (λ n. nat_lt p n) (map begins reads)) (into above.of above.there above.over) is)
+    by_least : (o : Option ℕ) → least (filter (λ n. nat_lt p n) (map begins reads)) ≡ o
+        → FirstAbove p (unwrap_or o p - p) (map begins reads)
+    by_least None is = absurd (least_there above.of (filter (λ n. nat_lt p n) (map begins reads))
+        (into above.of above.there above.over) is)
     by_least (Some d) is =
         let from : Among d (map begins reads) × (nat_lt p d ≡ true) =
         from_filter (λ (n : ℕ). nat_lt p n) d (map begins reads)
@@ -135,7 +140,8 @@ gap_fits read_len top p n reads answers x t may hx ends free d =
     above s there le = by_equal (p == s) refl
       where
         by_equal : (b : Bool) → (p == s) ≡ b → p < s
-        by_equal true is = absurd (free (subst (λ (m : ℕ). Among m (map begins reads)) (let e : s ≡ p = grind (arith, nat_tests) in e) there))
+        by_equal true is = absurd (free (subst (λ (m : ℕ). Among m (map begins reads))
+            (let e : s ≡ p = grind (arith, nat_tests) in e) there))
         by_equal false is = grind (arith, nat_tests)
 
     short : Followed (map begins reads) (begins x.asked) (len_asked x.asked.1) → n ≤ read_len
@@ -146,7 +152,8 @@ gap_fits read_len top p n reads answers x t may hx ends free d =
         let w : f.of ≤ begins x.asked + len_asked x.asked.1 = f.within in
         elim (t.apart x hx f.of f.there) [
           | inl k ↦ absurd (omega (arith, k, o))
-          | inr k ↦ (let first : d.of ≤ f.of = d.first f.of f.there (above f.of f.there (omega (arith, ends, k))) in omega (arith, first, w, e, le, ends))
+          | inr k ↦ (let first : d.of ≤ f.of = d.first f.of f.there (above f.of f.there (omega (arith, ends, k))) in
+              omega (arith, first, w, e, le, ends))
         ]
 
     low : MadeOf begins reads d.of → p + n ≤ top + read_len

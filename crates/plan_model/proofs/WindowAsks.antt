@@ -35,7 +35,7 @@ use Rattle.sftp_model.specs.declared.slot.Facts.{Facts}
 use Rattle.sftp_model.specs.declared.slot.Move.{Move}
 use Rattle.sftp_model.specs.declared.slot.Move.TheVariants.{Ask, Done}
 use Rattle.sftp_model.specs.declared.slot.Site.{Site}
-use Rattle.plan_model.specs.Moves.{Own, refused}
+use Rattle.plan_model.specs.Moves.{Own, refusal_move}
 use Rattle.plan_model.specs.WindowPlans.{
   reaches,
   begins,
@@ -58,22 +58,26 @@ use Rattle.plan_model.proofs.Among.{Among}
 
 -- whether an offset is a gap
 abbrev pub is_gap : Own → List (ℕ × Reply) → Own → ℕ → Bool
-is_gap reads replies waiting p = not (list_any (λ asked. begins asked == p) reads) && is_inside (least_end replies) (reach replies waiting) p
+is_gap reads replies waiting p = not (list_any (λ asked. begins asked == p) reads)
+    && is_inside (least_end replies) (reach replies waiting) p
 
 -- a READ at the least gap
-pub record AtGap (handle : List ℕ) (reads : Own) (replies : List (ℕ × Reply)) (waiting : Own) (r : Request) : Type 0 where
-  pub gap : ℕ
-  pub is : least (gaps reads replies waiting) ≡ Some gap
-  pub asks : r ≡ request.Read handle gap (gap_len reads gap)
+pub record AtGap (handle : List ℕ) (reads : Own) (replies : List (ℕ × Reply)) (waiting : Own) (r : Request) : Type 0
+  where
+    pub gap : ℕ
+    pub is : least (gaps reads replies waiting) ≡ Some gap
+    pub asks : r ≡ request.Read handle gap (gap_len reads gap)
 
 -- a READ after all
-pub record AfterAll (handle : List ℕ) (reads : Own) (replies : List (ℕ × Reply)) (waiting : Own) (facts : Facts) (r : Request) : Type 0 where
+pub record AfterAll (handle : List ℕ) (reads : Own) (replies : List (ℕ × Reply)) (waiting : Own) (facts : Facts)
+    (r : Request) : Type 0 where
   pub none : least (gaps reads replies waiting) ≡ None
   pub endless : least_end replies ≡ None
   pub asks : r ≡ request.Read handle (reach replies waiting) facts.read_len
 
 -- where a whole read asks, its window and its bound let it
-pub record Asking (handle : List ℕ) (bound : Option ℕ) (reads : Own) (replies : List (ℕ × Reply)) (waiting : Own) (facts : Facts) (r : Request) : Type 0 where
+pub record Asking (handle : List ℕ) (bound : Option ℕ) (reads : Own) (replies : List (ℕ × Reply)) (waiting : Own)
+    (facts : Facts) (r : Request) : Type 0 where
   pub good : first_refusal replies ≡ None
   pub few : (n : ℕ) → bound ≡ Some n → length (contents replies) < n
   pub free : length waiting < facts.read_window
@@ -82,7 +86,7 @@ pub record Asking (handle : List ℕ) (bound : Option ℕ) (reads : Own) (replie
 asks_same : (q r : Request) → Ask q ≡ Ask r → q ≡ r
 asks_same q r e = cc
 
-pub ends_no_ask : (got : Reply) (site : Site) (r : Request) → refused got site ≡ Ask r → ⊥
+pub ends_no_ask : (got : Reply) (site : Site) (r : Request) → refusal_move got site ≡ Ask r → ⊥
 ends_no_ask (reply.Status code message language) site r e = absurd cc
 ends_no_ask (reply.Handle handle) site r e = absurd cc
 ends_no_ask (reply.Content bytes) site r e = absurd cc
@@ -95,15 +99,19 @@ waits_no_ask : (waiting : Own) (site : Site) (r : Request) → await_first waiti
 waits_no_ask [] site r e = absurd cc
 waits_no_ask (asked ∷ later) site r e = absurd cc
 
-of_two : (b : Bool) (m n : Move) (r : Request) → (if b then m else n) ≡ Ask r → ((b ≡ true) × (m ≡ Ask r)) ⊎ ((b ≡ false) × (n ≡ Ask r))
+of_two : (b : Bool) (m n : Move) (r : Request) → (if b then m else n) ≡ Ask r → ((b ≡ true) × (m ≡ Ask r))
+    ⊎ ((b ≡ false) × (n ≡ Ask r))
 of_two true m n r e = inl (refl, e)
 of_two false m n r e = inr (refl, e)
 
 more_asked : (handle : List ℕ) (reads : Own) (replies : List (ℕ × Reply)) (waiting : Own) (site : Site) (facts : Facts)
     (r : Request) (gap end : Option ℕ) → least (gaps reads replies waiting) ≡ gap → least_end replies ≡ end
-    → ask_more handle reads replies waiting site facts gap end ≡ Ask r → AtGap handle reads replies waiting r ⊎ AfterAll handle reads replies waiting facts r
-more_asked handle reads replies waiting site facts r (Some p) end is at e = inl (record { gap = p; is = is; asks = sym (asks_same _ r e) })
-more_asked handle reads replies waiting site facts r None None is at e = inr (record { none = is; endless = at; asks = sym (asks_same _ r e) })
+    → ask_more handle reads replies waiting site facts gap end ≡ Ask r → AtGap handle reads replies waiting r
+    ⊎ AfterAll handle reads replies waiting facts r
+more_asked handle reads replies waiting site facts r (Some p) end is at e =
+    inl (record { gap = p; is = is; asks = sym (asks_same _ r e) })
+more_asked handle reads replies waiting site facts r None None is at e =
+    inr (record { none = is; endless = at; asks = sym (asks_same _ r e) })
 more_asked handle reads replies waiting site facts r None (Some end) is at e = absurd (waits_no_ask waiting site r e)
 
 goes_on : (handle : List ℕ) (bound : Option ℕ) (reads : Own) (replies : List (ℕ × Reply)) (waiting : Own) (site : Site)
@@ -141,8 +149,10 @@ ends_asked [] replies [] site None other r e = e
 ends_asked [] replies (asked ∷ later) site end other r e = e
 ends_asked (p ∷ ps) replies waiting site end other r e = e
 
-pub asking : (handle : List ℕ) (bound : Option ℕ) (reads : Own) (replies : List (ℕ × Reply)) (waiting : Own) (site : Site) (facts : Facts) (r : Request)
-    → window_next handle bound reads replies waiting site facts ≡ Ask r → Asking handle bound reads replies waiting facts r
+pub asking : (handle : List ℕ) (bound : Option ℕ) (reads : Own) (replies : List (ℕ × Reply)) (waiting : Own)
+    (site : Site) (facts : Facts) (r : Request)
+    → window_next handle bound reads replies waiting site facts ≡ Ask r
+    → Asking handle bound reads replies waiting facts r
 asking handle bound reads replies waiting site facts r e = by_refusal (first_refusal replies) refl e
   where
     by_refusal : (o : Option (ℕ × Reply)) → first_refusal replies ≡ o
@@ -163,12 +173,14 @@ any_added t a [] = by_test (t a)
     by_test false = refl
 any_added t a (x ∷ xs) = by_test (t x) (any_added t a xs)
   where
-    by_test : (b : Bool) → list_any t (xs ++ a ∷ []) ≡ (list_any t xs || t a) → (b || list_any t (xs ++ a ∷ [])) ≡ ((b || list_any t xs) || t a)
+    by_test : (b : Bool) → list_any t (xs ++ a ∷ []) ≡ (list_any t xs || t a) → (b || list_any t (xs ++ a ∷ []))
+        ≡ ((b || list_any t xs) || t a)
     by_test true rest = refl
     by_test false rest = rest
 
 -- where no READ begins
-pub free_at : (p : ℕ) (reads : Own) → list_any (λ asked. begins asked == p) reads ≡ false → Among p (map begins reads) → ⊥
+pub free_at : (p : ℕ) (reads : Own) → list_any (λ asked. begins asked == p) reads ≡ false → Among p (map begins reads)
+    → ⊥
 free_at p [] e h = absurd h
 free_at p (asked ∷ later) e h = by_head (begins asked == p) refl e h (free_at p later)
   where
@@ -187,8 +199,10 @@ pub record Gap (reads : Own) (replies : List (ℕ × Reply)) (waiting : Own) (p 
   pub free : list_any (λ asked. begins asked == p) reads ≡ false
   pub within : is_inside (least_end replies) (reach replies waiting) p ≡ true
 
-pub gap_is : (reads : Own) (replies : List (ℕ × Reply)) (waiting : Own) (p : ℕ) → is_gap reads replies waiting p ≡ true → Gap reads replies waiting p
-gap_is reads replies waiting p e = by_tests (list_any (λ asked. begins asked == p) reads) (is_inside (least_end replies) (reach replies waiting) p) refl refl e
+pub gap_is : (reads : Own) (replies : List (ℕ × Reply)) (waiting : Own) (p : ℕ) → is_gap reads replies waiting p ≡ true
+    → Gap reads replies waiting p
+gap_is reads replies waiting p e = by_tests (list_any (λ asked. begins asked == p) reads)
+    (is_inside (least_end replies) (reach replies waiting) p) refl refl e
   where
     by_tests : (a b : Bool) → list_any (λ asked. begins asked == p) reads ≡ a
         → is_inside (least_end replies) (reach replies waiting) p ≡ b → (not a && b) ≡ true
@@ -197,5 +211,7 @@ gap_is reads replies waiting p e = by_tests (list_any (λ asked. begins asked ==
     by_tests false true is at e = record { free = is; within = at }
     by_tests false false is at e = absurd cc
 
-pub is_gap_of : (reads : Own) (replies : List (ℕ × Reply)) (waiting : Own) (p : ℕ) → Gap reads replies waiting p → is_gap reads replies waiting p ≡ true
-is_gap_of reads replies waiting p g = ap (λ (b : Bool). not b && is_inside (least_end replies) (reach replies waiting) p) g.free ∙ g.within
+pub is_gap_of : (reads : Own) (replies : List (ℕ × Reply)) (waiting : Own) (p : ℕ) → Gap reads replies waiting p
+    → is_gap reads replies waiting p ≡ true
+is_gap_of reads replies waiting p g = ap (λ (b : Bool). not b
+    && is_inside (least_end replies) (reach replies waiting) p) g.free ∙ g.within

@@ -7,7 +7,7 @@ use Rattle.sftp_model.specs.declared.reply.Reply.TheVariants as reply
 use Rattle.sftp_model.specs.declared.request.Request.{Request}
 use Rattle.sftp_model.specs.Answers.{MayAnswer, is_end_of_file}
 use Rattle.plan_model.specs.Moves.{Answers, Own}
-use Rattle.plan_model.specs.OwnRequests.{Extends, MayBeAnswered}
+use Rattle.plan_model.specs.OwnRequests.{ExtendsAnswers, MayBeAnswered}
 use Rattle.plan_model.specs.WindowPlans.{
   begins,
   len_asked,
@@ -41,7 +41,7 @@ use Rattle.plan_model.proofs.OpenReads.{ends_of}
 
 -- ---- further replies make no gap of what was none
 
-prefix_stays : (got : ℕ × Reply) (reads : Own) (old new : Answers) → Extends old new
+prefix_stays : (got : ℕ × Reply) (reads : Own) (old new : Answers) → ExtendsAnswers old new
     → Among got (answered_prefix reads old) → Among got (answered_prefix reads new)
 prefix_stays got [] old new stays h = absurd h
 prefix_stays got (asked ∷ later) old new stays h = by_answer (old asked.0) refl h (prefix_stays got later old new stays)
@@ -59,10 +59,17 @@ prefix_stays got (asked ∷ later) old new stays h = by_answer (old asked.0) ref
 pub span_reached : (x : Span) (reads : Own) (answers : Answers) → Among x (spans reads answers)
     → span_end x ≤ reach (answered_prefix reads answers) (outside reads answers)
 span_reached x reads answers h =
-    let e : reach (answered_prefix reads answers) (outside reads answers) ≡ greatest (map span_end (spans reads answers)) = reach_is reads answers in
-    omega (arith, e, greatest_over (span_end x) (map span_end (spans reads answers)) (among_map span_end x (spans reads answers) h))
+    let e : reach (answered_prefix reads answers) (outside reads answers)
+    ≡ greatest (map span_end (spans reads answers)) = reach_is reads answers in
+    omega (
+      arith,
+      e,
+      greatest_over (span_end x) (map span_end (spans reads answers))
+          (among_map span_end x (spans reads answers) h),
+    )
 
-pub start_reached : (s : ℕ) (reads : Own) (answers : Answers) → Among s (map begins reads) → s ≤ reach (answered_prefix reads answers) (outside reads answers)
+pub start_reached : (s : ℕ) (reads : Own) (answers : Answers) → Among s (map begins reads)
+    → s ≤ reach (answered_prefix reads answers) (outside reads answers)
 start_reached s reads answers h =
     let m : MadeOf begins reads s = from_map begins s reads h in
     let y : MadeOf (λ (z : Span). z.asked) (spans reads answers) m.of = read_span m.of reads answers m.there in
@@ -73,13 +80,19 @@ pub reach_most : (m : ℕ) (reads : Own) (answers : Answers) →
     ((x : Span) → Among x (spans reads answers) → span_end x ≤ m)
     → reach (answered_prefix reads answers) (outside reads answers) ≤ m
 reach_most m reads answers h =
-    let e : reach (answered_prefix reads answers) (outside reads answers) ≡ greatest (map span_end (spans reads answers)) = reach_is reads answers in
-    omega (arith, e, greatest_most m (map span_end (spans reads answers)) (λ n k. each n (from_map span_end n (spans reads answers) k)))
+    let e : reach (answered_prefix reads answers) (outside reads answers)
+    ≡ greatest (map span_end (spans reads answers)) = reach_is reads answers in
+    omega (
+      arith,
+      e,
+      greatest_most m (map span_end (spans reads answers))
+          (λ n k. each n (from_map span_end n (spans reads answers) k)),
+    )
   where
     each : (n : ℕ) → MadeOf span_end (spans reads answers) n → n ≤ m
     each n f = let e : n ≡ span_end f.of = f.gives in omega (arith, e, h f.of f.there)
 
-pub inside_later : (q : ℕ) (reads : Own) (old new : Answers) → Extends old new → MayBeAnswered reads new
+pub inside_later : (q : ℕ) (reads : Own) (old new : Answers) → ExtendsAnswers old new → MayBeAnswered reads new
     → is_inside (least_end (answered_prefix reads new)) (reach (answered_prefix reads new) (outside reads new)) q ≡ true
     → is_inside (least_end (answered_prefix reads old)) (reach (answered_prefix reads old) (outside reads old)) q ≡ true
 inside_later q reads old new stays may e = by_old (least_end (answered_prefix reads old)) refl
@@ -90,10 +103,13 @@ inside_later q reads old new stays may e = by_old (least_end (answered_prefix re
     test : (n m : ℕ) → n < m → nat_lt n m ≡ true
     test n m lt = grind (arith, nat_tests)
 
-    nearer : reach (answered_prefix reads new) (outside reads new) ≤ reach (answered_prefix reads old) (outside reads old)
-    nearer = reach_most (reach (answered_prefix reads old) (outside reads old)) reads new (λ x h. each x (shrinks x reads old new stays may h))
+    nearer : reach (answered_prefix reads new) (outside reads new) ≤ reach (answered_prefix reads old)
+        (outside reads old)
+    nearer = reach_most (reach (answered_prefix reads old) (outside reads old)) reads new
+        (λ x h. each x (shrinks x reads old new stays may h))
       where
-        each : (x : Span) → Longer x (spans reads old) → span_end x ≤ reach (answered_prefix reads old) (outside reads old)
+        each : (x : Span) → Longer x (spans reads old) → span_end x ≤ reach (answered_prefix reads old)
+            (outside reads old)
         each x l = let at : begins l.of.asked ≡ begins x.asked = ap begins l.same in let le : x.extent ≤ l.of.extent =
             l.longer in omega (arith, at, le, span_reached l.of reads old l.there)
 
@@ -102,9 +118,11 @@ inside_later q reads old new stays may e = by_old (least_end (answered_prefix re
         → q < reach (answered_prefix reads old) (outside reads old)
     below None is k = let lt : q < reach (answered_prefix reads new) (outside reads new) =
         less q (reach (answered_prefix reads new) (outside reads new)) k in omega (arith, lt, nearer)
-    below (Some end) is k = let lt : q < end = less q end k in omega (arith, lt, start_reached end reads old (end_begins end reads new is))
+    below (Some end) is k = let lt : q < end = less q end k in
+        omega (arith, lt, start_reached end reads old (end_begins end reads new is))
 
-    ends_before : (end : ℕ) → least_end (answered_prefix reads old) ≡ Some end → Among end (map (λ (g : ℕ × Reply). g.0) (ends_of (answered_prefix reads new)))
+    ends_before : (end : ℕ) → least_end (answered_prefix reads old) ≡ Some end
+        → Among end (map (λ (g : ℕ × Reply). g.0) (ends_of (answered_prefix reads new)))
     ends_before end is =
         let m : MadeOf (λ (g : ℕ × Reply). g.0) (ends_of (answered_prefix reads old)) end =
         from_map (λ (g : ℕ × Reply). g.0) end (ends_of (answered_prefix reads old))
@@ -119,14 +137,18 @@ inside_later q reads old new stays may e = by_old (least_end (answered_prefix re
     by_new : (end : ℕ) → Among end (map (λ (g : ℕ × Reply). g.0) (ends_of (answered_prefix reads new))) → (o : Option ℕ)
         → least_end (answered_prefix reads new) ≡ o
         → is_inside o (reach (answered_prefix reads new) (outside reads new)) q ≡ true → nat_lt q end ≡ true
-    by_new end there None is k = absurd (least_there end (map (λ (g : ℕ × Reply). g.0) (ends_of (answered_prefix reads new))) there is)
+    by_new end there None is k = absurd (least_there end (map (λ (g : ℕ × Reply). g.0)
+        (ends_of (answered_prefix reads new))) there is)
     by_new end there (Some sooner) is k =
         let lt : q < sooner = less q sooner k in
-        let le : sooner ≤ end = least_under sooner end (map (λ (g : ℕ × Reply). g.0) (ends_of (answered_prefix reads new))) is there in
+        let le : sooner ≤ end = least_under sooner end (map (λ (g : ℕ × Reply). g.0)
+        (ends_of (answered_prefix reads new))) is there in
         test q end (omega (arith, lt, le))
 
-    by_old : (o : Option ℕ) → least_end (answered_prefix reads old) ≡ o → is_inside o (reach (answered_prefix reads old) (outside reads old)) q ≡ true
-    by_old None is = test q (reach (answered_prefix reads old) (outside reads old)) (below (least_end (answered_prefix reads new)) refl e)
+    by_old : (o : Option ℕ) → least_end (answered_prefix reads old) ≡ o
+        → is_inside o (reach (answered_prefix reads old) (outside reads old)) q ≡ true
+    by_old None is = test q (reach (answered_prefix reads old) (outside reads old))
+        (below (least_end (answered_prefix reads new)) refl e)
     by_old (Some end) is = by_new end (ends_before end is) (least_end (answered_prefix reads new)) refl e
 
 -- ---- where no end is known and nothing was refused, no span is empty
@@ -140,12 +162,14 @@ not_empty x (asked ∷ later) answers good endless some may h =
     may.1 k)
   where
     whole : MadeOf asked_whole (asked ∷ later) x → 1 ≤ x.extent
-    whole m = let e : x.extent ≡ len_asked m.of.1 = ap (λ (y : Span). y.extent) m.gives in omega (arith, e, some m.of m.there)
+    whole m = let e : x.extent ≡ len_asked m.of.1 = ap (λ (y : Span). y.extent) m.gives in
+        omega (arith, e, some m.of m.there)
 
     by_content : (bytes : List ℕ) → MayAnswer asked.1 (reply.Content bytes)
         → Among x (spans_from asked (Some (reply.Content bytes)) later (spans later answers))
         → (Among x (spans later answers) → 1 ≤ x.extent) → 1 ≤ x.extent
-    by_content bytes may (inl e) rest = let l : x.extent ≡ length bytes = ap (λ (y : Span). y.extent) e in omega (arith, l, (content_fits asked.1 bytes may).0)
+    by_content bytes may (inl e) rest = let l : x.extent ≡ length bytes = ap (λ (y : Span). y.extent) e in
+        omega (arith, l, (content_fits asked.1 bytes may).0)
     by_content bytes may (inr k) rest = rest k
 
     by_answer : (o : Option Reply) → first_refusal (answered_then (begins asked) o (answered_prefix later answers))
@@ -158,10 +182,12 @@ not_empty x (asked ∷ later) answers good endless some may h =
     by_answer (Some (reply.Content bytes)) good endless may h rest = by_content bytes may h (rest good endless)
     by_answer (Some (reply.Status code message language)) good endless may h rest = by_code (code == 1) good endless
       where
-        by_code : (b : Bool) → cond (not b) (Some (begins asked, reply.Status code message language)) (first_refusal (answered_prefix later answers)) ≡ None
+        by_code : (b : Bool) → cond (not b) (Some (begins asked, reply.Status code message language))
+            (first_refusal (answered_prefix later answers)) ≡ None
             → least (map (λ (g : ℕ × Reply). g.0) (cond b ((begins asked, reply.Status code message language) ∷ ends_of
             (answered_prefix later answers)) (ends_of (answered_prefix later answers)))) ≡ None → 1 ≤ x.extent
-        by_code true good endless = absurd (lesser_there (begins asked) (least_end (answered_prefix later answers)) endless)
+        by_code true good endless = absurd (lesser_there (begins asked) (least_end (answered_prefix later answers))
+            endless)
         by_code false good endless = absurd cc
     by_answer (Some (reply.Handle handle)) good endless may h rest = absurd cc
     by_answer (Some (reply.Names names)) good endless may h rest = absurd cc

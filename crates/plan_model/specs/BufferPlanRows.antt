@@ -1,4 +1,4 @@
--- Worked examples of the calls on buffered files, and beside each what nearly is one. Writes take 2 bytes each, and
+-- Worked examples of the calls on buffered files, each beside a case that nearly is one. Writes take 2 bytes each, and
 -- 4 bytes may be pending.
 use Rattle.std.specs.Prelude.{ℕ, ◌≡◌, ◌-◌, ◌^◌, true, false, List, [], ◌∷◌, codes, Some, None, refl}
 use Rattle.sftp_model.specs.declared.reply.Reply.{Reply}
@@ -11,7 +11,7 @@ use Rattle.sftp_model.specs.declared.slot.Site.{Site}
 use Rattle.sftp_model.specs.declared.slot.Slot.TheVariants.{Buffered}
 use Rattle.sftp_model.specs.Slots.{fresh_site, with_slot}
 use Rattle.plan_model.specs.declared.call.Call.TheVariants as call
-use Rattle.plan_model.specs.CallPlans.{cancelled, next}
+use Rattle.plan_model.specs.CallPlans.{site_after_cancel, next}
 use Rattle.sftp_model.specs.Answers.{status}
 use Rattle.plan_model.specs.PlanWords.{
   file_at,
@@ -32,7 +32,7 @@ got bytes = reply.Content bytes
 abbrev ok : Reply
 ok = status 0
 
--- buffered files without the right to read, or to write
+-- Buffered files without the right to read, or to write.
 abbrev unreadable : Site
 unreadable = with_slot fresh_site 0 (Buffered (file_at 0 false true 5)
     (record { len = 3; bytes = []; deferred = []; reading = None }))
@@ -41,7 +41,7 @@ abbrev unwritable : Site
 unwritable = with_slot fresh_site 0 (Buffered (file_at 0 true false 5)
     (record { len = 3; bytes = []; deferred = []; reading = None }))
 
--- ---- unbuffer
+-- ---- Unbuffer
 
 pub unbuffer_done : next (call.Unbuffer 0) (buffered 5 (codes "ab") ((1, 2) ∷ []) (Some 2)) bare [] (after_handle [])
     ≡ Done outcome.Done (at 5)
@@ -50,9 +50,9 @@ unbuffer_done = refl
 pub unbuffer_of_file : next (call.Unbuffer 0) (at 5) bare [] (after_handle []) ≡ Done outcome.NoFile (at 5)
 unbuffer_of_file = refl
 
--- ---- buf_read
+-- ---- Buf_read
 
--- at least the buffer's length is asked, and at most the session's
+-- It asks for at least the buffer's length, and at most the session's.
 pub buf_read_asks : next (call.BufRead 0 1) (buffered 5 [] [] None) bare [] (after_handle [])
     ≡ Ask (request.Read handle 5 3)
 buf_read_asks = refl
@@ -65,7 +65,7 @@ pub buf_read_gives : next (call.BufRead 0 1) (buffered 5 [] [] None) bare (read_
     (after_handle (got (codes "abc") ∷ [])) ≡ Done (outcome.Bytes (codes "a")) (buffered 6 (codes "bc") [] None)
 buf_read_gives = refl
 
--- no request where something is buffered, even if it is less than is wanted
+-- No request if bytes are buffered, even if they are fewer than the call asks for.
 pub buf_read_from_buffer : next (call.BufRead 0 9) (buffered 6 (codes "bc") [] None) bare [] (after_handle [])
     ≡ Done (outcome.Bytes (codes "bc")) (buffered 8 [] [] None)
 buf_read_from_buffer = refl
@@ -74,7 +74,7 @@ pub buf_read_ends : next (call.BufRead 0 1) (buffered 5 [] [] None) bare (read_a
     (after_handle (status 1 ∷ [])) ≡ Done outcome.End (buffered 5 [] [] None)
 buf_read_ends = refl
 
--- a read under way is used whatever its length, and no offset is looked at
+-- A read in flight is used whatever its length is, and no offset is checked.
 pub buf_read_under_way : next (call.BufRead 0 9) (buffered (2 ^ 64 - 1) [] [] (Some 1)) bare [] (after_handle [])
     ≡ Wait 1
 buf_read_under_way = refl
@@ -83,7 +83,7 @@ pub buf_read_used : next (call.BufRead 0 2) (buffered 5 [] [] (Some 1)) bare [] 
     ≡ Done (outcome.Bytes (codes "ab")) (buffered 7 (codes "c") [] None)
 buf_read_used = refl
 
--- the rights come before the length here
+-- The rights are checked before the length here.
 pub buf_read_not_readable : next (call.BufRead 0 0) unreadable bare [] (after_handle [])
     ≡ Done (refused_io kind.NotReadable) unreadable
 buf_read_not_readable = refl
@@ -96,22 +96,22 @@ pub buf_read_overflows : next (call.BufRead 0 1) (buffered (2 ^ 64 - 2) [] [] No
     ≡ Done (refused_io kind.OffsetOverflow) (buffered (2 ^ 64 - 2) [] [] None)
 buf_read_overflows = refl
 
--- its READ stays under way, come or not
-pub buf_read_cancelled : cancelled (call.BufRead 0 1) (buffered 5 [] [] None) bare (read_at 1 5 3 ∷ [])
+-- Its READ stays in flight, whether or not its reply has come.
+pub buf_read_cancelled : site_after_cancel (call.BufRead 0 1) (buffered 5 [] [] None) bare (read_at 1 5 3 ∷ [])
     (after_handle (got (codes "abc") ∷ [])) ≡ buffered 5 [] [] (Some 1)
 buf_read_cancelled = refl
 
-pub buf_read_cancelled_used : cancelled (call.BufRead 0 1) (buffered 5 [] [] (Some 1)) bare [] (after_handle [])
+pub buf_read_cancelled_used : site_after_cancel (call.BufRead 0 1) (buffered 5 [] [] (Some 1)) bare [] (after_handle [])
     ≡ buffered 5 [] [] (Some 1)
 buf_read_cancelled_used = refl
 
--- ---- buf_write
+-- ---- Buf_write
 
 pub buf_write_asks : next (call.BufWrite 0 (codes "abc")) (buffered 5 [] [] None) bare [] (after_handle [])
     ≡ Ask (request.Write handle 5 (codes "ab"))
 buf_write_asks = refl
 
--- its status is not awaited; the read under way is abandoned, and the buffer loses as many bytes
+-- Its status is not awaited. The read in flight is abandoned, and the buffer loses the same number of bytes.
 pub buf_write_done : next (call.BufWrite 0 (codes "abc")) (buffered 5 (codes "xyz") ((1, 1) ∷ []) None) bare
     (write_at 3 5 (codes "ab") ∷ []) (after_handle []) ≡ Done (outcome.Count 2)
     (buffered 7 (codes "z") ((1, 1) ∷ (3, 2) ∷ []) None)
@@ -121,7 +121,7 @@ pub buf_write_abandons : next (call.BufWrite 0 (codes "a")) (buffered 5 [] [] (S
     (write_at 2 5 (codes "a") ∷ []) (after_handle []) ≡ Done (outcome.Count 1) (buffered 6 [] ((2, 1) ∷ []) None)
 buf_write_abandons = refl
 
--- a window that is nearly full cuts the bytes; one that is full awaits the oldest status
+-- A window that is nearly full cuts the bytes; if it is full, the oldest status is awaited.
 pub buf_write_cut : next (call.BufWrite 0 (codes "abc")) (buffered 5 [] ((1, 2) ∷ (2, 1) ∷ []) None) bare []
     (after_handle []) ≡ Ask (request.Write handle 5 (codes "a"))
 buf_write_cut = refl
@@ -130,7 +130,7 @@ pub buf_write_waits : next (call.BufWrite 0 (codes "abc")) (buffered 5 [] ((1, 2
     (after_handle []) ≡ Wait 1
 buf_write_waits = refl
 
--- the oldest, not one whose status was taken
+-- The oldest is awaited, not one whose status was taken.
 pub buf_write_waits_oldest : next (call.BufWrite 0 (codes "abc")) (buffered 5 [] ((2, 2) ∷ (1, 2) ∷ []) None) bare []
     (after_handle (ok ∷ [])) ≡ Wait 2
 buf_write_waits_oldest = refl
@@ -144,12 +144,12 @@ pub buf_write_after_room : next (call.BufWrite 0 (codes "abc")) (buffered 5 [] (
     (buffered 7 [] ((2, 2) ∷ (3, 2) ∷ []) None)
 buf_write_after_room = refl
 
--- the status that was taken out stays out
+-- The status that was taken out stays out.
 pub buf_write_overflows : next (call.BufWrite 0 (codes "a")) (buffered (2 ^ 64 - 1) [] ((1, 2) ∷ (2, 2) ∷ []) None) bare
     [] (after_handle (ok ∷ [])) ≡ Done (refused_io kind.OffsetOverflow) (buffered (2 ^ 64 - 1) [] ((2, 2) ∷ []) None)
 buf_write_overflows = refl
 
--- the rights come before the bytes here
+-- The rights are checked before the bytes here.
 pub buf_write_not_writable : next (call.BufWrite 0 []) unwritable bare [] (after_handle [])
     ≡ Done (refused_io kind.NotWritable) unwritable
 buf_write_not_writable = refl
@@ -158,11 +158,13 @@ pub buf_write_of_none : next (call.BufWrite 0 []) (buffered 5 [] ((1, 4) ∷ [])
     ≡ Done (outcome.Count 0) (buffered 5 [] ((1, 4) ∷ []) None)
 buf_write_of_none = refl
 
-pub buf_write_cancelled : cancelled (call.BufWrite 0 (codes "abc")) (buffered 5 [] ((1, 2) ∷ (2, 2) ∷ []) None) bare
+pub buf_write_cancelled : site_after_cancel (call.BufWrite 0 (codes "abc")) (buffered 5 [] ((1, 2) ∷ (2, 2) ∷ []) None)
+    bare
     (write_at 3 5 (codes "ab") ∷ []) (after_handle (ok ∷ [])) ≡ buffered 7 [] ((2, 2) ∷ (3, 2) ∷ []) None
 buf_write_cancelled = refl
 
--- before its WRITE nothing is taken out
-pub buf_write_cancelled_waiting : cancelled (call.BufWrite 0 (codes "abc")) (buffered 5 [] ((1, 2) ∷ (2, 2) ∷ []) None)
+-- Before its WRITE nothing is taken out.
+pub buf_write_cancelled_waiting : site_after_cancel (call.BufWrite 0 (codes "abc"))
+    (buffered 5 [] ((1, 2) ∷ (2, 2) ∷ []) None)
     bare [] (after_handle (ok ∷ [])) ≡ buffered 5 [] ((1, 2) ∷ (2, 2) ∷ []) None
 buf_write_cancelled_waiting = refl

@@ -1,4 +1,4 @@
--- All calls of a lane: what each does next, and what it leaves where it is cancelled.
+-- All calls of a lane: the next move of each, and the site that it leaves if it is cancelled.
 use Rattle.std.specs.Prelude.{Some}
 use Rattle.sftp_model.specs.declared.slot.Facts.{Facts}
 use Rattle.sftp_model.specs.declared.slot.Site.{Site}
@@ -55,7 +55,7 @@ use Rattle.plan_model.specs.BufferPlans.{
 use Rattle.plan_model.specs.WholePlans.{fs_write_next, list_next}
 use Rattle.plan_model.specs.WindowPlans.{fs_read_next}
 
--- the next move of a call
+-- The next move of a call.
 abbrev pub next : Call → Site → Facts → Plan
 next (call.OpenFile slot flags path) site facts = open_next slot (flags_of flags) path site facts
 next (call.Read slot n) site facts = read_next slot n site facts
@@ -94,15 +94,15 @@ next (call.ReadLink path) site facts = read_link_next path site facts
 next (call.Canonicalize path) site facts = canonicalize_next path site facts
 next (call.Cwd path) site facts = cwd_next path site facts
 
--- What a cancelled call leaves: the reply to its last request counts for nothing, come or not. A call that has
--- changed no slot before its end leaves all as it was.
-abbrev pub cancelled : Call → Site → Facts → Own → Answers → Site
-cancelled (call.ReadAll slot n) site facts own answers = cancelled_transfer slot site facts own answers
-cancelled (call.WriteAll slot bytes) site facts own answers = cancelled_transfer slot site facts own answers
-cancelled (call.WriteParts slot parts) site facts own answers = cancelled_transfer slot site facts own answers
-cancelled (call.Close slot) site facts own answers = cancelled_close slot site facts own answers
-cancelled (call.BufRead slot n) site facts own answers = cancelled_buf_read slot site facts own answers
-cancelled (call.BufWrite slot bytes) site facts own answers = cancelled_buf_write slot site facts own answers
-cancelled (call.BufWriteAll slot bytes) site facts own answers = cancelled_buf_write slot site facts own answers
-cancelled (call.BufFlush slot) site facts own answers = cancelled_buf_flush slot site facts own answers
-cancelled other site facts own answers = site
+-- The site that a cancelled call leaves. The reply to its last request counts for nothing, whether or not it has come.
+-- A call that has changed no slot before its end leaves everything unchanged.
+abbrev pub site_after_cancel : Call → Site → Facts → Own → Answers → Site
+site_after_cancel (call.ReadAll slot n) site facts own answers = cancelled_transfer slot site facts own answers
+site_after_cancel (call.WriteAll slot bytes) site facts own answers = cancelled_transfer slot site facts own answers
+site_after_cancel (call.WriteParts slot parts) site facts own answers = cancelled_transfer slot site facts own answers
+site_after_cancel (call.Close slot) site facts own answers = cancelled_close slot site facts own answers
+site_after_cancel (call.BufRead slot n) site facts own answers = cancelled_buf_read slot site facts own answers
+site_after_cancel (call.BufWrite slot bytes) site facts own answers = cancelled_buf_write slot site facts own answers
+site_after_cancel (call.BufWriteAll slot bytes) site facts own answers = cancelled_buf_write slot site facts own answers
+site_after_cancel (call.BufFlush slot) site facts own answers = cancelled_buf_flush slot site facts own answers
+site_after_cancel other site facts own answers = site

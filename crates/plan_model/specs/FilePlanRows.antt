@@ -1,4 +1,4 @@
--- Worked examples of the calls on files and paths that make one request or none, and beside each what nearly is one.
+-- Worked examples of the calls on files and paths that make at most one request, each beside a case that nearly is one.
 use Rattle.std.specs.Prelude.{ℕ, ◌≡◌, ◌-◌, ◌^◌, true, false, [], ◌∷◌, codes, Some, None, pos, negsuc, refl}
 use Rattle.std.specs.declared.io.traits.SeekFrom.TheVariants.{Start, End, Current}
 use Rattle.ssh_encoding.specs.Writing.{uint32, string}
@@ -13,7 +13,7 @@ use Rattle.sftp_model.specs.declared.slot.Site.{Site}
 use Rattle.sftp_model.specs.declared.slot.Slot.TheVariants.{File}
 use Rattle.sftp_model.specs.Slots.{fresh_site, with_slot}
 use Rattle.plan_model.specs.declared.call.Call.TheVariants as call
-use Rattle.plan_model.specs.CallPlans.{cancelled, next}
+use Rattle.plan_model.specs.CallPlans.{site_after_cancel, next}
 use Rattle.sftp_model.specs.Answers.{status}
 use Rattle.sftp_model.specs.OpenOptions.{nothing_chosen}
 use Rattle.plan_model.specs.PlanWords.{
@@ -33,7 +33,7 @@ use Rattle.plan_model.specs.PlanWords.{
   lacks,
 }
 
--- ---- open
+-- ---- Open
 
 abbrev open_of : ℕ × Request
 open_of = (1, request.OpenFile (codes "b") (record { 0 = 1 }) no_attributes)
@@ -43,7 +43,7 @@ pub open_asks : next (call.OpenFile 0 (record nothing_chosen { read = true }) (c
 unfolding request_body string uint32 attributes
 open_asks = refl
 
--- the file that the slot held goes, and a file at offset 0 comes
+-- The slot's old file is released, and it then holds a file at offset 0.
 pub open_done : next (call.OpenFile 0 (record nothing_chosen { read = true }) (codes "b")) (at 5) bare (open_of ∷ [])
     (after_handle (granted ∷ [])) ≡ Done outcome.Opened (with_slot fresh_site 0 (File (file_at 1 true false 0)))
 open_done = refl
@@ -52,22 +52,22 @@ pub open_refused : next (call.OpenFile 0 (record nothing_chosen { read = true })
     (after_handle (status 2 ∷ [])) ≡ Done (refused_with 2) (at 5)
 open_refused = refl
 
--- a STATUS 1 is a refusal here
+-- A STATUS 1 is a refusal here.
 pub open_refused_1 : next (call.OpenFile 0 (record nothing_chosen { read = true }) (codes "b")) (at 5) bare
     (open_of ∷ []) (after_handle (status 1 ∷ [])) ≡ Done (refused_with 1) (at 5)
 open_refused_1 = refl
 
--- the path is not joined
+-- The path is not joined.
 pub open_not_joined : (site : Site) → next (call.OpenFile 0 (record nothing_chosen { read = true }) (codes "b"))
     (record site { directory = codes "/x" }) bare [] (after_handle []) ≡ Ask open_of.1
 unfolding request_body string uint32 attributes
 open_not_joined site = refl
 
-pub open_cancelled : cancelled (call.OpenFile 0 (record nothing_chosen { read = true }) (codes "b")) (at 5) bare
+pub open_cancelled : site_after_cancel (call.OpenFile 0 (record nothing_chosen { read = true }) (codes "b")) (at 5) bare
     (open_of ∷ []) (after_handle (granted ∷ [])) ≡ at 5
 open_cancelled = refl
 
--- ---- close
+-- ---- Close
 
 pub close_asks : next (call.Close 0) (buffered 5 (7 ∷ []) ((3, 2) ∷ []) None) bare [] (after_handle [])
     ≡ Ask (request.Close handle)
@@ -77,7 +77,7 @@ pub close_refused : next (call.Close 0) (at 5) bare ((1, request.Close handle) �
     ≡ Done (refused_with 4) fresh_site
 close_refused = refl
 
--- a clone has the file: no CLOSE
+-- A clone has the file: no CLOSE.
 pub close_first_of_two : next (call.Close 0) (with_slot (at 5) 1 (File (file_at 0 true true 0))) bare []
     (after_handle []) ≡ Done outcome.Done (with_slot fresh_site 1 (File (file_at 0 true true 0)))
 close_first_of_two = refl
@@ -86,11 +86,11 @@ pub close_last_of_two : next (call.Close 1) (with_slot fresh_site 1 (File (file_
     (after_handle []) ≡ Ask (request.Close handle)
 close_last_of_two = refl
 
-pub close_cancelled : cancelled (call.Close 0) (at 5) bare ((1, request.Close handle) ∷ []) (after_handle [])
+pub close_cancelled : site_after_cancel (call.Close 0) (at 5) bare ((1, request.Close handle) ∷ []) (after_handle [])
     ≡ fresh_site
 close_cancelled = refl
 
--- ---- clone
+-- ---- Clone
 
 pub clone_done : next (call.CloneFile 0 1) (at 5) bare [] (after_handle [])
     ≡ Done outcome.Done (with_slot (at 5) 1 (File (file_at 0 true true 5)))
@@ -103,7 +103,7 @@ pub clone_of_buffered : next (call.CloneFile 0 1) (buffered 5 [] [] None) bare [
     ≡ Done outcome.NoFile (buffered 5 [] [] None)
 clone_of_buffered = refl
 
--- ---- seek
+-- ---- Seek
 
 pub seek_start : next (call.Seek 0 (Start (2 ^ 64 - 1))) (at 5) bare [] (after_handle [])
     ≡ Done (outcome.Count (2 ^ 64 - 1)) (at (2 ^ 64 - 1))
@@ -133,13 +133,13 @@ pub seek_from_end : next (call.Seek 0 (End (pos 0))) (at 5) bare [] (after_handl
     ≡ Done (refused_io kind.SeekFromEnd) (at 5)
 seek_from_end = refl
 
--- ---- attributes of an open file
+-- ---- Attributes of an open file
 
 pub set_len_asks : next (call.SetLen 0 7) (at 5) bare [] (after_handle [])
     ≡ Ask (request.Fsetstat handle (attributes_of (Some 7) None))
 set_len_asks = refl
 
--- bits over the twelve low ones are dropped
+-- Bits over the twelve low ones are dropped.
 pub set_perm_asks : next (call.SetPerm 0 0o177777) (at 5) bare [] (after_handle [])
     ≡ Ask (request.Fsetstat handle (attributes_of None (Some 0o7777)))
 set_perm_asks = refl
@@ -164,7 +164,7 @@ pub meta_not_readable : next (call.Meta 0) (write_only 5) bare [] (after_handle 
     ≡ Done (refused_io kind.NotReadable) (write_only 5)
 meta_not_readable = refl
 
--- ---- sync: the extension before the rights
+-- ---- Sync: the extension before the rights
 
 pub sync_asks : next (call.Sync 0) (at 5) offering [] (after_handle []) ≡ Ask (request.Fsync handle)
 sync_asks = refl
@@ -179,7 +179,7 @@ sync_not_writable = refl
 pub sync_no_file : next (call.Sync 1) (at 5) bare [] (after_handle []) ≡ Done outcome.NoFile (at 5)
 sync_no_file = refl
 
--- ---- copy
+-- ---- Copy
 
 abbrev two : ℕ → ℕ → Site
 two source target = with_slot (read_only source) 1 (File (file_at 1 false true target))
@@ -202,7 +202,7 @@ copy_refused = refl
 pub copy_lacks : next (call.Copy 1 0 3) (two 5 2) bare [] (after_handle []) ≡ Done (lacks 16) (two 5 2)
 copy_lacks = refl
 
--- the target is looked at first
+-- The target is checked first.
 pub copy_not_writable : next (call.Copy 1 0 3) (two 5 2) offering [] (after_handle [])
     ≡ Done (refused_io kind.NotWritable) (two 5 2)
 copy_not_writable = refl
@@ -214,7 +214,7 @@ copy_overflows = refl
 pub copy_to_itself : next (call.Copy 0 0 3) (at 5) offering [] (after_handle []) ≡ Done outcome.NoFile (at 5)
 copy_to_itself = refl
 
--- ---- buffer
+-- ---- Buffer
 
 pub buffer_done : next (call.Buffer 0 3) (at 5) bare [] (after_handle []) ≡ Done outcome.Done (buffered 5 [] [] None)
 buffer_done = refl

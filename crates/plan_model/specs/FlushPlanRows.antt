@@ -1,4 +1,4 @@
--- Worked examples of `buf_write_all`, `buf_flush` and `buf_seek`, and beside each what nearly is one. Writes take 2
+-- Worked examples of `buf_write_all`, `buf_flush` and `buf_seek`, each beside a case that nearly is one. Writes take 2
 -- bytes each, and 4 bytes may be pending.
 use Rattle.std.specs.Prelude.{ℕ, ◌≡◌, ◌-◌, ◌^◌, true, false, List, [], ◌∷◌, codes, Some, None, pos, negsuc, refl}
 use Rattle.std.specs.declared.io.traits.SeekFrom.TheVariants.{Start, End, Current}
@@ -13,7 +13,7 @@ use Rattle.sftp_model.specs.declared.slot.Site.{Site}
 use Rattle.sftp_model.specs.declared.slot.Slot.TheVariants.{Buffered}
 use Rattle.sftp_model.specs.Slots.{fresh_site, with_slot}
 use Rattle.plan_model.specs.declared.call.Call.TheVariants as call
-use Rattle.plan_model.specs.CallPlans.{cancelled, next}
+use Rattle.plan_model.specs.CallPlans.{site_after_cancel, next}
 use Rattle.sftp_model.specs.Answers.{status}
 use Rattle.plan_model.specs.PlanWords.{
   known,
@@ -36,7 +36,7 @@ abbrev unwritable : Site
 unwritable = with_slot fresh_site 0 (Buffered (file_at 0 true false 5)
     (record { len = 3; bytes = []; deferred = []; reading = None }))
 
--- ---- buf_write_all: ten bytes, four at a time, within a limit of more than ten
+-- ---- Buf_write_all: ten bytes, four at a time, within a limit of more than ten
 
 abbrev wide : Facts
 wide = facts 0 4 4 655360 1
@@ -54,7 +54,7 @@ pub all_asks : next (call.BufWriteAll 0 ten) (buffered 0 [] [] None) wide [] (af
     ≡ Ask (request.Write handle 0 (0 ∷ 1 ∷ 2 ∷ 3 ∷ []))
 all_asks = refl
 
--- the next part without a reply to the one before
+-- The next part is asked without a reply to the one before.
 pub all_asks_second : next (call.BufWriteAll 0 ten) (buffered 0 [] [] None) wide
     (write_at 1 0 (0 ∷ 1 ∷ 2 ∷ 3 ∷ []) ∷ []) (after_handle []) ≡ Ask (request.Write handle 4 (4 ∷ 5 ∷ 6 ∷ 7 ∷ []))
 all_asks_second = refl
@@ -77,7 +77,7 @@ pub all_refused : next (call.BufWriteAll 0 (codes "abcde")) (buffered 0 [] [] No
     ≡ Done (refused_with 4) (buffered 4 [] ((2, 2) ∷ []) None)
 all_refused = refl
 
--- nothing is done before the rights are looked at
+-- The call is done before the rights are checked.
 pub all_of_none : next (call.BufWriteAll 0 []) unwritable bare [] (after_handle []) ≡ Done outcome.Done unwritable
 all_of_none = refl
 
@@ -90,25 +90,25 @@ pub all_overflows : next (call.BufWriteAll 0 (codes "abc")) (buffered (2 ^ 64 - 
     ≡ Done (refused_io kind.OffsetOverflow) (buffered (2 ^ 64 - 1) [] ((1, 2) ∷ []) None)
 all_overflows = refl
 
--- what the last WRITE left: the status taken after it counts for nothing
-pub all_cancelled : cancelled (call.BufWriteAll 0 (codes "abcde")) (buffered 0 [] [] None) bare
+-- The state that the last WRITE left: a status taken after it counts for nothing.
+pub all_cancelled : site_after_cancel (call.BufWriteAll 0 (codes "abcde")) (buffered 0 [] [] None) bare
     (write_at 1 0 (codes "ab") ∷ write_at 2 2 (codes "cd") ∷ []) (after_handle (ok ∷ []))
     ≡ buffered 4 [] ((1, 2) ∷ (2, 2) ∷ []) None
 all_cancelled = refl
 
-pub all_cancelled_third : cancelled (call.BufWriteAll 0 (codes "abcdefg")) (buffered 0 [] [] None) bare
+pub all_cancelled_third : site_after_cancel (call.BufWriteAll 0 (codes "abcdefg")) (buffered 0 [] [] None) bare
     (write_at 1 0 (codes "ab") ∷ write_at 2 2 (codes "cd") ∷ write_at 3 4 (codes "ef") ∷ []) (after_handle (ok ∷ []))
     ≡ buffered 6 [] ((2, 2) ∷ (3, 2) ∷ []) None
 all_cancelled_third = refl
 
--- ---- buf_flush: all statuses, the oldest first
+-- ---- Buf_flush: all statuses, the oldest first
 
--- not done after the first status
+-- Not done after the first status.
 pub flush_waits_second : next (call.BufFlush 0) (buffered 10 [] three_deferred None) wide [] (after_handle (ok ∷ []))
     ≡ Wait 2
 flush_waits_second = refl
 
--- a later status doesn't count before the oldest
+-- A later status does not count before the oldest.
 pub flush_waits_first : next (call.BufFlush 0) (buffered 10 [] ((1, 4) ∷ (3, 2) ∷ []) None) wide []
     (known ((3, ok) ∷ [])) ≡ Wait 1
 flush_waits_first = refl
@@ -117,7 +117,7 @@ pub flush_done : next (call.BufFlush 0) (buffered 10 [] three_deferred None) wid
     ≡ Done outcome.Done (buffered 10 [] [] None)
 flush_done = refl
 
--- the refusal is taken out, and later ones stay
+-- The refusal is taken out, and later ones stay.
 pub flush_refused : next (call.BufFlush 0) (buffered 10 [] three_deferred None) wide []
     (after_handle (ok ∷ status 4 ∷ ok ∷ [])) ≡ Done (refused_with 4) (buffered 10 [] ((3, 2) ∷ []) None)
 flush_refused = refl
@@ -133,18 +133,19 @@ flush_not_writable = refl
 pub flush_of_file : next (call.BufFlush 0) (at 5) bare [] (after_handle []) ≡ Done outcome.NoFile (at 5)
 flush_of_file = refl
 
-pub flush_cancelled : cancelled (call.BufFlush 0) (buffered 10 [] three_deferred None) wide [] (after_handle (ok ∷ []))
+pub flush_cancelled : site_after_cancel (call.BufFlush 0) (buffered 10 [] three_deferred None) wide []
+    (after_handle (ok ∷ []))
     ≡ buffered 10 [] ((2, 4) ∷ (3, 2) ∷ []) None
 flush_cancelled = refl
 
--- a refusal stays, and what stands after it
-pub flush_cancelled_refused : cancelled (call.BufFlush 0) (buffered 10 [] three_deferred None) wide []
+-- A refusal stays, and so do the writes after it.
+pub flush_cancelled_refused : site_after_cancel (call.BufFlush 0) (buffered 10 [] three_deferred None) wide []
     (after_handle (ok ∷ status 4 ∷ ok ∷ [])) ≡ buffered 10 [] ((2, 4) ∷ (3, 2) ∷ []) None
 flush_cancelled_refused = refl
 
--- ---- buf_seek
+-- ---- Buf_seek
 
--- a move forward inside the buffer keeps the rest, one past it nothing, one back nothing
+-- A move forward inside the buffer keeps the rest; a move past it, or back, keeps nothing.
 pub seek_inside : next (call.BufSeek 0 (Current (pos 1))) (buffered 5 (codes "abc") [] None) bare [] (after_handle [])
     ≡ Done (outcome.Count 6) (buffered 6 (codes "bc") [] None)
 seek_inside = refl
@@ -157,7 +158,7 @@ pub seek_back : next (call.BufSeek 0 (Current (negsuc 0))) (buffered 5 (codes "a
     (after_handle []) ≡ Done (outcome.Count 4) (buffered 4 [] ((1, 2) ∷ []) None)
 seek_back = refl
 
--- to where it stands: the read under way stays
+-- A seek to the current offset: the read in flight stays.
 pub seek_nowhere : next (call.BufSeek 0 (Start 5)) (buffered 5 [] [] (Some 1)) bare [] (after_handle [])
     ≡ Done (outcome.Count 5) (buffered 5 [] [] (Some 1))
 seek_nowhere = refl

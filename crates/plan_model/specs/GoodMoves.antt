@@ -1,4 +1,4 @@
--- What holds of each move of a call, whatever the call.
+-- Properties of each move of a call, for any call.
 use Rattle.std.specs.Prelude.{ℕ, ◌≡◌, ◌<◌, ◌≤◌, ◌+◌, ◌^◌, ◌⊎◌, true, false, List, [], ◌∷◌, length, Some, None, IfSome}
 use Rattle.sftp_model.specs.declared.reply.Reply.TheVariants as reply
 use Rattle.sftp_model.specs.declared.request.Request.{Request}
@@ -18,8 +18,8 @@ use Rattle.plan_model.specs.declared.call.Call.TheVariants as call
 use Rattle.plan_model.specs.declared.call.Call.{Call}
 use Rattle.plan_model.specs.CallPlans.{next}
 
--- What a law is said of: the call's own requests, that its numbers fit, what it may close and what it brought, and what
--- it began with.
+-- The situation of a law: the call's own requests, the fact that its numbers fit, the handles that it may close, the
+-- grants that it brought, and the site and facts at its start.
 pub record Situation : Type 1 where
   pub own : Own
   pub numbers : Type 0
@@ -29,20 +29,21 @@ pub record Situation : Type 1 where
   pub facts : Facts
   pub answers : Answers
 
--- a grant that the lane held at the call's start, or that the call brought
+-- A grant that the lane held at the call's start, or that the call brought.
 abbrev pub IsHeld : Situation → ℕ → Type 0
 IsHeld s g = (has_grant s.site g ≡ true) ⊎ s.brought g
 
--- the handle is that of such a grant
+-- The handle is that of such a grant.
 pub record IsHeldHandle (s : Situation) (handle : List ℕ) : Type 0 where
   pub grant : ℕ
   pub held : IsHeld s grant
   pub bears : handle ≡ handle_of (s.answers grant)
 
--- A request that a call may ask. Its handles are held, its lengths within the facts, its offsets within the range, its
--- paths within a frame, and its flags and attributes fit where the numbers of the call do; a handle is asked for by the
--- call's first request alone; a CLOSE comes where the call may,
--- and a hello or a query for limits never.
+-- A request that a call may ask.
+--
+-- Its handles are held, its lengths are within the facts, its offsets within the range, and its paths within a frame.
+-- Its flags and attributes fit if the numbers of the call do. Only the call's first request may ask for a handle. A
+-- CLOSE comes only if the call may close, and a hello or a query for limits never comes.
 abbrev pub IsGoodAsk : Situation → Request → Type 0
 IsGoodAsk s (request.Init version) = ⊥
 IsGoodAsk s request.LimitsQuery = ⊥
@@ -65,20 +66,20 @@ IsGoodAsk s (request.Setstat path attrs) = (s.numbers → FitsAttributes attrs)
 IsGoodAsk s (request.Mkdir path attrs) = (attrs ≡ no_attributes) × (is_too_long (request.Mkdir path attrs) ≡ false)
 IsGoodAsk s r = is_too_long r ≡ false
 
--- every grant that the site holds is held
+-- Every grant that the site holds is held.
 abbrev pub HoldsWithin : Situation → Site → Type 0
 HoldsWithin s after = (g : ℕ) → has_grant after g ≡ true → IsHeld s g
 
--- A move is good: a request that may be asked, a wait for a reply that was not taken, an end that leaves grants that
--- were held.
+-- A move is good if it is a request that may be asked, a wait for a reply that was not taken, or an end that leaves
+-- only grants that were held.
 abbrev pub IsGood : Situation → Move → Type 0
 IsGood s (Ask r) = IsGoodAsk s r
 IsGood s (Wait place) = s.answers place ≡ None
 IsGood s (Done ended after) = HoldsWithin s after
 
--- ---- what calls bring and close
+-- ---- Grants that calls bring, and handles that they close
 
--- the grant is that of the call's first request, which a HANDLE answered
+-- The grant is that of the call's first request, which a HANDLE answered.
 pub record IsBrought (own : Own) (answers : Answers) (grant : ℕ) : Type 0 where
   pub asked : Request
   pub later : Own
@@ -86,7 +87,7 @@ pub record IsBrought (own : Own) (answers : Answers) (grant : ℕ) : Type 0 wher
   pub first : own ≡ (grant, asked) ∷ later
   pub came : answers grant ≡ Some (reply.Handle handle)
 
--- the CLOSE of the grant of a slot that no other slot has, where nothing was asked before
+-- The CLOSE of the grant of a slot that no other slot has, if nothing was asked before.
 pub record ClosesGrant (slot : ℕ) (site : Site) (own : Own) (answers : Answers) (handle : List ℕ) : Type 0 where
   pub grant : ℕ
   pub stood : grant_of (slot_at site slot) ≡ Some grant
@@ -94,20 +95,20 @@ pub record ClosesGrant (slot : ℕ) (site : Site) (own : Own) (answers : Answers
   pub last : has_grant (with_slot site slot Empty) grant ≡ false
   pub bears : handle ≡ handle_of (answers grant)
 
--- a `close` alone may close
-abbrev pub closes : Call → Site → Own → Answers → List ℕ → Type 0
-closes (call.Close slot) site own answers handle = ClosesGrant slot site own answers handle
-closes other site own answers handle = ⊥
+-- Only a `close` may close.
+abbrev pub MayCloseGrant : Call → Site → Own → Answers → List ℕ → Type 0
+MayCloseGrant (call.Close slot) site own answers handle = ClosesGrant slot site own answers handle
+MayCloseGrant other site own answers handle = ⊥
 
--- the calls with an OPEN or an OPENDIR bring a grant
-abbrev pub brings : Call → Own → Answers → ℕ → Type 0
-brings (call.OpenFile slot flags path) own answers grant = IsBrought own answers grant
-brings (call.FsRead path bound) own answers grant = IsBrought own answers grant
-brings (call.FsWrite path bytes) own answers grant = IsBrought own answers grant
-brings (call.List path bound) own answers grant = IsBrought own answers grant
-brings other own answers grant = ⊥
+-- The calls with an OPEN or an OPENDIR bring a grant.
+abbrev pub MayBringGrant : Call → Own → Answers → ℕ → Type 0
+MayBringGrant (call.OpenFile slot flags path) own answers grant = IsBrought own answers grant
+MayBringGrant (call.FsRead path bound) own answers grant = IsBrought own answers grant
+MayBringGrant (call.FsWrite path bytes) own answers grant = IsBrought own answers grant
+MayBringGrant (call.List path bound) own answers grant = IsBrought own answers grant
+MayBringGrant other own answers grant = ⊥
 
--- the numbers of a call fit their fields
+-- The numbers of a call fit their fields.
 abbrev pub FitsCall : Call → Type 0
 FitsCall (call.OpenFile slot flags path) = FitsSet (flags_of flags).0
 FitsCall (call.SetLen slot n) = FitsLong n
@@ -119,39 +120,39 @@ abbrev pub situation : Call → Site → Facts → Own → Answers → Situation
 situation c site facts own answers = record {
   own = own;
   numbers = FitsCall c;
-  closes = closes c site own answers;
-  brought = brings c own answers;
+  closes = MayCloseGrant c site own answers;
+  brought = MayBringGrant c own answers;
   site = site;
   facts = facts;
   answers = answers;
 }
 
--- a READ that the call asks next keeps within the range
+-- A READ that the call asks next is within the range.
 abbrev pub ReadsWithin : Facts → Move → Type 0
 ReadsWithin facts (Ask (request.Read handle offset len)) = (offset + len < 2 ^ 64) × (len ≤ facts.read_len)
 ReadsWithin facts other = Unit {0}
 
--- what a whole read asks next is within the range, as it is where its own requests are those that its plan asked
+-- The next request of a whole read is within the range, as it is if its own requests are those that its plan asked.
 abbrev pub WithinRange : Call → Site → Facts → Own → Answers → Type 0
 WithinRange (call.FsRead path bound) site facts own answers =
     ReadsWithin facts (next (call.FsRead path bound) site facts own answers)
 WithinRange other site facts own answers = Unit {0}
 
--- ---- premises
+-- ---- Premises
 
--- the lengths, the limit and the window of a session
+-- The lengths, the limit and the window of a session.
 pub record FitsFacts (facts : Facts) : Type 0 where
   pub read_len : (1 ≤ facts.read_len) × (facts.read_len ≤ MAX_TRANSFER_LEN)
   pub write_len : (1 ≤ facts.write_len) × (facts.write_len ≤ MAX_TRANSFER_LEN)
   pub write_limit : 1 ≤ facts.write_limit
   pub read_window : (1 ≤ facts.read_window) × (facts.read_window ≤ 64)
 
--- the handles that were granted have at most 256 bytes
+-- The handles that were granted have at most 256 bytes.
 abbrev pub HandlesFit : Answers → Type 0
 HandlesFit answers = (place : ℕ) → FitsHandle (handle_of (answers place))
 
--- ---- what a cancelled call leaves
+-- ---- The site that a cancelled call leaves
 
--- every grant of the second site is one of the first
+-- Every grant of the second site is one of the first.
 abbrev pub HoldsNoMore : Site → Site → Type 0
 HoldsNoMore site after = (g : ℕ) → has_grant after g ≡ true → has_grant site g ≡ true

@@ -1,28 +1,29 @@
--- Which lanes a session can be given: each call is within its ranges, and all together are few.
+-- The lanes that a session accepts: each call is within its ranges, and all together are few.
 use Rattle.std.specs.Prelude.{ℕ, ◌+◌, ◌^◌, Bool, true, ◌&&◌, List, length, Option, Some, None, nat_le, nat_lt}
 use Rattle.std.specs.List.{list_all, sum_by}
 use Rattle.plan_model.specs.declared.call.Call.{Call}
 use Rattle.plan_model.specs.declared.call.Call.TheVariants as call
 use Rattle.plan_model.specs.declared.call.Lane.{Lane}
 
--- there are sixteen slots
+-- True if the slot is one of the sixteen.
 abbrev pub is_slot : ℕ → Bool
 is_slot slot = nat_lt slot 16
 
--- a number of 64 bits
+-- True for a number of 64 bits.
 abbrev pub fits_u64 : ℕ → Bool
 fits_u64 n = nat_lt n (2 ^ 64)
 
--- a number of 32 bits
+-- True for a number of 32 bits.
 abbrev pub is_short : ℕ → Bool
 is_short n = nat_lt n (2 ^ 32)
 
--- a number of 64 bits, where there is one
+-- True for None or a number of 64 bits.
 abbrev pub is_some_long : Option ℕ → Bool
 is_some_long None = true
 is_some_long (Some n) = fits_u64 n
 
--- the slots that a call names are there, a bound or a length is not 0, a bound of READs has 32 bits, and a size 64
+-- True if the slots that a call names exist, a bound or a length is not 0, a bound of READs has 32 bits, and a size has
+-- 64.
 abbrev pub is_within : Call → Bool
 is_within (call.OpenFile slot flags path) = is_slot slot
 is_within (call.Read slot n) = is_slot slot
@@ -50,22 +51,22 @@ is_within (call.List path bound) = nat_le 1 bound
 is_within (call.SetStat path size perm) = is_some_long size
 is_within of_paths = true
 
--- what a call counts: the WRITEs of a buffered file may be as many as its bytes, and the READs of a whole read 64, and
--- all be under way when it has ended
+-- The weight of a call. A buffered write may make one WRITE for each of its bytes, and a whole read 64 READs, all of
+-- which may be in flight when it has ended.
 abbrev pub weight : Call → ℕ
 weight (call.BufWrite slot bytes) = 2 + length bytes
 weight (call.BufWriteAll slot bytes) = 2 + length bytes
 weight (call.FsRead path bound) = 65
 weight other = 2
 
--- what a lane counts: itself and its calls
+-- The weight of a lane: itself and its calls.
 abbrev pub lane_weight : Lane → ℕ
 lane_weight lane = 1 + sum_by weight lane.calls
 
--- the greatest count, and one more
+-- The greatest weight, plus one.
 abbrev pub weight_limit : ℕ
 weight_limit = 2 ^ 31
 
--- each call is within its ranges, and the lanes count less than 2147483648
+-- True if each call is within its ranges, and the weight of the lanes is less than 2147483648.
 abbrev pub are_ok : List Lane → Bool
 are_ok lanes = list_all (λ lane. list_all is_within lane.calls) lanes && nat_lt (sum_by lane_weight lanes) weight_limit

@@ -1,6 +1,6 @@
--- What the plans of all calls share. What a call does next is a function of what its lane held at the call's
--- start, of the call's own requests so far and of the replies taken so far, and of nothing else. A place is the
--- number of a request among all that were submitted.
+-- The definitions that the plans of all calls share. The next move of a call is a function only of the lane's site at
+-- the call's start, of the call's own requests so far, and of the replies taken so far. A place is the number of a
+-- request among all that were submitted.
 use Rattle.std.specs.Prelude.{
   ℕ,
   ◌+◌,
@@ -40,121 +40,122 @@ use Rattle.sftp_model.specs.declared.slot.Slot.{Slot}
 use Rattle.sftp_model.specs.declared.slot.Site.{Site}
 use Rattle.sftp_model.specs.declared.slot.Slot.TheVariants.{Empty, File, Buffered}
 
--- the replies taken so far, by the places of their requests
+-- The replies taken so far, by the places of their requests.
 abbrev pub Answers : Type 0
 Answers = ℕ → Option Reply
 
--- a call's own requests so far, the oldest first: the place of each, and what was asked there
+-- A call's own requests so far, the oldest first: the place of each, and the request.
 abbrev pub Own : Type 0
 Own = List (ℕ × Request)
 
--- what a call does next, by its own requests and the replies
+-- The next move of a call, by its own requests and the replies.
 abbrev pub Plan : Type 0
 Plan = Own → Answers → Move
 
--- ---- refusals
+-- ---- Refusals
 
--- a STATUS other than 0 refuses; no reply that a request doesn't allow gets here
-abbrev pub refused : Reply → Site → Move
-refused (reply.Status code message language) site = Done (outcome.Refused (error.SftpError code message language)) site
-refused other site = Done (outcome.Refused (error.InvalidResponse None)) site
+-- A STATUS other than 0 refuses the call. No reply that a request does not allow gets here.
+abbrev pub refusal_move : Reply → Site → Move
+refusal_move (reply.Status code message language) site = Done (outcome.Refused (error.SftpError code message language))
+    site
+refusal_move other site = Done (outcome.Refused (error.InvalidResponse None)) site
 
--- refused without a request
-abbrev pub refuses : IoKind → Site → Move
-refuses why site = Done (outcome.Refused (error.IOError why)) site
+-- Refused without a request.
+abbrev pub refuse_locally : IoKind → Site → Move
+refuse_locally why site = Done (outcome.Refused (error.IOError why)) site
 
--- refused where the server doesn't offer an extension
+-- Refused if the server does not offer an extension.
 abbrev pub refuses_extension : ℕ → Site → Move
 refuses_extension bit site = Done (outcome.Refused (error.UnsupportedExtension (record { 0 = bit }))) site
 
 abbrev pub offers : Facts → ℕ → Bool
 offers facts bit = has_bit facts.extensions.0 bit
 
--- ---- requests and their replies
+-- ---- Requests and their replies
 
--- a request is answered, or its reply is awaited
+-- A request is answered, or its reply is awaited.
 abbrev pub once_answered : ℕ → Option Reply → (Reply → Move) → Move
 once_answered place None go = Wait place
 once_answered place (Some r) go = go r
 
--- A call of one request: what it does first, and then what its reply makes of it.
+-- A call of one request: its first move, and then the move that its reply leads to.
 abbrev pub by_reply : Move → (Reply → Move) → Plan
 by_reply first go [] answers = first
 by_reply first go (asked ∷ later) answers = once_answered asked.0 (answers asked.0) go
 
--- a request of one path or two, where it fits a frame
+-- A request of one path or two, if it fits a frame.
 abbrev pub ask_path : Request → Site → Move
-ask_path r site = if is_too_long r then refuses kind.PathTooLong site else Ask r
+ask_path r site = if is_too_long r then refuse_locally kind.PathTooLong site else Ask r
 
--- the handle that a HANDLE brought
+-- The handle that a HANDLE brought.
 abbrev pub handle_of : Option Reply → List ℕ
 handle_of (Some (reply.Handle handle)) = handle
 handle_of other = []
 
--- a request of so many bytes would go past the greatest offset
+-- True if a request of this many bytes would go past the greatest offset.
 abbrev pub overflows : ℕ → ℕ → Bool
 overflows offset len = nat_le (2 ^ 64) (offset + len)
 
--- a READ of a file at its offset
+-- A READ of a file at its offset.
 abbrev pub ask_read : FileAt → ℕ → Site → Answers → Move
 ask_read file len site answers =
-    if not file.readable then refuses kind.NotReadable site
-    else if overflows file.offset len then refuses kind.OffsetOverflow site
+    if not file.readable then refuse_locally kind.NotReadable site
+    else if overflows file.offset len then refuse_locally kind.OffsetOverflow site
     else Ask (request.Read (handle_of (answers file.grant)) file.offset len)
 
--- a WRITE of a file at its offset
+-- A WRITE of a file at its offset.
 abbrev pub ask_write : FileAt → List ℕ → Site → Answers → Move
 ask_write file bytes site answers =
-    if not file.writable then refuses kind.NotWritable site
-    else if overflows file.offset (length bytes) then refuses kind.OffsetOverflow site
+    if not file.writable then refuse_locally kind.NotWritable site
+    else if overflows file.offset (length bytes) then refuse_locally kind.OffsetOverflow site
     else Ask (request.Write (handle_of (answers file.grant)) file.offset bytes)
 
--- ---- what a reply makes of a call
+-- ---- Moves after a reply
 
--- a STATUS 0 lets the call go on; anything else refuses
+-- After a STATUS 0 the call continues; any other reply refuses it.
 abbrev pub on_status : Reply → Site → Move → Move
 on_status (reply.Status code message language) site go = if code == SSH_FX_OK then go else
-    refused (reply.Status code message language) site
-on_status other site go = refused other site
+    refusal_move (reply.Status code message language) site
+on_status other site go = refusal_move other site
 
--- a STATUS 0 ends the call well
+-- A STATUS 0 ends the call well.
 abbrev pub done_by : Site → Reply → Move
 done_by site r = on_status r site (Done outcome.Done site)
 
--- a DATA lets the call go on with its bytes; a STATUS 1 ends it in its own way; anything else refuses
+-- After a DATA the call continues with its bytes; a STATUS 1 ends it in its own way; any other reply refuses it.
 abbrev pub on_content : Reply → Site → Move → (List ℕ → Move) → Move
 on_content (reply.Content bytes) site ended go = go bytes
-on_content other site ended go = if is_end_of_file other then ended else refused other site
+on_content other site ended go = if is_end_of_file other then ended else refusal_move other site
 
--- a HANDLE lets the call go on with it
+-- After a HANDLE the call continues with it; any other reply refuses it.
 abbrev pub on_handle : Reply → Site → (List ℕ → Move) → Move
 on_handle (reply.Handle handle) site go = go handle
-on_handle other site go = refused other site
+on_handle other site go = refusal_move other site
 
--- attributes end the call
+-- Attributes end the call.
 abbrev pub told_by : Site → Reply → Move
 told_by site (reply.Attrs attrs) = Done (outcome.Meta attrs) site
-told_by site other = refused other site
+told_by site other = refusal_move other site
 
--- ---- what a slot holds
+-- ---- Contents of a slot
 
--- the slot holds a file
+-- The slot holds a file.
 abbrev pub on_file : Slot → Site → (FileAt → Move) → Move
 on_file Empty site go = Done outcome.NoFile site
 on_file (File file) site go = go file
 on_file (Buffered file buffer) site go = Done outcome.NoFile site
 
--- the slot holds a buffered file
+-- The slot holds a buffered file.
 abbrev pub on_buffered : Slot → Site → (FileAt → Buffer → Move) → Move
 on_buffered Empty site go = Done outcome.NoFile site
 on_buffered (File file) site go = Done outcome.NoFile site
 on_buffered (Buffered file buffer) site go = go file buffer
 
--- a file that stands n bytes further
+-- A file whose offset is n bytes further.
 abbrev pub further : FileAt → ℕ → FileAt
 further file n = record file { offset = file.offset + n }
 
--- a site where a slot holds a file, and the same site else
+-- A changed site if the slot holds a file; otherwise the same site.
 abbrev pub left_on_file : Slot → Site → (FileAt → Site) → Site
 left_on_file (File file) site go = go file
 left_on_file other site go = site

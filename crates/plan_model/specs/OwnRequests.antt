@@ -1,4 +1,4 @@
--- Which requests are a call's own: those that its plan asked, by the replies that had come by then.
+-- The own requests of a call: those that its plan asked, by the replies that had come by then.
 use Rattle.std.specs.Prelude.{ℕ, ◌≡◌, [], ◌∷◌, ◌++◌, Some, None, IfSome}
 use Rattle.sftp_model.specs.declared.reply.Reply.{Reply}
 use Rattle.sftp_model.specs.declared.slot.Facts.{Facts}
@@ -9,28 +9,28 @@ use Rattle.plan_model.specs.Moves.{Answers, Own, Plan}
 use Rattle.plan_model.specs.declared.call.Call.{Call}
 use Rattle.plan_model.specs.CallPlans.{next}
 
--- a reply that was taken stays
-abbrev pub Extends : Answers → Answers → Type 0
-Extends before after = (place : ℕ) (r : Reply) → before place ≡ Some r → after place ≡ Some r
+-- A reply that was taken stays.
+abbrev pub ExtendsAnswers : Answers → Answers → Type 0
+ExtendsAnswers before after = (place : ℕ) (r : Reply) → before place ≡ Some r → after place ≡ Some r
 
--- the requests of a list that has the newest first, the oldest first
+-- The requests of a list that has the newest first, in the order with the oldest first.
 abbrev pub oldest_first : Own → Own
 oldest_first [] = []
 oldest_first (asked ∷ past) = oldest_first past ++ asked ∷ []
 
--- A call's own requests, the newest first: each is what the plan asked after those before it, by replies that
--- stayed, and none of them was the reply to it.
+-- A call's own requests, the newest first. Each is the request that the plan asked after those before it, by replies
+-- that stayed. The reply to the request itself was not among them.
 abbrev pub AreAsked : Plan → Own → Answers → Type 0
 AreAsked plan [] answers = Unit {0}
 AreAsked plan (asked ∷ past) answers = (before : Answers) × AreAsked plan past before
-    × (plan (oldest_first past) before ≡ Ask asked.1) × (before asked.0 ≡ None) × Extends before answers
+    × (plan (oldest_first past) before ≡ Ask asked.1) × (before asked.0 ≡ None) × ExtendsAnswers before answers
 
--- each reply may answer its request
+-- Each reply may answer its request.
 abbrev pub MayBeAnswered : Own → Answers → Type 0
 MayBeAnswered [] answers = Unit {0}
 MayBeAnswered (asked ∷ later) answers = IfSome (answers asked.0) (MayAnswer asked.1) × MayBeAnswered later answers
 
--- a call so far: its own requests, the newest first, and replies that may answer them
+-- A call so far: its own requests, the newest first, and replies that may answer them.
 pub record IsCallSoFar (c : Call) (site : Site) (facts : Facts) (past : Own) (answers : Answers) : Type 0 where
   pub asked : AreAsked (next c site facts) past answers
   pub answered : MayBeAnswered past answers

@@ -1,4 +1,4 @@
--- Worked examples of the calls on paths that make one request or none, and beside each what nearly is one.
+-- Worked examples of the calls on paths that make at most one request, each beside a case that nearly is one.
 use Rattle.std.specs.Prelude.{ℕ, ◌≡◌, Bool, true, List, [], ◌∷◌, codes, Some, None, if◌then◌else◌, refl}
 use Rattle.std.proofs.Common.{ap}
 use Rattle.ssh_encoding.specs.Writing.{uint32, uint64, string}
@@ -10,10 +10,10 @@ use Rattle.sftp_model.specs.declared.slot.Move.TheVariants.{Ask, Wait, Done}
 use Rattle.sftp_model.specs.Frames.{no_attributes, attributes, request_body, is_too_long}
 use Rattle.sftp_model.specs.declared.slot.Site.{Site}
 use Rattle.sftp_model.specs.Slots.{fresh_site}
-use Rattle.plan_model.specs.Moves.{Answers, refuses}
+use Rattle.plan_model.specs.Moves.{Answers, refuse_locally}
 use Rattle.plan_model.specs.PathPlans.{from_directory}
 use Rattle.plan_model.specs.declared.call.Call.TheVariants as call
-use Rattle.plan_model.specs.CallPlans.{cancelled, next}
+use Rattle.plan_model.specs.CallPlans.{site_after_cancel, next}
 use Rattle.sftp_model.specs.Answers.{status}
 use Rattle.plan_model.specs.PlanWords.{
   attributes_of,
@@ -33,7 +33,7 @@ in_x = record fresh_site { directory = codes "/x" }
 abbrev none : Answers
 none place = None
 
--- ---- which request, and that paths are joined
+-- ---- The requests, with joined paths
 
 pub stat_asks : next (call.Stat (codes "a")) fresh_site bare [] none ≡ Ask (request.Stat (codes "a"))
 unfolding request_body string uint32
@@ -47,7 +47,7 @@ pub lstat_absolute : next (call.Lstat (codes "/a")) in_x bare [] none ≡ Ask (r
 unfolding request_body string uint32
 lstat_absolute = refl
 
--- an empty path names the directory, with a `/` after it
+-- An empty path names the directory, with a `/` after it.
 pub remove_empty : next (call.Remove []) in_x bare [] none ≡ Ask (request.Remove (codes "/x/"))
 unfolding request_body string uint32
 remove_empty = refl
@@ -70,7 +70,7 @@ pub set_stat_of_none : next (call.SetStat (codes "a") None None) in_x bare [] no
 unfolding request_body string uint32 uint64 attributes
 set_stat_of_none = refl
 
--- both paths are joined, also the target of a link
+-- Both paths are joined, including the target of a link.
 pub symlink_joined : next (call.Symlink (codes "a") (codes "b")) (record fresh_site { directory = codes "/x" }) bare []
     none ≡ Ask (request.Symlink (codes "/x/a") (codes "/x/b"))
 unfolding request_body string uint32
@@ -104,7 +104,7 @@ pub canonicalize_plain : next (call.Canonicalize (codes "a")) in_x bare [] none 
 unfolding request_body string uint32
 canonicalize_plain = refl
 
--- ---- refusals in their order: of `hard_link` the extension comes first, whatever the paths' lengths
+-- ---- Refusals in their order: for `hard_link` the extension is checked first, whatever the paths' lengths are
 
 pub hard_link_lacks : (old to : List ℕ) (site : Site) → next (call.HardLink old to) site bare [] none
     ≡ Done (lacks 2) site
@@ -112,16 +112,16 @@ hard_link_lacks old to site = refl
 
 pub too_long : (path : List ℕ) (site : Site) → is_too_long (request.Stat (from_directory site path)) ≡ true
     → next (call.Stat path) site bare [] none ≡ Done (refused_io kind.PathTooLong) site
-too_long path site e = ap (λ (b : Bool). if b then refuses kind.PathTooLong site else
+too_long path site e = ap (λ (b : Bool). if b then refuse_locally kind.PathTooLong site else
     Ask (request.Stat (from_directory site path))) e
 
 pub hard_link_too_long : (old to : List ℕ) (site : Site) → is_too_long
     (request.Hardlink (from_directory site old) (from_directory site to)) ≡ true
     → next (call.HardLink old to) site offering [] none ≡ Done (refused_io kind.PathTooLong) site
-hard_link_too_long old to site e = ap (λ (b : Bool). if b then refuses kind.PathTooLong site else
+hard_link_too_long old to site e = ap (λ (b : Bool). if b then refuse_locally kind.PathTooLong site else
     Ask (request.Hardlink (from_directory site old) (from_directory site to))) e
 
--- ---- what a reply makes
+-- ---- Moves after a reply
 
 pub stat_told : next (call.Stat (codes "a")) (at 5) bare ((1, request.Stat (codes "a")) ∷ [])
     (after_handle (reply.Attrs (attributes_of (Some 7) None) ∷ []))
@@ -144,17 +144,18 @@ pub rmdir_refused : next (call.Rmdir (codes "a")) (at 5) bare ((1, request.Rmdir
     (after_handle (status 1 ∷ [])) ≡ Done (refused_with 1) (at 5)
 rmdir_refused = refl
 
--- the first name counts
+-- The first name counts.
 pub read_link_named : next (call.ReadLink (codes "a")) (at 5) bare ((1, request.Readlink (codes "a")) ∷ [])
     (after_handle (reply.Names (entry (codes "b") ∷ entry (codes "c") ∷ []) ∷ []))
     ≡ Done (outcome.Path (codes "b")) (at 5)
 read_link_named = refl
 
-pub mkdir_cancelled : cancelled (call.Mkdir (codes "a")) (at 5) bare ((1, request.Mkdir (codes "a") no_attributes) ∷ [])
+pub mkdir_cancelled : site_after_cancel (call.Mkdir (codes "a")) (at 5) bare
+    ((1, request.Mkdir (codes "a") no_attributes) ∷ [])
     (after_handle (status 0 ∷ [])) ≡ at 5
 mkdir_cancelled = refl
 
--- ---- cwd: the path as it is
+-- ---- Cwd: the path as it is
 
 pub cwd_done : next (call.Cwd (codes "y")) in_x bare [] none
     ≡ Done outcome.Done (record fresh_site { directory = codes "y" })

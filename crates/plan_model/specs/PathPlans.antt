@@ -15,18 +15,18 @@ use Rattle.sftp_model.specs.Frames.{no_attributes}
 use Rattle.sftp_model.specs.Paths.{joined_path}
 use Rattle.sftp_model.specs.declared.slot.Site.{Site}
 use Rattle.sftp_model.specs.Numbers.{POSIX_RENAME, HARDLINK, EXPAND_PATH}
-use Rattle.plan_model.specs.Moves.{Plan, by_reply, ask_path, done_by, told_by, refused, refuses_extension, offers}
+use Rattle.plan_model.specs.Moves.{Plan, by_reply, ask_path, done_by, told_by, refusal_move, refuses_extension, offers}
 
--- what a path of a call names
+-- The path that a path of a call names.
 abbrev pub from_directory : Site → List ℕ → List ℕ
 from_directory site path = joined_path site.directory path
 
--- ---- calls that a STATUS ends
+-- ---- Calls that a STATUS ends
 
 abbrev pub path_done : Request → Site → Plan
 path_done r site = by_reply (ask_path r site) (done_by site)
 
--- the attributes that are set: a size and a mode, each where it is given
+-- The attributes that are set: a size and a mode, if they are given.
 abbrev pub set_attributes : Option ℕ → Option ℕ → FileAttrs
 set_attributes size mode = record no_attributes { size = size; permissions = option_map permission_bits mode }
 
@@ -43,7 +43,7 @@ mkdir_next path site facts = path_done (request.Mkdir (from_directory site path)
 abbrev pub rmdir_next : List ℕ → Site → Facts → Plan
 rmdir_next path site facts = path_done (request.Rmdir (from_directory site path)) site
 
--- the rename that replaces, where the server offers it
+-- The rename that replaces, if the server offers it.
 abbrev pub rename_request : Facts → List ℕ → List ℕ → Request
 rename_request facts old to = if offers facts POSIX_RENAME then request.PosixRename old to else request.Rename old to
 
@@ -53,13 +53,13 @@ rename_next old to site facts = path_done (rename_request facts (from_directory 
 abbrev pub symlink_next : List ℕ → List ℕ → Site → Facts → Plan
 symlink_next src dst site facts = path_done (request.Symlink (from_directory site src) (from_directory site dst)) site
 
--- the extension is looked at before the length
+-- The extension is checked before the length.
 abbrev pub hard_link_next : List ℕ → List ℕ → Site → Facts → Plan
 hard_link_next old to site facts =
     by_reply (if offers facts HARDLINK then ask_path (request.Hardlink (from_directory site old)
     (from_directory site to)) site else refuses_extension HARDLINK site) (done_by site)
 
--- ---- calls that attributes end
+-- ---- Calls that attributes end
 
 abbrev pub path_told : Request → Site → Plan
 path_told r site = by_reply (ask_path r site) (told_by site)
@@ -70,11 +70,11 @@ stat_next path site facts = path_told (request.Stat (from_directory site path)) 
 abbrev pub lstat_next : List ℕ → Site → Facts → Plan
 lstat_next path site facts = path_told (request.Lstat (from_directory site path)) site
 
--- ---- calls that a path ends: the name of the first entry
+-- ---- Calls that a path ends: the name of the first entry
 
 abbrev pub named_by : Site → Reply → Move
 named_by site (reply.Names (entry ∷ entries)) = Done (outcome.Path entry.filename) site
-named_by site other = refused other site
+named_by site other = refusal_move other site
 
 abbrev pub path_named : Request → Site → Plan
 path_named r site = by_reply (ask_path r site) (named_by site)
@@ -82,14 +82,14 @@ path_named r site = by_reply (ask_path r site) (named_by site)
 abbrev pub read_link_next : List ℕ → Site → Facts → Plan
 read_link_next path site facts = path_named (request.Readlink (from_directory site path)) site
 
--- the extension that knows `~`, where the server offers it
+-- The extension that knows `~`, if the server offers it.
 abbrev pub canonical_request : Facts → List ℕ → Request
 canonical_request facts path = if offers facts EXPAND_PATH then request.ExpandPath path else request.Realpath path
 
 abbrev pub canonicalize_next : List ℕ → Site → Facts → Plan
 canonicalize_next path site facts = path_named (canonical_request facts (from_directory site path)) site
 
--- ---- the working directory: the path as it is, without a request
+-- ---- The working directory: the path as it is, without a request
 
 abbrev pub cwd_next : List ℕ → Site → Facts → Plan
 cwd_next path site facts own answers = Done outcome.Done (record site { directory = path })

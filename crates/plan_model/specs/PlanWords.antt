@@ -1,4 +1,4 @@
--- Words for worked states of plans.
+-- Abbreviations for worked states of plans.
 use Rattle.std.specs.Prelude.{ℕ, ◌==◌, Bool, true, false, List, [], ◌∷◌, Option, Some, None, slice_get, if◌then◌else◌}
 use Rattle.sftp_model.specs.declared.file_attrs.FileAttrs.{FileAttrs}
 use Rattle.sftp_model.specs.declared.reply.NameEntry.{NameEntry}
@@ -18,7 +18,7 @@ use Rattle.sftp_model.specs.declared.slot.Slot.TheVariants.{File, Buffered}
 use Rattle.sftp_model.specs.Slots.{fresh_site, with_slot}
 use Rattle.plan_model.specs.Moves.{Answers}
 
--- these replies by their places, and no other
+-- These replies by their places, and no other.
 abbrev pub known : List (ℕ × Reply) → Answers
 known [] place = None
 known (got ∷ rest) place = if got.0 == place then Some got.1 else known rest place
@@ -49,7 +49,7 @@ attributes_of size mode = record no_attributes { size = size; permissions = mode
 abbrev pub entry : List ℕ → NameEntry
 entry name = record { filename = name; longname = []; attrs = no_attributes }
 
--- ---- what rows begin with: the request at place 0 was an OPEN that a HANDLE answered
+-- ---- The start of the rows: the request at place 0 was an OPEN that a HANDLE answered
 
 abbrev pub handle : List ℕ
 handle = 9 ∷ []
@@ -57,11 +57,11 @@ handle = 9 ∷ []
 abbrev pub granted : Reply
 granted = reply.Handle handle
 
--- these replies from place 1 on, after that HANDLE
+-- These replies from place 1 on, after that HANDLE.
 abbrev pub after_handle : List Reply → Answers
 after_handle taken place = slice_get (granted ∷ taken) place
 
--- a file in slot 0 that may be read and written, one that may be read alone, one that may be written alone
+-- A file in slot 0: one that may be read and written, one that may only be read, one that may only be written.
 abbrev pub at : ℕ → Site
 at offset = with_slot fresh_site 0 (File (file_at 0 true true offset))
 
@@ -71,19 +71,19 @@ read_only offset = with_slot fresh_site 0 (File (file_at 0 true false offset))
 abbrev pub write_only : ℕ → Site
 write_only offset = with_slot fresh_site 0 (File (file_at 0 false true offset))
 
--- a buffered file in slot 0: its offset, its bytes, its deferred writes and the read under way
+-- A buffered file in slot 0: its offset, its bytes, its deferred writes and the read in flight.
 abbrev pub buffered : ℕ → List ℕ → List (ℕ × ℕ) → Option ℕ → Site
 buffered offset bytes deferred reading = with_slot fresh_site 0
     (Buffered (file_at 0 true true offset) (record { len = 3; bytes = bytes; deferred = deferred; reading = reading }))
 
--- reads of 4 bytes, writes of 2, a write limit of 4, one READ at once; all extensions, and none
+-- Reads of 4 bytes, writes of 2, a write limit of 4, one READ at once; with all extensions, and with none.
 abbrev pub offering : Facts
 offering = facts 31 4 2 4 1
 
 abbrev pub bare : Facts
 bare = facts 0 4 2 4 1
 
--- requests on the file of place 0, asked at a place
+-- Requests on the file of place 0, asked at a place.
 abbrev pub read_at : ℕ → ℕ → ℕ → ℕ × Request
 read_at place offset len = (place, request.Read handle offset len)
 

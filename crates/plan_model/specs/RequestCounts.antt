@@ -1,4 +1,4 @@
--- How many requests a call makes at most.
+-- The most requests that a call makes.
 use Rattle.std.specs.Prelude.{ℕ, suc, ◌≡◌, ◌<◌, ◌≤◌, ◌+◌, List, [], ◌∷◌, length}
 use Rattle.sftp_model.specs.declared.slot.Facts.{Facts}
 use Rattle.sftp_model.specs.declared.slot.Move.{Move}
@@ -9,18 +9,18 @@ use Rattle.sftp_model.specs.declared.slot.Site.{Site}
 use Rattle.sftp_model.specs.declared.slot.Slot.TheVariants.{Buffered}
 use Rattle.sftp_model.specs.Slots.{slot_at}
 use Rattle.plan_model.specs.TransferPlans.{joined_parts}
-use Rattle.plan_model.specs.BufferPlans.{pending}
+use Rattle.plan_model.specs.BufferPlans.{pending_bytes}
 use Rattle.plan_model.specs.declared.call.Call.TheVariants as call
 use Rattle.plan_model.specs.declared.call.Call.{Call}
 use Rattle.plan_model.specs.CallPlans.{next}
 use Rattle.plan_model.specs.Ends.{EndsLeaving}
 
--- where the move asks, the first number is below the second
+-- If the move asks, the first number is below the second.
 abbrev pub AsksBelow : ℕ → ℕ → Move → Type 0
 AsksBelow made most (Ask r) = made < most
 AsksBelow made most other = Unit {0}
 
--- ---- the most requests of a call
+-- ---- The most requests of a call
 
 abbrev pub work : Call → Facts → ℕ
 work (call.ReadAll slot n) facts = n
@@ -39,23 +39,23 @@ work (call.BufSeek slot position) facts = 0
 work (call.Cwd path) facts = 0
 work other facts = 1
 
--- ---- what holds of a buffer between calls
+-- ---- Properties of a buffer between calls
 
--- each deferred write has a byte
+-- Each deferred write has at least one byte.
 abbrev pub EachHasByte : List (ℕ × ℕ) → Type 0
 EachHasByte [] = Unit {0}
 EachHasByte (write ∷ writes) = (1 ≤ write.1) × EachHasByte writes
 
--- no more is pending than the limit allows
+-- The pending bytes are within the limit.
 pub record IsWithinLimit (facts : Facts) (buffer : Buffer) : Type 0 where
-  pub within : pending buffer.deferred ≤ facts.write_limit
+  pub within : pending_bytes buffer.deferred ≤ facts.write_limit
   pub each : EachHasByte buffer.deferred
 
--- and so it is in each slot
+-- The same for each slot.
 abbrev pub BuffersWithin : Facts → Site → Type 0
 BuffersWithin facts site = (slot : ℕ) (file : FileAt) (buffer : Buffer) → slot_at site slot ≡ Buffered file buffer
     → IsWithinLimit facts buffer
 
--- a call that ends leaves its buffers so
+-- A call that ends leaves its buffers within the limit.
 abbrev pub LeavesWithin : Facts → Move → Type 0
 LeavesWithin facts move = EndsLeaving (BuffersWithin facts) move

@@ -23,7 +23,7 @@ use Rattle.plan_model.specs.contracts.call.LanePartialEq.TheImpl as same_lane
 use denote.Enum.Compared.{Each}
 use denote.Enum.Declared.{values_one}
 
--- ---- fields
+-- ---- Fields
 
 abbrev same_text : List ℕ → List ℕ → Bool
 same_text = pointwise ◌==◌
@@ -64,7 +64,7 @@ seek_decides : (a b : SeekFrom) → Decides (same_seek.ghosts.eq a b) (a ≡ b)
 seek_decides a b = decides_by _ (values_one seek.enum a b) (λ e. ap seek.as_values e)
     (choice_decides seek.the_parts seek_tests seek_tests_decide (seek.as_values a) (seek.as_values b))
 
--- ---- the fields of calls
+-- ---- The fields of calls
 
 abbrev three_numbers : ℕ × (ℕ × (ℕ × Unit {0})) → ℕ × (ℕ × (ℕ × Unit {0})) → Bool
 three_numbers x y = (x.0 == y.0) && ((x.1.0 == y.1.0) && (x.1.1.0 == y.1.1.0))

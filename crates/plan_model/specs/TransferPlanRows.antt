@@ -1,4 +1,4 @@
--- Worked examples of reads and writes, and beside each what nearly is one.
+-- Worked examples of reads and writes, each beside a case that nearly is one.
 use Rattle.std.specs.Prelude.{ℕ, ◌≡◌, ◌-◌, ◌^◌, List, [], ◌∷◌, codes, None, refl}
 use Rattle.sftp_model.specs.declared.reply.Reply.{Reply}
 use Rattle.sftp_model.specs.declared.reply.Reply.TheVariants as reply
@@ -7,7 +7,7 @@ use Rattle.sftp_model.specs.declared.outcome.Outcome.TheVariants as outcome
 use Rattle.sftp_model.specs.declared.error.IoKind.TheVariants as kind
 use Rattle.sftp_model.specs.declared.slot.Move.TheVariants.{Ask, Wait, Done}
 use Rattle.plan_model.specs.declared.call.Call.TheVariants as call
-use Rattle.plan_model.specs.CallPlans.{cancelled, next}
+use Rattle.plan_model.specs.CallPlans.{site_after_cancel, next}
 use Rattle.sftp_model.specs.Answers.{status}
 use Rattle.plan_model.specs.PlanWords.{
   handle,
@@ -26,12 +26,12 @@ use Rattle.plan_model.specs.PlanWords.{
 abbrev got : List ℕ → Reply
 got bytes = reply.Content bytes
 
--- ---- read
+-- ---- Read
 
 pub read_asks : next (call.Read 0 9) (at 5) bare [] (after_handle []) ≡ Ask (request.Read handle 5 4)
 read_asks = refl
 
--- the offset moves by the bytes that came, not by those asked
+-- The offset moves by the bytes that came, not by those asked for.
 pub read_done : next (call.Read 0 9) (at 5) bare (read_at 1 5 4 ∷ []) (after_handle (got (codes "ab") ∷ []))
     ≡ Done (outcome.Bytes (codes "ab")) (at 7)
 read_done = refl
@@ -44,7 +44,7 @@ pub read_refused : next (call.Read 0 9) (at 5) bare (read_at 1 5 4 ∷ []) (afte
     ≡ Done (refused_with 3) (at 5)
 read_refused = refl
 
--- reading nothing comes before the rights, and the rights before the offset
+-- Reading nothing is checked before the rights, and the rights before the offset.
 pub read_nothing : next (call.Read 0 0) (write_only (2 ^ 64 - 1)) bare [] (after_handle [])
     ≡ Done outcome.End (write_only (2 ^ 64 - 1))
 read_nothing = refl
@@ -53,7 +53,7 @@ pub read_rights_first : next (call.Read 0 1) (write_only (2 ^ 64 - 1)) bare [] (
     ≡ Done (refused_io kind.NotReadable) (write_only (2 ^ 64 - 1))
 read_rights_first = refl
 
--- what counts is the length that would be asked
+-- The length that would be asked for counts.
 pub read_overflows : next (call.Read 0 9) (at (2 ^ 64 - 4)) bare [] (after_handle [])
     ≡ Done (refused_io kind.OffsetOverflow) (at (2 ^ 64 - 4))
 read_overflows = refl
@@ -66,16 +66,17 @@ pub read_of_buffered : next (call.Read 0 9) (buffered 5 [] [] None) bare [] (aft
     ≡ Done outcome.NoFile (buffered 5 [] [] None)
 read_of_buffered = refl
 
-pub read_cancelled : cancelled (call.Read 0 9) (at 5) bare (read_at 1 5 4 ∷ []) (after_handle (got (codes "ab") ∷ []))
+pub read_cancelled : site_after_cancel (call.Read 0 9) (at 5) bare (read_at 1 5 4 ∷ [])
+    (after_handle (got (codes "ab") ∷ []))
     ≡ at 5
 read_cancelled = refl
 
--- ---- read_all
+-- ---- Read_all
 
 pub read_all_asks : next (call.ReadAll 0 6) (at 0) bare [] (after_handle []) ≡ Ask (request.Read handle 0 4)
 read_all_asks = refl
 
--- after a short DATA what is missing is asked
+-- After a short DATA the missing bytes are asked for.
 pub read_all_asks_more : next (call.ReadAll 0 2) (at 0) bare (read_at 1 0 2 ∷ []) (after_handle (got (7 ∷ []) ∷ []))
     ≡ Ask (request.Read handle 1 1)
 read_all_asks_more = refl
@@ -100,16 +101,16 @@ pub read_all_refused : next (call.ReadAll 0 6) (at 0) bare (read_at 1 0 4 ∷ re
     (after_handle (got (codes "abcd") ∷ status 3 ∷ [])) ≡ Done (refused_with 3) (at 4)
 read_all_refused = refl
 
--- the second READ stands at 4, and its reply counts for nothing
-pub read_all_cancelled : cancelled (call.ReadAll 0 6) (at 0) bare (read_at 1 0 4 ∷ read_at 2 4 2 ∷ [])
+-- The second READ is at 4, and its reply counts for nothing.
+pub read_all_cancelled : site_after_cancel (call.ReadAll 0 6) (at 0) bare (read_at 1 0 4 ∷ read_at 2 4 2 ∷ [])
     (after_handle (got (codes "abcd") ∷ got (codes "ef") ∷ [])) ≡ at 4
 read_all_cancelled = refl
 
-pub read_all_cancelled_first : cancelled (call.ReadAll 0 6) (at 3) bare (read_at 1 3 4 ∷ [])
+pub read_all_cancelled_first : site_after_cancel (call.ReadAll 0 6) (at 3) bare (read_at 1 3 4 ∷ [])
     (after_handle (got (codes "abcd") ∷ [])) ≡ at 3
 read_all_cancelled_first = refl
 
--- ---- write
+-- ---- Write
 
 pub write_asks : next (call.Write 0 (codes "abc")) (at 5) bare [] (after_handle [])
     ≡ Ask (request.Write handle 5 (codes "ab"))
@@ -131,7 +132,7 @@ pub write_not_writable : next (call.Write 0 (codes "a")) (read_only (2 ^ 64 - 1)
     ≡ Done (refused_io kind.NotWritable) (read_only (2 ^ 64 - 1))
 write_not_writable = refl
 
--- the last byte may stand below the greatest offset
+-- The last byte may be below the greatest offset.
 pub write_at_greatest : next (call.Write 0 (1 ∷ [])) (at (2 ^ 64 - 2)) bare [] (after_handle [])
     ≡ Ask (request.Write handle (2 ^ 64 - 2) (1 ∷ []))
 write_at_greatest = refl
@@ -140,17 +141,17 @@ pub write_overflows : next (call.Write 0 (1 ∷ [])) (at (2 ^ 64 - 1)) bare [] (
     ≡ Done (refused_io kind.OffsetOverflow) (at (2 ^ 64 - 1))
 write_overflows = refl
 
-pub write_cancelled : cancelled (call.Write 0 (codes "abc")) (at 5) bare (write_at 1 5 (codes "ab") ∷ [])
+pub write_cancelled : site_after_cancel (call.Write 0 (codes "abc")) (at 5) bare (write_at 1 5 (codes "ab") ∷ [])
     (after_handle (status 0 ∷ [])) ≡ at 5
 write_cancelled = refl
 
--- ---- write_all, and of parts
+-- ---- Write_all, and of parts
 
 pub write_all_asks_rest : next (call.WriteAll 0 (codes "abc")) (at 5) bare (write_at 1 5 (codes "ab") ∷ [])
     (after_handle (status 0 ∷ [])) ≡ Ask (request.Write handle 7 (codes "c"))
 write_all_asks_rest = refl
 
--- one part is under way at a time
+-- One part is in flight at a time.
 pub write_all_waits : next (call.WriteAll 0 (codes "abc")) (at 5) bare (write_at 1 5 (codes "ab") ∷ [])
     (after_handle []) ≡ Wait 1
 write_all_waits = refl
@@ -178,11 +179,11 @@ pub write_all_not_writable : next (call.WriteAll 0 (codes "a")) (read_only 5) ba
     ≡ Done (refused_io kind.NotWritable) (read_only 5)
 write_all_not_writable = refl
 
-pub write_all_cancelled : cancelled (call.WriteAll 0 (codes "abc")) (at 5) bare
+pub write_all_cancelled : site_after_cancel (call.WriteAll 0 (codes "abc")) (at 5) bare
     (write_at 1 5 (codes "ab") ∷ write_at 2 7 (codes "c") ∷ []) (after_handle (status 0 ∷ status 0 ∷ [])) ≡ at 7
 write_all_cancelled = refl
 
--- a part of the lines is no part of a request
+-- A part of the call is no part of a request.
 pub write_parts_asks : next (call.WriteParts 0 (codes "a" ∷ [] ∷ codes "bc" ∷ [])) (at 5) bare [] (after_handle [])
     ≡ Ask (request.Write handle 5 (codes "ab"))
 write_parts_asks = refl
@@ -196,6 +197,6 @@ pub write_parts_of_none : next (call.WriteParts 0 ([] ∷ [] ∷ [])) (read_only
     ≡ Done outcome.Done (read_only 5)
 write_parts_of_none = refl
 
-pub write_parts_cancelled : cancelled (call.WriteParts 0 (codes "a" ∷ codes "bc" ∷ [])) (at 5) bare
+pub write_parts_cancelled : site_after_cancel (call.WriteParts 0 (codes "a" ∷ codes "bc" ∷ [])) (at 5) bare
     (write_at 1 5 (codes "ab") ∷ write_at 2 7 (codes "c") ∷ []) (after_handle (status 0 ∷ [])) ≡ at 7
 write_parts_cancelled = refl

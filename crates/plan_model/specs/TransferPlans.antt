@@ -20,7 +20,7 @@ use Rattle.plan_model.specs.Moves.{
   by_reply,
   ask_read,
   ask_write,
-  refuses,
+  refuse_locally,
   on_content,
   on_status,
   on_file,
@@ -28,9 +28,9 @@ use Rattle.plan_model.specs.Moves.{
   further,
 }
 
--- ---- read: at most n bytes at the offset
+-- ---- Read: at most n bytes at the offset
 
--- a DATA moves the file after its bytes
+-- A DATA moves the file's offset past its bytes.
 abbrev pub was_read : ℕ → FileAt → Site → Reply → Move
 was_read slot file site r = on_content r site (Done outcome.End site)
     (λ bytes. Done (outcome.Bytes bytes) (with_slot site slot (File (further file (length bytes)))))
@@ -43,13 +43,13 @@ abbrev pub read_next : ℕ → ℕ → Site → Facts → Plan
 read_next slot n site facts own answers = on_file (slot_at site slot) site
     (λ file. by_reply (read_first file n site facts answers) (was_read slot file site) own answers)
 
--- ---- read_all: what is missing after what was got, again and again
+-- ---- read_all: the bytes missing after those received, repeatedly
 
 abbrev pub missing_next : ℕ → FileAt → List ℕ → ℕ → Site → Facts → Plan
 missing_next slot file got n site facts [] answers = if n == 0 then Done (outcome.Bytes got) site else
     ask_read file (min n facts.read_len) site answers
 missing_next slot file got n site facts (asked ∷ later) answers =
-    once_answered asked.0 (answers asked.0) (λ r. on_content r site (refuses kind.UnexpectedEof site)
+    once_answered asked.0 (answers asked.0) (λ r. on_content r site (refuse_locally kind.UnexpectedEof site)
     (λ bytes. missing_next slot (further file (length bytes)) (got ++ bytes) (n - length bytes)
     (with_slot site slot (File (further file (length bytes)))) facts later answers))
 
@@ -57,9 +57,9 @@ abbrev pub read_all_next : ℕ → ℕ → Site → Facts → Plan
 read_all_next slot n site facts own answers = on_file (slot_at site slot) site
     (λ file. missing_next slot file [] n site facts own answers)
 
--- ---- write: the first bytes
+-- ---- Write: the first bytes
 
--- how many bytes one WRITE takes
+-- The number of bytes that one WRITE takes.
 abbrev pub part_len : Facts → List ℕ → ℕ
 part_len facts bytes = min (length bytes) facts.write_len
 
@@ -78,14 +78,14 @@ write_next slot bytes site facts own answers =
     on_file (slot_at site slot) site (λ file. by_reply (write_first file bytes site facts answers)
     (was_written slot file (part_len facts bytes) site) own answers)
 
--- ---- write_all: part by part, each after STATUS 0 to the one before
+-- ---- Write_all: part by part, each after STATUS 0 to the one before
 
--- where a file that was moved is put
-abbrev pub Keeping : Type 0
-Keeping = FileAt → Site → Site
+-- The site after a file was moved.
+abbrev pub FileKeeper : Type 0
+FileKeeper = FileAt → Site → Site
 
--- the bytes that are left of these
-abbrev pub rest_next : Keeping → FileAt → List ℕ → Site → Facts → Plan
+-- The plan for the bytes that are left of these.
+abbrev pub rest_next : FileKeeper → FileAt → List ℕ → Site → Facts → Plan
 rest_next keep file bytes site facts [] answers = if length bytes == 0 then Done outcome.Done site else
     ask_write file (next_part facts bytes) site answers
 rest_next keep file bytes site facts (asked ∷ later) answers =
@@ -93,7 +93,7 @@ rest_next keep file bytes site facts (asked ∷ later) answers =
     (rest_next keep (further file (part_len facts bytes)) (drop (part_len facts bytes) bytes)
     (keep (further file (part_len facts bytes)) site) facts later answers))
 
-abbrev pub in_slot : ℕ → Keeping
+abbrev pub in_slot : ℕ → FileKeeper
 in_slot slot file site = with_slot site slot (File file)
 
 abbrev pub write_all_next : ℕ → List ℕ → Site → Facts → Plan
@@ -106,15 +106,15 @@ joined_parts parts = flat_map (λ part. part) parts
 abbrev pub write_parts_next : ℕ → List (List ℕ) → Site → Facts → Plan
 write_parts_next slot parts site facts = write_all_next slot (joined_parts parts) site facts
 
--- ---- cancelled: the replies that led to a further request have moved the file to where that request stands
+-- ---- cancelled: the replies that led to a further request have moved the file to the offset of that request
 
--- the offset that a request names
+-- The offset that a request names.
 abbrev pub offset_asked : ℕ → Request → ℕ
 offset_asked offset (request.Read handle at len) = at
 offset_asked offset (request.Write handle at content) = at
 offset_asked offset other = offset
 
--- the offset of the last of these requests
+-- The offset of the last of these requests.
 abbrev pub last_offset : ℕ → Own → ℕ
 last_offset offset [] = offset
 last_offset offset (asked ∷ later) = last_offset (offset_asked offset asked.1) later

@@ -1,4 +1,4 @@
--- The calls that open a path, work on it and end: whole writes and listings. No slot holds what they open.
+-- The calls that open a path, work on it and end: whole writes and listings. No slot holds the files that they open.
 use Rattle.std.specs.Prelude.{ℕ, ◌+◌, ◌-◌, ◌==◌, List, [], ◌∷◌, ◌++◌, if◌then◌else◌}
 use Rattle.sftp_model.specs.Numbers.{SSH_FXF_WRITE, SSH_FXF_CREAT, SSH_FXF_TRUNC}
 use Rattle.sftp_model.specs.declared.flags.OpenFlags.{OpenFlags}
@@ -12,25 +12,25 @@ use Rattle.sftp_model.specs.declared.slot.Move.{Move}
 use Rattle.sftp_model.specs.declared.slot.Move.TheVariants.{Ask, Done}
 use Rattle.sftp_model.specs.Answers.{is_end_of_file}
 use Rattle.sftp_model.specs.declared.slot.Site.{Site}
-use Rattle.plan_model.specs.Moves.{Plan, once_answered, ask_path, refused, on_handle}
+use Rattle.plan_model.specs.Moves.{Plan, once_answered, ask_path, refusal_move, on_handle}
 use Rattle.plan_model.specs.PathPlans.{from_directory}
 use Rattle.plan_model.specs.FilePlans.{open_request, opened_file}
-use Rattle.plan_model.specs.TransferPlans.{Keeping, rest_next}
+use Rattle.plan_model.specs.TransferPlans.{FileKeeper, rest_next}
 
--- a call that opens first, and goes on with the place of its OPEN, the handle and its further requests
+-- A call that opens first, and continues with the place of its OPEN, the handle and its further requests.
 abbrev pub once_opened : Move → Site → (ℕ → List ℕ → Plan) → Plan
 once_opened first site go [] answers = first
 once_opened first site go (asked ∷ later) answers = once_answered asked.0 (answers asked.0)
     (λ r. on_handle r site (λ handle. go asked.0 handle later answers))
 
--- ---- fs_write: the file is made or emptied, and written as by write_all
+-- ---- fs_write: the file is created or truncated, and written as by write_all
 
--- WRITE, CREAT and TRUNC
+-- The flags WRITE, CREAT and TRUNC.
 abbrev pub to_replace : OpenFlags
 to_replace = record { 0 = SSH_FXF_WRITE + SSH_FXF_CREAT + SSH_FXF_TRUNC }
 
--- no slot holds the file
-abbrev pub nowhere : Keeping
+-- No slot holds the file.
+abbrev pub nowhere : FileKeeper
 nowhere file site = site
 
 abbrev pub fs_write_next : List ℕ → List ℕ → Site → Facts → Plan
@@ -38,15 +38,15 @@ fs_write_next path bytes site facts =
     once_opened (ask_path (open_request to_replace (from_directory site path)) site) site
     (λ place handle. rest_next nowhere (opened_file to_replace place) bytes site facts)
 
--- ---- list: entries until the end or an empty NAME
+-- ---- List: entries until the end or an empty NAME
 
--- a NAME lets the call go on with its entries; an empty one and a STATUS 1 end it
+-- After a NAME the call continues with its entries; an empty one and a STATUS 1 end it.
 abbrev pub on_names : Reply → Site → Move → (List NameEntry → Move) → Move
 on_names (reply.Names []) site ended go = ended
 on_names (reply.Names (entry ∷ entries)) site ended go = go (entry ∷ entries)
-on_names other site ended go = if is_end_of_file other then ended else refused other site
+on_names other site ended go = if is_end_of_file other then ended else refusal_move other site
 
--- after the entries that were got, with so many requests left
+-- The plan after the entries so far, with this many requests left.
 abbrev pub entries_next : List ℕ → List NameEntry → ℕ → Site → Plan
 entries_next handle got bound site [] answers = if bound == 0 then Done outcome.GivenUp site else
     Ask (request.Readdir handle)

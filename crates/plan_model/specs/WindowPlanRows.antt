@@ -1,4 +1,4 @@
--- Worked examples of whole reads, with one READ at once and with several, and beside each what nearly is one.
+-- Worked examples of whole reads, with one READ at once and with several, each beside a case that nearly is one.
 use Rattle.std.specs.Prelude.{ℕ, ◌≡◌, List, [], ◌∷◌, ◌++◌, codes, refl}
 use Rattle.ssh_encoding.specs.Writing.{uint32, string}
 use Rattle.sftp_model.specs.declared.reply.Reply.{Reply}
@@ -13,7 +13,7 @@ use Rattle.sftp_model.specs.Frames.{no_attributes, attributes, request_body}
 use Rattle.sftp_model.specs.Slots.{fresh_site}
 use Rattle.plan_model.specs.Moves.{Own}
 use Rattle.plan_model.specs.declared.call.Call.TheVariants as call
-use Rattle.plan_model.specs.CallPlans.{cancelled, next}
+use Rattle.plan_model.specs.CallPlans.{site_after_cancel, next}
 use Rattle.sftp_model.specs.Answers.{status}
 use Rattle.plan_model.specs.PlanWords.{known, handle, granted, at, read_at, facts, refused_with}
 
@@ -23,14 +23,14 @@ got bytes = reply.Content bytes
 abbrev pub opened : ℕ × Request
 opened = (0, request.OpenFile (codes "a") (record { 0 = 1 }) no_attributes)
 
--- reads of 2 bytes, one at once or three
+-- Reads of 2 bytes, one at once or three.
 abbrev one : Facts
 one = facts 0 2 2 4 1
 
 abbrev pub three : Facts
 three = facts 0 2 2 4 3
 
--- after the OPEN: the READs so far, and the replies by places
+-- The state after the OPEN: the READs so far, and the replies by places.
 abbrev reading : Facts → ℕ → Own → List (ℕ × Reply) → Move
 reading f bound reads taken = next (call.FsRead (codes "a") bound) fresh_site f (opened ∷ reads)
     (known ((0, granted) ∷ taken))
@@ -46,7 +46,7 @@ pub open_refused : next (call.FsRead (codes "a") 6) fresh_site one (opened ∷ [
     ≡ Done (refused_with 2) fresh_site
 open_refused = refl
 
--- ---- one READ at once: at the bytes got so far
+-- ---- One READ at once: at the bytes received so far
 
 abbrev five_reads : Own
 five_reads = read_at 1 0 2 ∷ read_at 2 1 2 ∷ read_at 3 2 2 ∷ read_at 4 3 2 ∷ read_at 5 4 2 ∷ []
@@ -61,7 +61,7 @@ one_begins = refl
 pub one_waits : reading one 6 (read_at 1 0 2 ∷ []) [] ≡ Wait 1
 one_waits = refl
 
--- after a short DATA, at the bytes that came
+-- After a short DATA, at the bytes that came.
 pub one_goes_on : reading one 6 (read_at 1 0 2 ∷ []) ((1, got (codes "h")) ∷ []) ≡ asks 1 2
 one_goes_on = refl
 
@@ -72,18 +72,18 @@ pub one_done : reading one 6 (five_reads ++ read_at 6 5 2 ∷ []) ((6, status 1)
     ≡ Done (outcome.Bytes (codes "hello")) fresh_site
 one_done = refl
 
--- five reads were answered by DATA, and no further one is asked
+-- Five reads were answered by DATA, and no further one is asked.
 pub one_given_up : reading one 5 five_reads hello ≡ Done outcome.GivenUp fresh_site
 one_given_up = refl
 
 pub one_refused : reading one 6 (read_at 1 0 2 ∷ []) ((1, status 4) ∷ []) ≡ Done (refused_with 4) fresh_site
 one_refused = refl
 
--- an empty file
+-- An empty file.
 pub one_empty : reading one 1 (read_at 1 0 2 ∷ []) ((1, status 1) ∷ []) ≡ Done (outcome.Bytes []) fresh_site
 one_empty = refl
 
--- ---- three at once, of a file of five bytes
+-- ---- Three at once, of a file of five bytes
 
 abbrev first_three : Own
 first_three = read_at 1 0 2 ∷ read_at 2 2 2 ∷ read_at 3 4 2 ∷ []
@@ -94,18 +94,18 @@ three_asks_second = refl
 pub three_asks_third : reading three 9 (read_at 1 0 2 ∷ read_at 2 2 2 ∷ []) [] ≡ asks 4 2
 three_asks_third = refl
 
--- the window is full
+-- The window is full.
 pub three_waits : reading three 9 first_three [] ≡ Wait 1
 three_waits = refl
 
--- a reply after the prefix frees no place
+-- A reply after the prefix frees no place.
 pub three_waits_first : reading three 9 first_three ((2, got (codes "cd")) ∷ []) ≡ Wait 1
 three_waits_first = refl
 
 abbrev abcde : List (ℕ × Reply)
 abcde = (1, got (codes "ab")) ∷ (2, got (codes "cd")) ∷ (3, got (codes "e")) ∷ []
 
--- the short DATA ends at 5, where no READ begins
+-- The short DATA ends at 5, where no READ begins.
 pub three_asks_end : reading three 9 first_three abcde ≡ asks 5 2
 three_asks_end = refl
 
@@ -116,7 +116,7 @@ pub three_done : reading three 9 (first_three ++ read_at 4 5 2 ∷ []) ((4, stat
     ≡ Done (outcome.Bytes (codes "abcde")) fresh_site
 three_done = refl
 
--- ---- a short DATA before others: the gap is asked, and never filled by the bytes after it
+-- ---- A short DATA before others: the gap is asked for, and never filled by the bytes after it
 
 abbrev short : List (ℕ × Reply)
 short = (1, got (codes "a")) ∷ []
@@ -124,31 +124,31 @@ short = (1, got (codes "a")) ∷ []
 pub gap_asked : reading three 9 first_three short ≡ asks 1 1
 gap_asked = refl
 
--- the gap is asked before what stands after all
+-- The gap is asked for before the bytes after all READs.
 pub gap_first : reading three 9 first_three ((2, got (codes "cd")) ∷ short) ≡ asks 1 1
 gap_first = refl
 
 abbrev with_gap : Own
 with_gap = first_three ++ read_at 4 1 1 ∷ []
 
--- a known end with a gap open doesn't end
+-- A known end does not end the call while a gap is open.
 pub gap_open : reading three 9 first_three ((2, got (codes "cd")) ∷ (3, status 1) ∷ short) ≡ asks 1 1
 gap_open = refl
 
 pub gap_waits : reading three 9 with_gap ((2, got (codes "cd")) ∷ (3, status 1) ∷ short) ≡ Wait 4
 gap_waits = refl
 
--- joined in the order of offsets, not of places
+-- The bytes are joined in the order of offsets, not of places.
 pub gap_filled : reading three 9 with_gap ((2, got (codes "cd")) ∷ (3, status 1) ∷ (4, got (codes "b")) ∷ short)
     ≡ Done (outcome.Bytes (codes "abcd")) fresh_site
 gap_filled = refl
 
--- the gap is the end: what was read after it is left out
+-- The gap is the end: the bytes read after it are left out.
 pub gap_is_end : reading three 9 with_gap ((2, got (codes "cd")) ∷ (3, status 1) ∷ (4, status 1) ∷ short)
     ≡ Done (outcome.Bytes (codes "a")) fresh_site
 gap_is_end = refl
 
--- the first refusal of the prefix, by place; one outside the prefix isn't seen
+-- The first refusal of the prefix, by place; one outside the prefix is not seen.
 pub refused_first : reading three 9 first_three ((1, got (codes "ab")) ∷ (2, status 3) ∷ (3, status 4) ∷ [])
     ≡ Done (refused_with 3) fresh_site
 refused_first = refl
@@ -156,17 +156,17 @@ refused_first = refl
 pub refusal_outside : reading three 9 first_three ((2, status 3) ∷ []) ≡ Wait 1
 refusal_outside = refl
 
--- an end outside the prefix isn't seen either, and then the bound is on the prefix alone
+-- An end outside the prefix is not seen either, and the bound is on the prefix alone.
 pub bound_on_prefix : reading three 1 first_three ((2, got (codes "cd")) ∷ []) ≡ Wait 1
 bound_on_prefix = refl
 
 pub bound_reached : reading three 1 first_three ((1, got (codes "ab")) ∷ []) ≡ Done outcome.GivenUp fresh_site
 bound_reached = refl
 
--- where the end is known, nothing is asked after it
+-- If the end is known, nothing is asked after it.
 pub end_known : reading three 9 (read_at 1 0 2 ∷ read_at 2 2 2 ∷ read_at 3 4 2 ∷ []) ((1, status 1) ∷ []) ≡ Wait 2
 end_known = refl
 
-pub fs_read_cancelled : cancelled (call.FsRead (codes "a") 9) (at 5) three (opened ∷ first_three)
+pub fs_read_cancelled : site_after_cancel (call.FsRead (codes "a") 9) (at 5) three (opened ∷ first_three)
     (known ((0, granted) ∷ [])) ≡ at 5
 fs_read_cancelled = refl

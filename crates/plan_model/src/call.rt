@@ -1,3 +1,4 @@
+//! The calls of lanes.
 ghost use Rattle.std.specs.Prelude.{◌≡◌, ◌+◌, ◌^◌, length, min};
 ghost use Rattle.plan_model.specs.Lanes.{fits_u64, is_short, is_within, weight};
 
@@ -7,8 +8,10 @@ use ssh_encoding::OutOfMemory;
 use std::alloc::Global;
 use std::io::SeekFrom;
 
-/// One call of a lane. A slot is a number from 0 to 15. Offsets and lengths are in bytes. A path that doesn't begin
+/// One call of a lane. A slot is a number from 0 to 15. Offsets and lengths are in bytes. A path that does not begin
 /// with `/` is joined to the lane's working directory.
+///
+/// Example: `crates/example_threads/src/receipts.rt`.
 #[derive(Debug, Drop, PartialEq, Eq)]
 pub enum Call {
     /// Opens the file at a path, and puts it into a slot.
@@ -22,22 +25,22 @@ pub enum Call {
         slot: u8,
         n: u32,
     },
-    /// Reads just `n` bytes of the file in a slot, from its offset on.
+    /// Reads exactly `n` bytes of the file in a slot, starting at its offset.
     ReadAll {
         slot: u8,
         n: u32,
     },
-    /// Writes bytes to the file in a slot, at its offset: as many as one request may carry.
+    /// Writes bytes to the file in a slot, at its offset: at most as many as one request may carry.
     Write {
         slot: u8,
         bytes: ByteText,
     },
-    /// Writes all of the bytes to the file in a slot, from its offset on.
+    /// Writes all of the bytes to the file in a slot, starting at its offset.
     WriteAll {
         slot: u8,
         bytes: ByteText,
     },
-    /// Writes the bytes of all parts, one part after another, to the file in a slot, from its offset on.
+    /// Writes the bytes of all parts, one part after another, to the file in a slot, starting at its offset.
     WriteParts {
         slot: u8,
         parts: Items<ByteText>,
@@ -52,7 +55,7 @@ pub enum Call {
         slot: u8,
         n: u64,
     },
-    /// Sets the mode of the file in a slot, of which the twelve low bits count.
+    /// Sets the mode of the file in a slot. Only the twelve low bits count.
     SetPerm {
         slot: u8,
         perm: u16,
@@ -61,11 +64,12 @@ pub enum Call {
     Meta {
         slot: u8,
     },
-    /// Has the server put the file in a slot on its disk.
+    /// Requests that the server writes the file in a slot to its disk.
     Sync {
         slot: u8,
     },
-    /// Has the server copy `n` bytes from the file in one slot to that in another, or all up to its end where `n` is 0.
+    /// Requests that the server copies `n` bytes from the file in one slot to that in another, or all bytes up to its
+    /// end if `n` is 0.
     Copy {
         from: u8,
         to: u8,
@@ -76,7 +80,7 @@ pub enum Call {
         from: u8,
         to: u8,
     },
-    /// Empties a slot, and closes its file where no other slot has it.
+    /// Clears a slot, and closes its file if no other slot has it.
     Close {
         slot: u8,
     },
@@ -85,22 +89,23 @@ pub enum Call {
         slot: u8,
         len: u32,
     },
-    /// Makes the buffered file in a slot a plain one: what is buffered is dropped, and no status is awaited.
+    /// Makes the buffered file in a slot a plain one: the buffered bytes are dropped, and no status is awaited.
     Unbuffer {
         slot: u8,
     },
-    /// Reads at most `n` bytes of the buffered file in a slot: those that are buffered, or else those of a READ.
+    /// Reads at most `n` bytes of the buffered file in a slot: those that are buffered, or otherwise those of a READ.
     BufRead {
         slot: u8,
         n: u64,
     },
-    /// Writes bytes to the buffered file in a slot, as many as one request may carry, and doesn't await its status.
+    /// Writes bytes to the buffered file in a slot, at most as many as one request may carry, and does not await its
+    /// status.
     BufWrite {
         slot: u8,
         bytes: ByteText,
     },
-    /// Writes all of the bytes to the buffered file in a slot, and awaits a status only where too many bytes are under
-    /// way.
+    /// Writes all of the bytes to the buffered file in a slot, and awaits a status only if too many bytes are in
+    /// flight.
     BufWriteAll {
         slot: u8,
         bytes: ByteText,
@@ -119,7 +124,7 @@ pub enum Call {
         path: ByteText,
         bound: u32,
     },
-    /// Makes or empties the file at a path, and writes all of the bytes to it.
+    /// Creates or truncates the file at a path, and writes all of the bytes to it.
     FsWrite {
         path: ByteText,
         bytes: ByteText,
@@ -129,15 +134,15 @@ pub enum Call {
         path: ByteText,
         bound: u32,
     },
-    /// Asks for the attributes of what a path names.
+    /// Asks for the attributes of a path; for a link, those of its target.
     Stat {
         path: ByteText,
     },
-    /// Asks for the attributes of what a path names, and of a link itself.
+    /// Asks for the attributes of a path; for a link, those of the link itself.
     Lstat {
         path: ByteText,
     },
-    /// Sets the size and the mode of what a path names, each where it is given.
+    /// Sets the size and the mode of a path, if they are given.
     SetStat {
         path: ByteText,
         size: Option<u64>,
@@ -147,7 +152,7 @@ pub enum Call {
     Remove {
         path: ByteText,
     },
-    /// Makes a directory.
+    /// Creates a directory.
     Mkdir {
         path: ByteText,
     },
@@ -155,7 +160,7 @@ pub enum Call {
     Rmdir {
         path: ByteText,
     },
-    /// Renames; what has the new name is replaced where the server offers `posix-rename`.
+    /// Renames a file or directory. An existing file with the new name is replaced if the server offers `posix-rename`.
     Rename {
         old: ByteText,
         to: ByteText,
@@ -165,12 +170,12 @@ pub enum Call {
         old: ByteText,
         to: ByteText,
     },
-    /// Makes a symbolic link at `dst` that names `src`.
+    /// Creates a symbolic link at `dst` whose target is `src`.
     Symlink {
         src: ByteText,
         dst: ByteText,
     },
-    /// Asks what a symbolic link names.
+    /// Asks for the target of a symbolic link.
     ReadLink {
         path: ByteText,
     },
@@ -303,21 +308,21 @@ impl TryCopy for Call {
     }
 }
 
-/// Whether a size is one of 64 bits, as each is.
+/// Returns true if a size is one of 64 bits, which every `u64` is.
 fn fits_u64(_n: u64) -> bool
     ensures { result ≡ fits_u64 _n }
 {
     true
 }
 
-/// Whether a bound is one of 32 bits, as each is.
+/// Returns true if a bound is one of 32 bits, which every `u32` is.
 fn is_short(_n: u32) -> bool
     ensures { result ≡ is_short _n }
 {
     true
 }
 
-/// What a call of these bytes counts, or 2147483648 where it is more.
+/// Returns the weight of a call of these bytes, or 2147483648 if it is more.
 fn weight_of_bytes(bytes: &[u8]) -> u32
     ensures { result ≡ min (2 + length bytes.now) (2 ^ 31) }
 {
@@ -325,7 +330,7 @@ fn weight_of_bytes(bytes: &[u8]) -> u32
 }
 
 impl Call {
-    /// Whether it names slots that are there, and no bound or length of 0.
+    /// Returns true if the slots that the call names exist, and no bound or length is 0.
     pub fn is_within(&self) -> bool
         ensures { result ≡ is_within self.now }
     {
@@ -358,8 +363,8 @@ impl Call {
         }
     }
 
-    /// What it counts among the calls of a session, or 2147483648 where it is more: 65 for an `FsRead`, 2 and its bytes
-    /// for a `BufWrite` and a `BufWriteAll`, and 2 for each other call.
+    /// Returns its weight among the calls of a session, or 2147483648 if it is more: 65 for an `FsRead`, 2 and its
+    /// bytes for a `BufWrite` and a `BufWriteAll`, and 2 for each other call.
     pub fn weight(&self) -> u32
         ensures { result ≡ min (weight self.now) (2 ^ 31) }
     {
@@ -373,9 +378,11 @@ impl Call {
 }
 
 /// Calls that are made one after another.
+///
+/// Example: `crates/example_threads/src/receipts.rt`.
 #[derive(Debug, Drop, PartialEq, Eq)]
 pub struct Lane {
-    /// The calls, the first one first. A call is named by its number, from 0 on.
+    /// The calls, the first one first. A call is named by its number, counted from 0.
     pub calls: Items<Call>,
 }
 

@@ -1,7 +1,8 @@
-// Laws of the plans. The functions do nothing: what they ensure holds of all values. A call so far is one whose own
-// requests are those that its plan asked, and whose replies may answer them. A clause `ranged` holds of any own
-// requests; of a whole read it then is a premise that the READ that is asked is within the range of offsets and the
-// session's read length.
+//! Laws of the plans. The functions do nothing: what they ensure holds for all values.
+//!
+//! A call so far is one whose own requests are those that its plan asked, and whose replies may answer them. A clause
+//! `ranged` holds for any own requests. For a whole read it then has a premise: the READ that is asked is within the
+//! range of offsets and the session's read length.
 ghost use Rattle.std.specs.Prelude.{◌≡◌, ◌<◌, ◌^◌, ℕ, List, None, length};
 ghost use Rattle.sftp_model.specs.Fits.{FitsRequest, AsksWithinReply};
 ghost use Rattle.sftp_model.specs.declared.outcome.Outcome.{Outcome};
@@ -12,7 +13,7 @@ ghost use Rattle.sftp_model.specs.declared.slot.Site.{Site};
 ghost use Rattle.plan_model.specs.Moves.{Answers, Own};
 ghost use Rattle.plan_model.specs.WindowPlans.{fs_read_next};
 ghost use Rattle.plan_model.specs.declared.call.Call.{Call};
-ghost use Rattle.plan_model.specs.CallPlans.{cancelled, next};
+ghost use Rattle.plan_model.specs.CallPlans.{site_after_cancel, next};
 ghost use Rattle.plan_model.specs.GoodMoves.{IsGood, IsGoodAsk, HoldsWithin, HoldsNoMore, FitsCall, FitsFacts, HandlesFit, ReadsWithin, WithinRange, situation};
 ghost use Rattle.plan_model.specs.OwnRequests.{oldest_first, AreAsked, MayBeAnswered, IsCallSoFar};
 ghost use Rattle.plan_model.specs.ReadsUnderWay.{Requests, AreAt, ReadsStand};
@@ -35,7 +36,8 @@ pub fn plans_wait_for_missing_replies()
         → next c site facts own answers ≡ Wait place → answers place ≡ None }
 {}
 
-/// What a call asks bears handles that its lane holds or that the call was granted, within lengths and offsets.
+/// The requests of a call have handles that its lane holds or that the call was granted, and are within lengths and
+/// offsets.
 pub fn requests_may_be_asked()
     ensures asked { (c : Call) (site : Site) (facts : Facts) (past : Own) (answers : Answers) (r : Request)
         → FitsCall c → FitsFacts facts → IsCallSoFar c site facts past answers
@@ -46,20 +48,20 @@ pub fn requests_may_be_asked()
         → IsGoodAsk (situation c site facts own answers) r }
 {}
 
-/// A call that ends leaves no grant but those that its lane held and the one that the call was granted.
+/// A call that ends leaves no grants except those that its lane held and the one that the call was granted.
 pub fn ends_leave_held_grants()
     ensures { (c : Call) (site : Site) (facts : Facts) (own : Own) (answers : Answers) (o : Outcome) (after : Site)
         → next c site facts own answers ≡ Done o after
         → HoldsWithin (situation c site facts own answers) after }
 {}
 
-/// A call that is cancelled leaves no grant but those that its lane held.
+/// A call that is cancelled leaves no grants except those that its lane held.
 pub fn cancelled_calls_leave_held_grants()
     ensures { (c : Call) (site : Site) (facts : Facts) (own : Own) (answers : Answers)
-        → HoldsNoMore site (cancelled c site facts own answers) }
+        → HoldsNoMore site (site_after_cancel c site facts own answers) }
 {}
 
-/// Each request that a call asks fits a frame, and no READ asks for more than one DATA can bring.
+/// Each request that a call asks fits a frame, and no READ asks for more than one DATA can carry.
 pub fn requests_fit_frames()
     ensures asked { (c : Call) (site : Site) (facts : Facts) (past : Own) (answers : Answers) (r : Request)
         → FitsCall c → FitsFacts facts → HandlesFit answers → IsCallSoFar c site facts past answers
@@ -69,37 +71,37 @@ pub fn requests_fit_frames()
         → next c site facts own answers ≡ Ask r → FitsRequest r × AsksWithinReply r }
 {}
 
-/// A call asks only where it has made fewer requests than its work: so the number that is left falls with each.
+/// A call asks only if it has made fewer requests than its work, so the number that is left falls with each.
 pub fn calls_make_so_many_requests()
     ensures { (c : Call) (site : Site) (facts : Facts) (past : Own) (answers : Answers) → FitsCall c
         → FitsFacts facts → BuffersWithin facts site → IsCallSoFar c site facts past answers
         → AsksBelow (length past) (work c facts) (next c site facts (oldest_first past) answers) }
 {}
 
-/// A call that ends, and one that is cancelled, leaves no more bytes of deferred writes than the limit allows, where
-/// it began so.
+/// A call that ends, and one that is cancelled, leaves the bytes of deferred writes within the limit if they were
+/// within it at its start.
 pub fn buffers_keep_their_limit()
     ensures ended { (c : Call) (site : Site) (facts : Facts) (past : Own) (answers : Answers) → FitsFacts facts
         → BuffersWithin facts site → IsCallSoFar c site facts past answers
         → LeavesWithin facts (next c site facts (oldest_first past) answers) }
     ensures cancelled { (c : Call) (site : Site) (facts : Facts) (past : Own) (answers : Answers) → FitsFacts facts
         → BuffersWithin facts site → IsCallSoFar c site facts past answers
-        → BuffersWithin facts (cancelled c site facts (oldest_first past) answers) }
+        → BuffersWithin facts (site_after_cancel c site facts (oldest_first past) answers) }
 {}
 
-/// Where a READ is under way for a buffered file, the buffer has no bytes, and the request is a READ at the file's
-/// offset within the range of offsets: a call that ends, and one that is cancelled, leaves it so where it began so.
+/// If a READ is in flight for a buffered file, the buffer has no bytes, and the request is a READ at the file's offset
+/// within the range of offsets. A call that ends, and one that is cancelled, keeps this if it held at its start.
 pub fn reads_stand_at_their_files()
     ensures ended { (requests : Requests) (c : Call) (site : Site) (facts : Facts) (own : Own) (answers : Answers)
         (o : Outcome) (after : Site) → ReadsStand requests site → next c site facts own answers ≡ Done o after
         → ReadsStand requests after }
     ensures cancelled { (requests : Requests) (c : Call) (site : Site) (facts : Facts) (past : Own)
         (answers : Answers) → AreAsked (next c site facts) past answers → AreAt requests (oldest_first past)
-        → ReadsStand requests site → ReadsStand requests (cancelled c site facts (oldest_first past) answers) }
+        → ReadsStand requests site → ReadsStand requests (site_after_cancel c site facts (oldest_first past) answers) }
 {}
 
-/// A whole read without a bound, too, asks READs within the range of offsets and the session's read length, as long
-/// as it has made fewer than 2^43 requests.
+/// A whole read without a bound also asks READs within the range of offsets and the session's read length, while it has
+/// made fewer than 2^43 requests.
 pub fn unbounded_reads_keep_within_range()
     ensures { (path : List ℕ) (site : Site) (facts : Facts) (past : Own) (answers : Answers) → FitsFacts facts
         → AreAsked (fs_read_next path None site facts) past answers → MayBeAnswered past answers

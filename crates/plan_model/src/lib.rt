@@ -1,5 +1,5 @@
-//! The calls of lanes, and the plans of all calls: what each does next, by what the lane held at its start, by its own requests
-//! and by the replies so far. The definitions stand in `specs/`, beside worked examples of each.
+//! The calls of lanes, and the plans of all calls: the next move of each, by the lane's site at its start, by its own
+//! requests and by the replies so far. The definitions are in `specs/`, beside worked examples of each.
 #![tactic(auto)]
 
 mod call;

@@ -1,4 +1,4 @@
-// Worked calls. The functions do nothing: what they ensure is computed.
+//! Worked calls. The functions do nothing: what they ensure is computed.
 ghost use Rattle.std.specs.Prelude.{[], ◌∷◌, codes};
 ghost use Rattle.sftp_model.specs.Slots.{fresh_site};
 ghost use Rattle.plan_model.specs.declared.call.Call.TheVariants as call;

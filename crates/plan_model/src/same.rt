@@ -1,3 +1,4 @@
+//! Equality of calls and lanes.
 ghost use Rattle.plan_model.specs.Same.{call_decides, lane_decides};
 
 use crate::call::{Call, Lane};

@@ -52,23 +52,28 @@ use Rattle.plan_runner.specs.declared.next.Next.{Next}
 use Rattle.plan_runner.specs.declared.next.Next.TheVariants as step
 use Rattle.plan_runner.specs.declared.next.Running.TheVariants as running
 use Rattle.plan_runner.specs.Asking.{AwaitsAsked, AsksOn, HasFile, HasGrant, opened_by}
-use Rattle.plan_runner.specs.Sound.{Fits, IsKept}
+use Rattle.plan_runner.specs.Sound.{IsFittingReply, IsKept}
 
 -- ---- the grants of slots
 
 slots_have : (slots : List Slot) (k : ℕ) (grant : ℕ) (x : Slot) → slice_index_or slots k Empty ≡ x → slot_has grant x
     ≡ true → list_any (slot_has grant) slots ≡ true
 slots_have [] k grant x at has = absurd (let none : slot_has grant Empty ≡ true = ap (slot_has grant) at ∙ has in cc)
-slots_have (slot ∷ slots) zero grant x at has = or_left (slot_has grant slot) (list_any (slot_has grant) slots) (ap (slot_has grant) at ∙ has)
-slots_have (slot ∷ slots) (suc k) grant x at has = or_right (slot_has grant slot) (list_any (slot_has grant) slots) (slots_have slots k grant x at has)
+slots_have (slot ∷ slots) zero grant x at has = or_left (slot_has grant slot) (list_any (slot_has grant) slots)
+    (ap (slot_has grant) at ∙ has)
+slots_have (slot ∷ slots) (suc k) grant x at has = or_right (slot_has grant slot) (list_any (slot_has grant) slots)
+    (slots_have slots k grant x at has)
 
 -- of the file that stands in a slot
-pub file_held : (site : Site) (slot : ℕ) (file : FileAt) → slot_at site slot ≡ File file → has_grant site file.grant ≡ true
+pub file_held : (site : Site) (slot : ℕ) (file : FileAt) → slot_at site slot ≡ File file → has_grant site file.grant
+    ≡ true
 file_held site slot file at = slots_have site.slots slot file.grant (File file) at (eq-eqb file.grant file.grant refl)
 
 -- and of one that is buffered
-pub buffered_held : (site : Site) (slot : ℕ) (file : FileAt) (buffer : Buffer) → slot_at site slot ≡ Buffered file buffer → has_grant site file.grant ≡ true
-buffered_held site slot file buffer at = slots_have site.slots slot file.grant (Buffered file buffer) at (eq-eqb file.grant file.grant refl)
+pub buffered_held : (site : Site) (slot : ℕ) (file : FileAt) (buffer : Buffer) → slot_at site slot
+    ≡ Buffered file buffer → has_grant site file.grant ≡ true
+buffered_held site slot file buffer at = slots_have site.slots slot file.grant (Buffered file buffer) at
+    (eq-eqb file.grant file.grant refl)
 
 -- ---- replies that fit
 
@@ -82,12 +87,14 @@ within len bytes may =
 
 -- a DATA that may answer a READ has at most the bytes that were asked
 pub read_fits : (handle : List ℕ) (offset len place slot : ℕ) (file : FileAt) (y : Reply)
-    → may_answer (request.Read handle offset len) y ≡ true → Fits (running.Reading place slot file len) (Some y)
+    → may_answer (request.Read handle offset len) y ≡ true → IsFittingReply (running.Reading place slot file len)
+    (Some y)
 read_fits handle offset len place slot file (reply.Content bytes) may = within len bytes may
 read_fits handle offset len place slot file other may = tt
 
 pub gathering_fits : (handle : List ℕ) (offset len place slot : ℕ) (file : FileAt) (got : List ℕ) (left : ℕ) (y : Reply)
-    → may_answer (request.Read handle offset len) y ≡ true → Fits (running.Gathering place slot file got left len)
+    → may_answer (request.Read handle offset len) y ≡ true → IsFittingReply
+    (running.Gathering place slot file got left len)
     (Some y)
 gathering_fits handle offset len place slot file got left (reply.Content bytes) may = within len bytes may
 gathering_fits handle offset len place slot file got left other may = tt
@@ -96,13 +103,16 @@ gathering_fits handle offset len place slot file got left other may = tt
 
 -- the OPEN of a path
 pub open_asks : (place slot : ℕ) (flags : OpenFlags) (path : List ℕ) (site : Site) (r : Request) → r
-    ≡ open_request flags path → AwaitsAsked None place site (step.Ask (asked.Plain r) (running.Opening place slot flags))
-open_asks place slot flags path site r is = subst (λ (x : Request). AwaitsAsked None place site (step.Ask (asked.Plain x) (running.Opening place slot flags))) (sym is)
+    ≡ open_request flags path → AwaitsAsked None place site (step.Ask (asked.Plain r)
+    (running.Opening place slot flags))
+open_asks place slot flags path site r is = subst (λ (x : Request). AwaitsAsked None place site
+    (step.Ask (asked.Plain x) (running.Opening place slot flags))) (sym is)
     (record { call = tt; named = tt; awaits = refl; keeps = λ grant e. absurd cc; fits = λ answers y may. tt })
 
 -- the READ of one `read`
 pub read_asks : (place slot len : ℕ) (file : FileAt) (site : Site) → slot_at site slot ≡ File file
-    → AwaitsAsked None place site (step.Ask (asked.Read file.grant file.offset len) (running.Reading place slot file len))
+    → AwaitsAsked None place site (step.Ask (asked.Read file.grant file.offset len)
+    (running.Reading place slot file len))
 read_asks place slot len file site at = record {
   call = tt;
   named = inl (file_held site slot file at);
@@ -114,10 +124,17 @@ read_asks place slot len file site at = record {
 -- the CLOSE of a grant that some slot had
 pub close_asks : (place grant : ℕ) (site : Site) → has_grant site grant ≡ true
     → AwaitsAsked None place site (step.Ask (asked.Close grant) (running.Ending place by.Status))
-close_asks place grant site has = record { call = tt; named = inl has; awaits = refl; keeps = λ grant e. absurd cc; fits = λ answers y may. tt }
+close_asks place grant site has = record {
+  call = tt;
+  named = inl has;
+  awaits = refl;
+  keeps = λ grant e. absurd cc;
+  fits = λ answers y may. tt;
+}
 
 -- what may go on with a call may begin one
-pub asks_first : (opened : Option ℕ) (place : ℕ) (site : Site) (n : Next) → AsksOn opened place site n → AwaitsAsked opened place site n
+pub asks_first : (opened : Option ℕ) (place : ℕ) (site : Site) (n : Next) → AsksOn opened place site n
+    → AwaitsAsked opened place site n
 asks_first opened place site (step.Ask a r) asks = asks.0
 asks_first opened place site (step.Wait r) asks = asks
 asks_first opened place site (step.Done o) asks = tt
@@ -131,8 +148,10 @@ asks_first_if_ok opened place site (Err e) asks = asks
 -- ---- how a call goes on
 
 -- a further READ of a `read_all`
-pub read_on : (opened : Option ℕ) (place slot left len : ℕ) (file : FileAt) (got : List ℕ) (site : Site) → HasGrant site opened file.grant
-    → AsksOn opened place site (step.Ask (asked.Read file.grant file.offset len) (running.Gathering place slot file got left len))
+pub read_on : (opened : Option ℕ) (place slot left len : ℕ) (file : FileAt) (got : List ℕ) (site : Site)
+    → HasGrant site opened file.grant
+    → AsksOn opened place site (step.Ask (asked.Read file.grant file.offset len)
+    (running.Gathering place slot file got left len))
 read_on opened place slot left len file got site has = (
   record {
     call = tt;
@@ -146,8 +165,10 @@ read_on opened place slot left len file got site has = (
 )
 
 -- the WRITE of a further part
-pub write_on : (opened : Option ℕ) (place : ℕ) (slot : Option ℕ) (file : FileAt) (done : ℕ) (content : List ℕ) (site : Site) → HasFile site opened slot file
-    → AsksOn opened place site (step.Ask (asked.Write file.grant file.offset content) (running.Writing place slot file done))
+pub write_on : (opened : Option ℕ) (place : ℕ) (slot : Option ℕ) (file : FileAt) (done : ℕ) (content : List ℕ)
+    (site : Site) → HasFile site opened slot file
+    → AsksOn opened place site (step.Ask (asked.Write file.grant file.offset content)
+    (running.Writing place slot file done))
 write_on opened place None file done content site has = (
   record
       { call = tt; named = inr has; awaits = refl; keeps = λ grant e. has ∙ e; fits = λ answers y may. tt },
@@ -165,4 +186,14 @@ kept_has (Some slot) file offset site awaited done kept = inl (file_held site sl
 -- a further READDIR
 pub list_on : (place grant : ℕ) (got : List NameEntry) (bound : ℕ) (site : Site)
     → AsksOn (Some grant) place site (step.Ask (asked.Readdir grant) (running.Listing place grant got bound))
-list_on place grant got bound site = (record { call = tt; named = inr refl; awaits = refl; keeps = λ g e. e; fits = λ answers y may. tt }, tt)
+list_on place grant got bound site = (
+  record {
+    call = tt;
+    named = inr refl;
+    awaits = refl;
+    keeps = λ g e. e;
+    fits =
+        λ answers y may. tt;
+  },
+  tt,
+)

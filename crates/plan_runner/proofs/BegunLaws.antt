@@ -6,16 +6,17 @@ use Rattle.sftp_model.specs.declared.slot.Facts.{Facts}
 use Rattle.sftp_model.specs.declared.slot.Site.{Site}
 use Rattle.plan_model.specs.declared.call.Call.{Call}
 use Rattle.plan_runner.specs.Asking.{AwaitsAsked}
-use Rattle.plan_runner.specs.Begun.{Begun}
+use Rattle.plan_runner.specs.Begun.{StartsAsPlanned}
 use Rattle.plan_runner.specs.Cancelling.{BeginsLeaving}
 use Rattle.plan_runner.specs.Runners.{BeginsByPlan, bytes_of}
-use Rattle.plan_runner.specs.Pending.{Pends, pends_idle}
-use Rattle.plan_runner.specs.Sound.{Sounds}
+use Rattle.plan_runner.specs.Pending.{PendsAfter, pends_idle}
+use Rattle.plan_runner.specs.Sound.{KeepsRunningSound}
 use Rattle.plan_runner.specs.declared.next.Next.{Next}
 
 pub begun_if : (c : Call) (place : ℕ) (old new : Site) (facts : Facts) (n : Result Next OutOfMemory)
     → IfOk n (BeginsByPlan c place old new facts) → IfOk n (BeginsLeaving c place old new facts)
-    → IfOk n (Sounds (bytes_of c) facts old new) → IfOk n (Pends (pends_idle old) place new)
-    → IfOk n (AwaitsAsked None place old) → IfOk n (Begun c place old new facts)
+    → IfOk n (KeepsRunningSound (bytes_of c) facts old new) → IfOk n (PendsAfter (pends_idle old) place new)
+    → IfOk n (AwaitsAsked None place old) → IfOk n (StartsAsPlanned c place old new facts)
 begun_if c place old new facts (Err e) goes left sound pends asks = goes
-begun_if c place old new facts (Ok n) goes left sound pends asks = record { goes = goes; left = left; sound = sound; pends = pends; asks = asks }
+begun_if c place old new facts (Ok n) goes left sound pends asks =
+    record { goes = goes; left = left; sound = sound; pends = pends; asks = asks }

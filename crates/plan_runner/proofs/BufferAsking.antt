@@ -22,10 +22,10 @@ use Rattle.plan_runner.specs.declared.next.Next.{Next}
 use Rattle.plan_runner.specs.declared.next.Next.TheVariants as step
 use Rattle.plan_runner.specs.declared.next.Running.{Running}
 use Rattle.plan_runner.specs.declared.next.Running.TheVariants as running
-use Rattle.plan_runner.specs.Buffers.{flushing, must_wait, oldest, oldest_in, reading_in, running_after, with_reading}
+use Rattle.plan_runner.specs.Buffers.{flush_oldest, must_wait, oldest, oldest_in, reading_in, running_after, with_reading}
 use Rattle.plan_runner.specs.Deferrals.{IsDeferral, IsWriteOf, settled_next}
-use Rattle.plan_runner.specs.Sound.{Fits}
-use Rattle.plan_runner.specs.Asking.{AsksOrDefers, BeginsAsking, GoesOnAsking, IsNoClose, Looks}
+use Rattle.plan_runner.specs.Sound.{IsFittingReply}
+use Rattle.plan_runner.specs.Asking.{AsksOrDefers, BeginsAsking, GoesOnAsking, IsNoClose, LooksForReply}
 use Rattle.plan_runner.proofs.Asking.{buffered_held, within}
 use Rattle.plan_runner.proofs.Filling.{reading_is}
 use Rattle.plan_runner.proofs.OwnAsking.{same_place}
@@ -35,7 +35,8 @@ use Rattle.plan_runner.proofs.SlotSets.{set_at}
 
 -- a DATA that may answer it ends at the greatest offset at last
 filling_fits : (handle : List ℕ) (offset len slot n : ℕ) (own : Bool) (y : Reply) → overflows offset len ≡ false
-    → may_answer (request.Read handle offset len) y ≡ true → Fits (running.FillingBuffer slot n offset own) (Some y)
+    → may_answer (request.Read handle offset len) y ≡ true → IsFittingReply (running.FillingBuffer slot n offset own)
+    (Some y)
 filling_fits handle offset len slot n own (reply.Content bytes) room may =
     (let most : length bytes ≤ len = within len bytes may in let ends : offset + len < 2 ^ 64 = grind (arith, nat_tests)
     in omega (arith, most, ends))
@@ -45,7 +46,8 @@ filling_fits handle offset len slot n own other room may = tt
 pub filling_asks : (place slot n offset len : ℕ) (file : FileAt) (buffer : Buffer) (old new : Site)
     → slot < length old.slots → slot_at old slot ≡ Buffered file buffer → new
     ≡ with_reading old slot (slot_at old slot) (Some place) → overflows offset len ≡ false
-    → BeginsAsking None place old new (step.Ask (asked.Read file.grant offset len) (running.FillingBuffer slot n offset true))
+    → BeginsAsking None place old new (step.Ask (asked.Read file.grant offset len)
+    (running.FillingBuffer slot n offset true))
 filling_asks place slot n offset len file buffer old new lt here is room = record {
   call = tt;
   named = inl (buffered_held old slot file buffer here);
@@ -62,7 +64,8 @@ filling_asks place slot n offset len file buffer old new lt here is room = recor
     reads = Buffered file (record buffer { reading = Some place })
 
     there : slot_at new slot ≡ reads
-    there = ap (λ (s : Site). slot_at s slot) (reading_is slot (Some place) file buffer old new here is) ∙ set_at old slot reads lt
+    there = ap (λ (s : Site). slot_at s slot) (reading_is slot (Some place) file buffer old new here is)
+        ∙ set_at old slot reads lt
 
 -- or the READ is under way
 pub filling_waits : (place slot n offset : ℕ) (file : FileAt) (buffer : Buffer) (site : Site) → slot_at site slot
@@ -112,8 +115,11 @@ pub settled_goes_on : (place slot : ℕ) (start : Option ℕ) (file : FileAt) (b
 settled_goes_on place slot start file buffer bytes old new facts (deferral.Refused o) n has is to =
     subst (λ (m : Next). GoesOnAsking None place [] old new m) (sym to) tt
 settled_goes_on place slot start file buffer bytes old new facts (deferral.Asked a r held) n has is to =
-    subst (λ (m : Next). GoesOnAsking None place [] old new m) (sym to)
-    (subst (λ (x : Running). AsksOrDefers None place [] old new a x) (sym is.2) (write_defers place slot start _ file old new a has is.4), no_close file a is.4)
+    subst (λ (m : Next). GoesOnAsking None place [] old new m) (sym to) (
+      subst (λ (x : Running). AsksOrDefers None place [] old new a x) (sym is.2)
+          (write_defers place slot start _ file old new a has is.4),
+      no_close file a is.4,
+    )
 
 pub settled_begins : (place slot : ℕ) (start : Option ℕ) (file : FileAt) (buffer : Buffer) (bytes : List ℕ)
     (old new : Site) (facts : Facts) (d : Deferral) (n : Next) → has_grant old file.grant ≡ true
@@ -122,7 +128,8 @@ settled_begins place slot start file buffer bytes old new facts (deferral.Refuse
     subst (λ (m : Next). BeginsAsking None place old new m) (sym to) tt
 settled_begins place slot start file buffer bytes old new facts (deferral.Asked a r held) n has is to =
     subst (λ (m : Next). BeginsAsking None place old new m) (sym to)
-    (subst (λ (x : Running). AsksOrDefers None place [] old new a x) (sym is.2) (write_defers place slot start _ file old new a has is.4))
+    (subst (λ (x : Running). AsksOrDefers None place [] old new a x) (sym is.2)
+    (write_defers place slot start _ file old new a has is.4))
 
 -- ---- a status that is awaited
 
@@ -133,7 +140,7 @@ waited limit (write ∷ writes) full = refl
 -- at a full window
 pub room_looks : (slot limit : ℕ) (start : Option ℕ) (file : FileAt) (buffer : Buffer) (site : Site) → slot_at site slot
     ≡ Buffered file buffer → must_wait limit buffer.deferred ≡ true
-    → Looks None [] site (running.AwaitingRoom slot start)
+    → LooksForReply None [] site (running.AwaitingRoom slot start)
 room_looks slot limit start file buffer site here full = record {
   deferred = refl;
   some = ap (λ (x : Slot). is_some (oldest_in x)) here ∙ waited limit buffer.deferred full;
@@ -145,7 +152,7 @@ room_looks slot limit start file buffer site here full = record {
 -- and by a flush
 flush_looks : (slot : ℕ) (file : FileAt) (buffer : Buffer) (site : Site) (write : ℕ × ℕ) (writes : List (ℕ × ℕ))
     → slot_at site slot ≡ Buffered file buffer → buffer.deferred ≡ write ∷ writes
-    → Looks None [] site (running.Flushing slot)
+    → LooksForReply None [] site (running.Flushing slot)
 flush_looks slot file buffer site write writes here is = record {
   deferred = refl;
   some = ap (λ (x : Slot). is_some (oldest_in x)) here
@@ -155,17 +162,19 @@ flush_looks slot file buffer site write writes here is = record {
 }
 
 pub flush_begins : (place slot : ℕ) (file : FileAt) (buffer : Buffer) (site : Site) (n : Next) (writes : List (ℕ × ℕ))
-    → slot_at site slot ≡ Buffered file buffer → buffer.deferred ≡ writes → n ≡ flushing slot writes
+    → slot_at site slot ≡ Buffered file buffer → buffer.deferred ≡ writes → n ≡ flush_oldest slot writes
     → BeginsAsking None place site site n
-flush_begins place slot file buffer site n [] here is to = subst (λ (m : Next). BeginsAsking None place site site m) (sym to) tt
+flush_begins place slot file buffer site n [] here is to = subst (λ (m : Next). BeginsAsking None place site site m)
+    (sym to) tt
 flush_begins place slot file buffer site n (write ∷ writes) here is to =
     subst (λ (m : Next). BeginsAsking None place site site m) (sym to)
     (flush_looks slot file buffer site write writes here is, refl)
 
 pub flush_goes_on : (place slot : ℕ) (file : FileAt) (buffer : Buffer) (old site : Site) (n : Next)
     (writes : List (ℕ × ℕ)) → slot_at site slot ≡ Buffered file buffer → buffer.deferred ≡ writes → n
-    ≡ flushing slot writes → GoesOnAsking None place [] old site n
-flush_goes_on place slot file buffer old site n [] here is to = subst (λ (m : Next). GoesOnAsking None place [] old site m) (sym to) tt
+    ≡ flush_oldest slot writes → GoesOnAsking None place [] old site n
+flush_goes_on place slot file buffer old site n [] here is to =
+    subst (λ (m : Next). GoesOnAsking None place [] old site m) (sym to) tt
 flush_goes_on place slot file buffer old site n (write ∷ writes) here is to =
     subst (λ (m : Next). GoesOnAsking None place [] old site m) (sym to)
     (flush_looks slot file buffer site write writes here is, inl (λ y. tt))

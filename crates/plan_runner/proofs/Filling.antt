@@ -46,7 +46,7 @@ use Rattle.sftp_model.specs.declared.slot.Site.{Site}
 use Rattle.sftp_model.specs.declared.slot.Slot.{Slot}
 use Rattle.sftp_model.specs.declared.slot.Slot.TheVariants.{Empty, Buffered}
 use Rattle.sftp_model.specs.Slots.{slot_at, with_slot}
-use Rattle.plan_model.specs.Moves.{Answers, Own, ask_read, further, handle_of, left_on_buffered, on_buffered, on_content, once_answered, overflows, refuses}
+use Rattle.plan_model.specs.Moves.{Answers, Own, ask_read, further, handle_of, left_on_buffered, on_buffered, on_content, once_answered, overflows, refuse_locally}
 use Rattle.plan_model.specs.BufferPlans.{buf_read_file_next, buf_read_next, fill_next, from_buffer, was_filled}
 use Rattle.plan_runner.specs.declared.next.Asked.TheVariants as asked
 use Rattle.plan_runner.specs.declared.next.Next.{Next}
@@ -67,7 +67,8 @@ skip b x y is = rw is refl
 -- what the reply makes of it, by how the slot is set
 abbrev filled : ℕ → FileAt → Buffer → (Slot → Site) → Reply → Move
 filled n file buffer put r =
-    on_content r (put (Buffered file (record buffer { reading = None }))) (Done outcome.End (put (Buffered file (record buffer { reading = None }))))
+    on_content r (put (Buffered file (record buffer { reading = None })))
+    (Done outcome.End (put (Buffered file (record buffer { reading = None }))))
     (λ bytes. Done (outcome.Bytes (take n bytes)) (put (Buffered (further file (length (take n bytes)))
     (record buffer { bytes = drop n bytes; reading = None }))))
 
@@ -80,7 +81,8 @@ reading_is slot reading file buffer site new here is = is ∙ ap (λ (x : Slot).
 pub fill_asks : (slot n place offset len : ℕ) (file : FileAt) (buffer : Buffer) (site new : Site) (facts : Facts)
     → slot < length site.slots → slot_at site slot ≡ Buffered file buffer → buffer.reading ≡ None → new
     ≡ with_reading site slot (slot_at site slot) (Some place)
-    → not file.readable ≡ false → overflows file.offset len ≡ false → len ≡ min (max n buffer.len) facts.read_len → offset ≡ file.offset
+    → not file.readable ≡ false → overflows file.offset len ≡ false → len ≡ min (max n buffer.len) facts.read_len
+    → offset ≡ file.offset
     → RunsByPlan (λ own answers. on_buffered (slot_at site slot) site
     (λ f b. fill_next slot n f b site facts b.reading own answers)) place [] new facts
     (step.Ask (asked.Read file.grant offset len) (running.FillingBuffer slot n offset true))
@@ -90,13 +92,15 @@ fill_asks slot n place offset len file buffer site new facts lt here none is rea
     first : (answers : Answers) → on_buffered (slot_at site slot) site
         (λ f b. fill_next slot n f b site facts b.reading [] answers)
         ≡ Ask (request.Read (handle_of (answers file.grant)) offset len)
-    first answers = ap (λ (x : Slot). on_buffered x site (λ f b. fill_next slot n f b site facts b.reading [] answers)) here
+    first answers = ap (λ (x : Slot). on_buffered x site (λ f b. fill_next slot n f b site facts b.reading [] answers))
+        here
         ∙ (ap (λ (o : Option ℕ). fill_next slot n file buffer site facts o [] answers) none
         ∙ (ap (λ (l : ℕ). ask_read file l site answers) (sym is_len)
-        ∙ (skip (not file.readable) (refuses kind.NotReadable site)
-        (if overflows file.offset len then refuses kind.OffsetOverflow site else
+        ∙ (skip (not file.readable) (refuse_locally kind.NotReadable site)
+        (if overflows file.offset len then refuse_locally kind.OffsetOverflow site else
         Ask (request.Read (handle_of (answers file.grant)) file.offset len)) readable
-        ∙ (skip (overflows file.offset len) (refuses kind.OffsetOverflow site) (Ask (request.Read (handle_of (answers file.grant)) file.offset len)) room
+        ∙ (skip (overflows file.offset len) (refuse_locally kind.OffsetOverflow site)
+        (Ask (request.Read (handle_of (answers file.grant)) file.offset len)) room
         ∙ ap (λ (o : ℕ). Ask (request.Read (handle_of (answers file.grant)) o len)) (sym is_offset)))))
 
     reads : Slot
@@ -123,7 +127,8 @@ fill_asks slot n place offset len file buffer site new facts lt here none is rea
         ∙ (ap (λ (o : Option ℕ). fill_next slot n file buffer site facts o
         ((place, request.Read (handle_of (answers file.grant)) offset len) ∷ later) answers) none
         ∙ (ap (λ (put : Slot → Site). once_answered place (answers place) (filled n file buffer put)) same
-        ∙ sym (ap (λ (x : Slot). once (reading_in x) answers (λ r. on_buffered x new (λ f b. with_reply new r (was_filled slot n f b new)))) there)))
+        ∙ sym (ap (λ (x : Slot). once (reading_in x) answers (λ r. on_buffered x new
+        (λ f b. with_reply new r (was_filled slot n f b new)))) there)))
 
 -- the READ under way is awaited
 pub fill_waits : (slot n place offset p : ℕ) (file : FileAt) (buffer : Buffer) (site : Site) (facts : Facts)
@@ -135,7 +140,8 @@ fill_waits slot n place offset p file buffer site facts here some = λ answers l
     ap (λ (x : Slot). on_buffered x site (λ f b. fill_next slot n f b site facts b.reading later answers)) here
     ∙ (ap (λ (o : Option ℕ). fill_next slot n file buffer site facts o later answers) some
     ∙ (sym (ap (λ (o : Option ℕ). once o answers (λ r. with_reply site r (was_filled slot n file buffer site))) some)
-    ∙ sym (ap (λ (x : Slot). once (reading_in x) answers (λ r. on_buffered x site (λ f b. with_reply site r (was_filled slot n f b site)))) here)))
+    ∙ sym (ap (λ (x : Slot). once (reading_in x) answers (λ r. on_buffered x site
+    (λ f b. with_reply site r (was_filled slot n f b site)))) here)))
 
 -- the tests before
 pub read_goes : (slot n place : ℕ) (file : FileAt) (buffer : Buffer) (site new : Site) (facts : Facts) (next : Next)
@@ -149,12 +155,14 @@ read_goes slot n place file buffer site new facts next here readable some empty 
     (λ f b. fill_next slot n f b site facts b.reading own answers)) (buf_read_next slot n site facts) place [] new
     facts next
     (λ own answers. ap (λ (x : Slot). on_buffered x site (buf_read_file_next slot n site facts own answers)) here
-    ∙ (skip (not file.readable) (refuses kind.NotReadable site)
+    ∙ (skip (not file.readable) (refuse_locally kind.NotReadable site)
     (if n == 0 then Done (outcome.Bytes []) site else from_buffer slot n file buffer site facts buffer.bytes own
     answers) readable
-    ∙ (skip (n == 0) (Done (outcome.Bytes []) site) (from_buffer slot n file buffer site facts buffer.bytes own answers) some
+    ∙ (skip (n == 0) (Done (outcome.Bytes []) site) (from_buffer slot n file buffer site facts buffer.bytes own answers)
+    some
     ∙ (none_there buffer.bytes empty own answers
-    ∙ sym (ap (λ (x : Slot). on_buffered x site (λ f b. fill_next slot n f b site facts b.reading own answers)) here))))) g
+    ∙ sym (ap (λ (x : Slot). on_buffered x site (λ f b. fill_next slot n f b site facts b.reading own answers))
+    here))))) g
   where
     none_there : (bytes : List ℕ) → (length bytes == 0) ≡ true → (own : Own) (answers : Answers)
         → from_buffer slot n file buffer site facts bytes own answers
@@ -164,7 +172,8 @@ read_goes slot n place file buffer site new facts next here readable some empty 
 
 pub fill_leaves : (slot place : ℕ) (file : FileAt) (buffer : Buffer) (site new : Site) → slot_at site slot
     ≡ Buffered file buffer → new ≡ with_reading site slot (slot_at site slot) (Some place)
-    → left_on_buffered (slot_at site slot) site (λ f b. with_slot site slot (Buffered f (record b { reading = Some place }))) ≡ new
+    → left_on_buffered (slot_at site slot) site (λ f b. with_slot site slot
+    (Buffered f (record b { reading = Some place }))) ≡ new
 fill_leaves slot place file buffer site new here is =
     ap (λ (x : Slot). left_on_buffered x site (λ f b. with_slot site slot
     (Buffered f (record b { reading = Some place })))) here ∙ sym
@@ -176,15 +185,18 @@ pub refilled_keeps : (facts : Facts) (site new : Site) (slot : ℕ) (file moved 
     (bytes : List ℕ) (reading : Option ℕ) → slot_at site slot ≡ Buffered file buffer
     → new ≡ with_slot site slot (Buffered moved (record buffer { bytes = bytes; reading = reading }))
     → (IsWithin facts (Buffered file buffer) → length bytes ≤ (2 ^ 64 - 1) - moved.offset) → KeepsSite facts site new
-refilled_keeps facts site new slot file moved buffer bytes reading here is ends = subst (λ (s : Site). KeepsSite facts site s) (sym is) (record {
-  count = set_count site slot set;
-  limit = λ h. (keeps_set facts site (with_slot site slot set) slot set refl (fits (subst (λ (x : Slot). IsWithin facts x) here (h slot)))).limit h;
-})
+refilled_keeps facts site new slot file moved buffer bytes reading here is ends =
+    subst (λ (s : Site). KeepsSite facts site s) (sym is) (record {
+      count = set_count site slot set;
+      limit = λ h. (keeps_set facts site (with_slot site slot set) slot set refl
+          (fits (subst (λ (x : Slot). IsWithin facts x) here (h slot)))).limit h;
+    })
   where
     set : Slot
     set = Buffered moved (record buffer { bytes = bytes; reading = reading })
 
-    fits : IsWithin facts (Buffered file buffer) → IsWithin facts (Buffered moved (record buffer { bytes = bytes; reading = reading }))
+    fits : IsWithin facts (Buffered file buffer) → IsWithin facts
+        (Buffered moved (record buffer { bytes = bytes; reading = reading }))
     fits was = (was.0, ends was)
 
 pub refilled_times : (q : ℕ) (site new : Site) (slot : ℕ) (file moved : FileAt) (buffer : Buffer) (bytes : List ℕ)
@@ -196,7 +208,8 @@ refilled_times q site new slot file moved buffer bytes reading lt here is =
     (record buffer { bytes = bytes; reading = reading }))) + slot_times q (slice_index_or site.slots slot Empty)
     ≡ slots_times q site.slots + (maybe reading q + writes_times q buffer.deferred)
     = set_times q site.slots slot (Buffered moved (record buffer { bytes = bytes; reading = reading })) lt in
-    let was : slot_times q (slice_index_or site.slots slot Empty) ≡ maybe buffer.reading q + writes_times q buffer.deferred = ap (slot_times q) here in
+    let was : slot_times q (slice_index_or site.slots slot Empty)
+    ≡ maybe buffer.reading q + writes_times q buffer.deferred = ap (slot_times q) here in
     let same : slots_times q new.slots ≡ slots_times q (slice_set site.slots slot
     (Buffered moved (record buffer { bytes = bytes; reading = reading }))) =
     ap (λ (s : Site). slots_times q s.slots) is in
@@ -232,7 +245,8 @@ reading_gone site new slot file buffer lt here is = reading_over site new slot f
 
 pub kept_times : (q : ℕ) (site new : Site) (slot : ℕ) (file moved : FileAt) (buffer : Buffer) (bytes : List ℕ)
     → slot < length site.slots → slot_at site slot ≡ Buffered file buffer
-    → new ≡ with_slot site slot (Buffered moved (record buffer { bytes = bytes })) → slots_times q new.slots ≤ slots_times q site.slots
+    → new ≡ with_slot site slot (Buffered moved (record buffer { bytes = bytes }))
+    → slots_times q new.slots ≤ slots_times q site.slots
 kept_times q site new slot file moved buffer bytes lt here is =
     (let same : slots_times q new.slots + maybe buffer.reading q ≡ slots_times q site.slots + maybe buffer.reading q =
     refilled_times q site new slot file moved buffer bytes buffer.reading lt here is in omega (arith, same))

@@ -10,7 +10,7 @@ use Rattle.plan_window.specs.Windows.{first_of}
 use Rattle.plan_window.proofs.PlanLaws.{after_reply, while_missing}
 use Rattle.plan_runner.specs.declared.next.Running.{Running}
 use Rattle.plan_runner.specs.declared.next.Running.TheVariants as running
-use Rattle.plan_runner.specs.Runners.{after, awaited, idle, once, place_in, residual, waits}
+use Rattle.plan_runner.specs.Runners.{after, awaited_place, idle, once, place_in, residual, waits}
 
 -- ---- by a place
 
@@ -33,23 +33,30 @@ read_here (Some r) p e = (r, refl, cc)
 -- ---- by the call
 
 pub residual_missing : (r : Running) (bytes : List ℕ) (site : Site) (facts : Facts) (later : Own) (answers : Answers)
-    (p : ℕ) → awaited r site ≡ Some p → answers p ≡ None
+    (p : ℕ) → awaited_place r site ≡ Some p → answers p ≡ None
     → residual r bytes site facts later answers ≡ idle r bytes site facts later answers
 residual_missing (running.ReadingWhole grant bound window) bytes site facts later answers p at missing =
-    (let f : (r : ReadAt) × (first_of window.waiting ≡ Some r) × (r.place ≡ p) = read_here (first_of window.waiting) p at in
-    while_missing (handle_of (answers grant)) (Some bound) window site facts later answers f.0 f.1 (ap answers f.2 ∙ missing))
+    (let f : (r : ReadAt) × (first_of window.waiting ≡ Some r) × (r.place ≡ p) =
+    read_here (first_of window.waiting) p at in
+    while_missing (handle_of (answers grant)) (Some bound) window site facts later answers f.0 f.1
+    (ap answers f.2 ∙ missing))
 residual_missing r bytes site facts later answers p at missing =
-    once_missing (awaited r site) p answers (λ y. after r bytes site facts y later answers) site at missing
+    once_missing (awaited_place r site) p answers (λ y. after r bytes site facts y later answers) site at missing
 
 pub residual_came : (r : Running) (bytes : List ℕ) (site : Site) (facts : Facts) (later : Own) (answers : Answers)
-    (p : ℕ) (y : Reply) → awaited r site ≡ Some p → answers p ≡ Some y
+    (p : ℕ) (y : Reply) → awaited_place r site ≡ Some p → answers p ≡ Some y
     → residual r bytes site facts later answers ≡ after r bytes site facts (Some y) later answers
 residual_came (running.ReadingWhole grant bound window) bytes site facts later answers p y at came =
-    (let f : (r : ReadAt) × (first_of window.waiting ≡ Some r) × (r.place ≡ p) = read_here (first_of window.waiting) p at in
-    after_reply (handle_of (answers grant)) (Some bound) window site facts later answers f.0 y f.1 (ap answers f.2 ∙ came))
-residual_came r bytes site facts later answers p y at came = once_came (awaited r site) p answers (λ x. after r bytes site facts x later answers) y at came
+    (let f : (r : ReadAt) × (first_of window.waiting ≡ Some r) × (r.place ≡ p) =
+    read_here (first_of window.waiting) p at in
+    after_reply (handle_of (answers grant)) (Some bound) window site facts later answers f.0 y f.1
+    (ap answers f.2 ∙ came))
+residual_came r bytes site facts later answers p y at came =
+    once_came (awaited_place r site) p answers (λ x. after r bytes site facts x later answers) y at came
 
-pub residual_none : (r : Running) (bytes : List ℕ) (site : Site) (facts : Facts) (later : Own) (answers : Answers) → awaited r site ≡ None
+pub residual_none : (r : Running) (bytes : List ℕ) (site : Site) (facts : Facts) (later : Own) (answers : Answers)
+    → awaited_place r site ≡ None
     → residual r bytes site facts later answers ≡ after r bytes site facts None later answers
 residual_none (running.ReadingWhole grant bound window) bytes site facts later answers none = refl
-residual_none r bytes site facts later answers none = once_none (awaited r site) answers (λ y. after r bytes site facts y later answers) none
+residual_none r bytes site facts later answers none = once_none (awaited_place r site) answers
+    (λ y. after r bytes site facts y later answers) none

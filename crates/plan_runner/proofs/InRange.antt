@@ -43,10 +43,10 @@ use Rattle.sftp_model.specs.declared.slot.Slot.TheVariants.{Empty, File, Buffere
 use Rattle.sftp_model.specs.Answers.{is_end_of_file}
 use Rattle.sftp_model.specs.Slots.{slot_at, with_slot}
 use Rattle.plan_model.specs.BufferPlans.{ask_deferred, buffered_rest, flush_next, is_full, taken_out, with_capacity, with_deferred, without_reading}
-use Rattle.plan_model.specs.FilePlans.{opened, opened_file}
+use Rattle.plan_model.specs.FilePlans.{opened_move, opened_file}
 use Rattle.plan_model.specs.GoodMoves.{ReadsWithin}
-use Rattle.plan_model.specs.Moves.{Answers, ask_read, ask_write, further, handle_of, on_buffered, on_content, on_handle, on_status, overflows, refused, refuses}
-use Rattle.plan_model.specs.TransferPlans.{Keeping, missing_next, part_len, rest_next}
+use Rattle.plan_model.specs.Moves.{Answers, ask_read, ask_write, further, handle_of, on_buffered, on_content, on_handle, on_status, overflows, refusal_move, refuse_locally}
+use Rattle.plan_model.specs.TransferPlans.{FileKeeper, missing_next, part_len, rest_next}
 use Rattle.plan_model.specs.WholePlans.{entries_next, nowhere, on_names, to_replace}
 use Rattle.plan_runner.specs.declared.next.EndsBy.{EndsBy}
 use Rattle.plan_runner.specs.declared.next.EndsBy.TheVariants as by
@@ -58,22 +58,26 @@ use Rattle.plan_runner.specs.Sound.{AsksWithin}
 
 -- ---- moves
 
-pub either_within : (facts : Facts) (b : Bool) (x y : Move) → ReadsWithin facts x → ReadsWithin facts y → ReadsWithin facts (if b then x else y)
+pub either_within : (facts : Facts) (b : Bool) (x y : Move) → ReadsWithin facts x → ReadsWithin facts y
+    → ReadsWithin facts (if b then x else y)
 either_within facts true x y h k = h
 either_within facts false x y h k = k
 
-pub refused_within : (facts : Facts) (y : Reply) (site : Site) → ReadsWithin facts (refused y site)
+pub refused_within : (facts : Facts) (y : Reply) (site : Site) → ReadsWithin facts (refusal_move y site)
 refused_within facts (reply.Status code message language) site = tt
 refused_within facts other site = tt
 
-status_within : (facts : Facts) (y : Reply) (site : Site) (go : Move) → ReadsWithin facts go → ReadsWithin facts (on_status y site go)
-status_within facts (reply.Status code message language) site go h = either_within facts (code == 0) go (refused (reply.Status code message language) site) h tt
+status_within : (facts : Facts) (y : Reply) (site : Site) (go : Move) → ReadsWithin facts go
+    → ReadsWithin facts (on_status y site go)
+status_within facts (reply.Status code message language) site go h =
+    either_within facts (code == 0) go (refusal_move (reply.Status code message language) site) h tt
 status_within facts other site go h = tt
 
 content_within : (facts : Facts) (y : Reply) (site : Site) (ended : Move) (go : List ℕ → Move) → ReadsWithin facts ended
     → ((bytes : List ℕ) → ReadsWithin facts (go bytes)) → ReadsWithin facts (on_content y site ended go)
 content_within facts (reply.Content bytes) site ended go h k = k bytes
-content_within facts other site ended go h k = either_within facts (is_end_of_file other) ended (refused other site) h (refused_within facts other site)
+content_within facts other site ended go h k = either_within facts (is_end_of_file other) ended
+    (refusal_move other site) h (refused_within facts other site)
 
 pub handle_within : (facts : Facts) (y : Reply) (site : Site) (go : List ℕ → Move)
     → ((handle : List ℕ) → ReadsWithin facts (go handle)) → ReadsWithin facts (on_handle y site go)
@@ -85,7 +89,8 @@ names_within : (facts : Facts) (y : Reply) (site : Site) (ended : Move) (go : Li
     → ReadsWithin facts (on_names y site ended go)
 names_within facts (reply.Names []) site ended go h k = h
 names_within facts (reply.Names (entry ∷ entries)) site ended go h k = k (entry ∷ entries)
-names_within facts other site ended go h k = either_within facts (is_end_of_file other) ended (refused other site) h (refused_within facts other site)
+names_within facts other site ended go h k = either_within facts (is_end_of_file other) ended (refusal_move other site)
+    h (refused_within facts other site)
 
 ended_within : (facts : Facts) (ends : EndsBy) (site : Site) (y : Reply) → ReadsWithin facts (ended_by ends site y)
 ended_within facts by.Status site y = status_within facts y site (Done outcome.Done site) tt
@@ -94,23 +99,25 @@ ended_within facts by.Attributes site other = refused_within facts other site
 ended_within facts by.FirstName site (reply.Names (entry ∷ entries)) = tt
 ended_within facts by.FirstName site other = refused_within facts other site
 
-write_within : (facts : Facts) (file : FileAt) (bytes : List ℕ) (site : Site) (answers : Answers) → ReadsWithin facts (ask_write file bytes site answers)
+write_within : (facts : Facts) (file : FileAt) (bytes : List ℕ) (site : Site) (answers : Answers)
+    → ReadsWithin facts (ask_write file bytes site answers)
 write_within facts file bytes site answers =
-    either_within facts (not file.writable) (refuses kind.NotWritable site) _ tt
-    (either_within facts (overflows file.offset (length bytes)) (refuses kind.OffsetOverflow site)
+    either_within facts (not file.writable) (refuse_locally kind.NotWritable site) _ tt
+    (either_within facts (overflows file.offset (length bytes)) (refuse_locally kind.OffsetOverflow site)
     (Ask (request.Write (handle_of (answers file.grant)) file.offset bytes)) tt tt)
 
 read_within : (facts : Facts) (file : FileAt) (len : ℕ) (site : Site) (answers : Answers) → len ≤ facts.read_len
     → ReadsWithin facts (ask_read file len site answers)
 read_within facts file len site answers most =
-    either_within facts (not file.readable) (refuses kind.NotReadable site)
-    (if overflows file.offset len then refuses kind.OffsetOverflow site else read) tt
+    either_within facts (not file.readable) (refuse_locally kind.NotReadable site)
+    (if overflows file.offset len then refuse_locally kind.OffsetOverflow site else read) tt
     (by_room (overflows file.offset len) refl)
   where
     read : Move
     read = Ask (request.Read (handle_of (answers file.grant)) file.offset len)
 
-    by_room : (b : Bool) → overflows file.offset len ≡ b → ReadsWithin facts (if b then refuses kind.OffsetOverflow site else read)
+    by_room : (b : Bool) → overflows file.offset len ≡ b → ReadsWithin facts
+        (if b then refuse_locally kind.OffsetOverflow site else read)
     by_room true e = tt
     by_room false e = (let ends : file.offset + len < 2 ^ 64 = grind (arith, nat_tests) in ends, most)
 
@@ -122,13 +129,15 @@ missing_within facts slot file got n site answers =
     either_within facts (n == 0) (Done (outcome.Bytes got) site) (ask_read file (min n facts.read_len) site answers) tt
     (read_within facts file (min n facts.read_len) site answers (omega arith))
 
-rest_within : (facts : Facts) (keep : Keeping) (file : FileAt) (bytes : List ℕ) (site : Site) (answers : Answers)
+rest_within : (facts : Facts) (keep : FileKeeper) (file : FileAt) (bytes : List ℕ) (site : Site) (answers : Answers)
     → ReadsWithin facts (rest_next keep file bytes site facts [] answers)
-rest_within facts keep file bytes site answers = either_within facts (length bytes == 0) (Done outcome.Done site) _ tt (write_within facts file _ site answers)
+rest_within facts keep file bytes site answers = either_within facts (length bytes == 0) (Done outcome.Done site) _ tt
+    (write_within facts file _ site answers)
 
 entries_within : (facts : Facts) (handle : List ℕ) (got : List NameEntry) (bound : ℕ) (site : Site) (answers : Answers)
     → ReadsWithin facts (entries_next handle got bound site [] answers)
-entries_within facts handle got bound site answers = either_within facts (bound == 0) (Done outcome.GivenUp site) (Ask (request.Readdir handle)) tt tt
+entries_within facts handle got bound site answers = either_within facts (bound == 0) (Done outcome.GivenUp site)
+    (Ask (request.Readdir handle)) tt tt
 
 abbrev pub none : Answers
 none place = None
@@ -159,7 +168,8 @@ room_within facts slot start file bytes buffer site (write ∷ writes) y =
     status_within facts y (with_deferred slot file buffer site writes)
     (sent_next slot start file bytes facts [] none (record buffer { deferred = writes })
     (with_deferred slot file buffer site writes))
-    (sent_within facts slot start file bytes (record buffer { deferred = writes }) (with_deferred slot file buffer site writes))
+    (sent_within facts slot start file bytes (record buffer { deferred = writes })
+    (with_deferred slot file buffer site writes))
 
 taken_within : (facts : Facts) (slot : ℕ) (file : FileAt) (buffer : Buffer) (site : Site) (writes : List (ℕ × ℕ))
     (go : Buffer → Site → Move) → ReadsWithin facts (go buffer site)
@@ -171,7 +181,7 @@ left_within : (facts : Facts) (slot : ℕ) (bytes : List ℕ) (file : FileAt) (b
     → ReadsWithin facts (buffered_rest slot bytes file buffer site facts [] none)
 left_within facts slot bytes file buffer site =
     either_within facts (length bytes == 0) (Done outcome.Done site) _ tt
-    (either_within facts (not file.writable) (refuses kind.NotWritable site)
+    (either_within facts (not file.writable) (refuse_locally kind.NotWritable site)
     (with_capacity slot file buffer site facts none (ask_deferred file bytes facts none)) tt
     (either_within facts (is_full facts buffer) (taken_out slot file buffer site none buffer.deferred
     (ask_deferred file bytes facts none)) (ask_deferred file bytes facts none buffer site)
@@ -200,17 +210,20 @@ reads_whole other = false
 
 by_call : (r : Running) (bytes : List ℕ) (site : Site) (facts : Facts) (y : Option Reply) → reads_whole r ≡ false
     → ReadsWithin facts (after r bytes site facts y [] none)
-by_call (running.Ending place ends) bytes site facts y other = replied_within facts site y (ended_by ends site) (λ x. ended_within facts ends site x)
+by_call (running.Ending place ends) bytes site facts y other =
+    replied_within facts site y (ended_by ends site) (λ x. ended_within facts ends site x)
 by_call (running.Opening place slot flags) bytes site facts y other =
-    replied_within facts site y (opened slot flags site place) (λ x. handle_within facts x site _ (λ handle. tt))
+    replied_within facts site y (opened_move slot flags site place) (λ x. handle_within facts x site _ (λ handle. tt))
 by_call (running.Reading place slot file len) bytes site facts y other =
     replied_within facts site y _ (λ x. content_within facts x site (Done outcome.End site) _ tt (λ content. tt))
 by_call (running.Gathering place slot file got left len) bytes site facts y other =
-    replied_within facts site y _ (λ x. content_within facts x site (refuses kind.UnexpectedEof site) _ tt
+    replied_within facts site y _ (λ x. content_within facts x site (refuse_locally kind.UnexpectedEof site) _ tt
     (λ content. missing_within facts slot (further file (length content)) (got ++ content) (left - length content)
     (with_slot site slot (File (further file (length content)))) none))
-by_call (running.Sending place slot file len) bytes site facts y other = replied_within facts site y _ (λ x. status_within facts x site _ tt)
-by_call (running.Writing place slot file done) bytes site facts y other = replied_within facts site y _ (λ x. status_within facts x site _
+by_call (running.Sending place slot file len) bytes site facts y other =
+    replied_within facts site y _ (λ x. status_within facts x site _ tt)
+by_call (running.Writing place slot file done) bytes site facts y other =
+    replied_within facts site y _ (λ x. status_within facts x site _
     (rest_within facts (keep_in slot) (further file (part_len facts (drop done bytes)))
     (drop (part_len facts (drop done bytes)) (drop done bytes))
     (keep_in slot (further file (part_len facts (drop done bytes))) site) none))
@@ -238,7 +251,8 @@ by_call (running.FillingBuffer slot n offset own) bytes site facts y other =
     held_within facts (slot_at site slot) site _ (λ file buffer. replied_within facts site y _
     (λ x. content_within facts x (without_reading slot file buffer site)
     (Done outcome.End (without_reading slot file buffer site)) _ tt (λ content. tt)))
-by_call (running.Copying place from to source target len) bytes site facts y other = replied_within facts site y _ (λ x. status_within facts x site _ tt)
+by_call (running.Copying place from to source target len) bytes site facts y other =
+    replied_within facts site y _ (λ x. status_within facts x site _ tt)
 
 pub others_within : (r : Running) (bytes : List ℕ) (site : Site) (facts : Facts) (y : Option Reply) → reads_whole r
     ≡ false → AsksWithin facts (after r bytes site facts y)

@@ -34,23 +34,27 @@ keeps_self facts site = record { count = refl; limit = λ h. h }
 pub keeps_then : (facts : Facts) (a b c : Site) → KeepsSite facts a b → KeepsSite facts b c → KeepsSite facts a c
 keeps_then facts a b c f g = record { count = g.count ∙ f.count; limit = λ h. g.limit (f.limit h) }
 
-pub keeps_set : (facts : Facts) (site new : Site) (k : ℕ) (x : Slot) → new ≡ with_slot site k x → IsWithin facts x → KeepsSite facts site new
+pub keeps_set : (facts : Facts) (site new : Site) (k : ℕ) (x : Slot) → new ≡ with_slot site k x → IsWithin facts x
+    → KeepsSite facts site new
 keeps_set facts site new k x is fits = subst (λ (s : Site). KeepsSite facts site s) (sym is)
     (record { count = set_length site.slots k x; limit = λ h. set_within facts site.slots k x fits h })
 
-pub keeps_file : (facts : Facts) (site new : Site) (k : ℕ) (file : FileAt) → new ≡ with_slot site k (File file) → KeepsSite facts site new
+pub keeps_file : (facts : Facts) (site new : Site) (k : ℕ) (file : FileAt) → new ≡ with_slot site k (File file)
+    → KeepsSite facts site new
 keeps_file facts site new k file is = keeps_set facts site new k (File file) is tt
 
 -- a file that stands in its slot, or in none, and was moved
 pub keeps_kept : (facts : Facts) (slot : Option ℕ) (file : FileAt) (offset : ℕ) (old new : Site) → new
     ≡ keep_in slot (record file { offset = offset }) old → KeepsSite facts old new
-keeps_kept facts None file offset old new is = subst (λ (s : Site). KeepsSite facts old s) (sym is) (keeps_self facts old)
+keeps_kept facts None file offset old new is = subst (λ (s : Site). KeepsSite facts old s) (sym is)
+    (keeps_self facts old)
 keeps_kept facts (Some slot) file offset old new is = keeps_file facts old new slot (record file { offset = offset }) is
 
 pub kept_there : (slot : Option ℕ) (file : FileAt) (offset : ℕ) (old new : Site) → IsKept slot file old → new
     ≡ keep_in slot (record file { offset = offset }) old → IsKept slot (record file { offset = offset }) new
 kept_there None file offset old new kept is = tt
-kept_there (Some slot) file offset old new kept is = subst (λ (s : Site). IsKept (Some slot) (record file { offset = offset }) s) (sym is) (
-  subst (λ (n : ℕ). slot < n) (sym (set_count old slot (File (record file { offset = offset })))) kept.0,
-  set_at old slot (File (record file { offset = offset })) kept.0,
-)
+kept_there (Some slot) file offset old new kept is = subst (λ (s : Site). IsKept (Some slot)
+    (record file { offset = offset }) s) (sym is) (
+      subst (λ (n : ℕ). slot < n) (sym (set_count old slot (File (record file { offset = offset })))) kept.0,
+      set_at old slot (File (record file { offset = offset })) kept.0,
+    )

@@ -1,4 +1,4 @@
-pub mod BegunLaws
+mod BegunLaws
 mod Asking
 mod BufferAsking
 mod BufferSets
@@ -10,11 +10,11 @@ mod Flushes
 mod Going
 pub mod GoingLaws
 pub mod InRange
-pub mod Keeping
+mod Keeping
 mod Leaving
-pub mod LeftLaws
+mod LeftLaws
 pub mod OwnAsking
-pub mod OwnLaws
+mod OwnLaws
 pub mod SlotSets
-pub mod WindowMoves
+mod WindowMoves
 mod WindowReplies

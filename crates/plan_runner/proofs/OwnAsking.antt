@@ -9,12 +9,12 @@ use Rattle.plan_runner.specs.declared.next.Next.{Next}
 use Rattle.plan_runner.specs.declared.next.Next.TheVariants as step
 use Rattle.plan_runner.specs.declared.next.Running.{Running}
 use Rattle.plan_runner.specs.declared.next.Running.TheVariants as running
-use Rattle.plan_runner.specs.Runners.{awaited}
+use Rattle.plan_runner.specs.Runners.{awaited_place}
 use Rattle.plan_runner.specs.Pending.{own_place, reads_under}
 use Rattle.plan_runner.specs.Asking.{AwaitsAsked, AsksOn, AsksOrDefers, AsksOwn, AwaitsOrDefers, BeginsAsking, GoesOnAsking, IsAmong, OwnOn}
 
 -- a call awaits the reply to its own request, where it has one
-pub own_awaited : (r : Running) (site : Site) (p : ℕ) → own_place (Some r) ≡ Some p → awaited r site ≡ Some p
+pub own_awaited : (r : Running) (site : Site) (p : ℕ) → own_place (Some r) ≡ Some p → awaited_place r site ≡ Some p
 own_awaited (running.Ending place ends) site p e = e
 own_awaited (running.Opening place slot flags) site p e = e
 own_awaited (running.Reading place slot file len) site p e = e
@@ -49,14 +49,18 @@ own_asks opened place reads old new a r asks = record {
   call = asks.call;
   named = asks.named;
   awaits = subst (λ (o : Option ℕ). AwaitsOrDefers o place a) (sym asks.awaits) refl;
-  looks = inl (record { looks = λ p e. same_place (awaited r new) p place (own_awaited r new place asks.awaits) e; fits = asks.fits });
+  looks = inl (record {
+    looks = λ p e. same_place (awaited_place r new) p place (own_awaited r new place asks.awaits) e;
+    fits = asks.fits;
+  });
   keeps = asks.keeps;
   under = λ x among. absurd (subst (λ (l : List ReadAt). IsAmong x l) (own_reads r place asks.awaits) among);
 }
 
 -- ---- what begins a call
 
-pub own_begins : (opened : Option ℕ) (place : ℕ) (old new : Site) (n : Next) → AwaitsAsked opened place old n → BeginsAsking opened place old new n
+pub own_begins : (opened : Option ℕ) (place : ℕ) (old new : Site) (n : Next) → AwaitsAsked opened place old n
+    → BeginsAsking opened place old new n
 own_begins opened place old new (step.Ask a r) asks = own_asks opened place [] old new a r asks
 own_begins opened place old new (step.Wait r) asks = absurd asks
 own_begins opened place old new (step.Done o) asks = tt
@@ -86,6 +90,7 @@ own_on opened place site (step.Ask a r) asks = asks.0.awaits
 own_on opened place site (step.Wait r) asks = asks
 own_on opened place site (step.Done o) asks = tt
 
-pub own_on_if_ok : (opened : Option ℕ) (place : ℕ) (site : Site) (n : Result Next OutOfMemory) → IfOk n (AsksOn opened place site) → IfOk n (OwnOn place)
+pub own_on_if_ok : (opened : Option ℕ) (place : ℕ) (site : Site) (n : Result Next OutOfMemory)
+    → IfOk n (AsksOn opened place site) → IfOk n (OwnOn place)
 own_on_if_ok opened place site (Ok n) asks = own_on opened place site n asks
 own_on_if_ok opened place site (Err e) asks = asks

@@ -9,7 +9,7 @@ use Rattle.plan_runner.specs.declared.next.Running.{Running}
 use Rattle.plan_runner.specs.declared.next.Running.TheVariants as running
 use Rattle.plan_runner.specs.Cancelling.{left_behind, left_kept}
 use Rattle.plan_runner.specs.Pending.{own_place}
-use Rattle.plan_runner.specs.Sound.{IsKept, Sound}
+use Rattle.plan_runner.specs.Sound.{IsKept, IsRunningSound}
 use Rattle.plan_runner.proofs.Leaving.{transfer_of}
 use Rattle.plan_runner.proofs.SlotSets.{set_same}
 
@@ -17,16 +17,19 @@ use Rattle.plan_runner.proofs.SlotSets.{set_same}
 kept_leaves : (slot : Option ℕ) (file : FileAt) (site : Site) (facts : Facts) (answers : Answers)
     → IsKept slot file site → left_kept slot site facts [] answers ≡ site
 kept_leaves None file site facts answers kept = refl
-kept_leaves (Some slot) file site facts answers kept = transfer_of slot site facts file [] answers kept.1 ∙ set_same site slot (File file) kept.1
+kept_leaves (Some slot) file site facts answers kept = transfer_of slot site facts file [] answers kept.1
+    ∙ set_same site slot (File file) kept.1
 
 pub own_leaves : (r : Running) (bytes : List ℕ) (site : Site) (facts : Facts) (answers : Answers)
-    → own_place (Some r) ≢ None → Sound r bytes site facts → left_behind r bytes site facts [] answers ≡ site
+    → own_place (Some r) ≢ None → IsRunningSound r bytes site facts → left_behind r bytes site facts [] answers ≡ site
 own_leaves (running.Ending place ends) bytes site facts answers own sound = refl
 own_leaves (running.Opening place slot flags) bytes site facts answers own sound = refl
 own_leaves (running.Reading place slot file len) bytes site facts answers own sound = refl
-own_leaves (running.Gathering place slot file got left len) bytes site facts answers own sound = kept_leaves (Some slot) file site facts answers sound.0
+own_leaves (running.Gathering place slot file got left len) bytes site facts answers own sound =
+    kept_leaves (Some slot) file site facts answers sound.0
 own_leaves (running.Sending place slot file len) bytes site facts answers own sound = refl
-own_leaves (running.Writing place slot file done) bytes site facts answers own sound = kept_leaves slot file site facts answers sound.0
+own_leaves (running.Writing place slot file done) bytes site facts answers own sound =
+    kept_leaves slot file site facts answers sound.0
 own_leaves (running.OpeningToWrite place) bytes site facts answers own sound = refl
 own_leaves (running.OpeningToRead place bound) bytes site facts answers own sound = refl
 own_leaves (running.ReadingWhole grant bound window) bytes site facts answers own sound = absurd (own refl)

@@ -29,4 +29,5 @@ same_slots (slot ∷ slots) (suc k) = ap (λ l. slot ∷ l) (same_slots slots k)
 
 -- what stands in a slot is put there again
 pub set_same : (site : Site) (k : ℕ) (x : Slot) → slot_at site k ≡ x → with_slot site k x ≡ site
-set_same site k x at = ap (λ y. with_slot site k y) (sym at) ∙ λ i. record { slots = same_slots site.slots k i; directory = site.directory }
+set_same site k x at = ap (λ y. with_slot site k y) (sym at)
+    ∙ λ i. record { slots = same_slots site.slots k i; directory = site.directory }

@@ -1,5 +1,5 @@
--- What a runner asks of its lane: requests that bear handles of grants which the lane has, and whose replies it
--- awaits.
+-- The requests that a runner asks of its lane: they have handles of grants that the lane has, and the runner awaits
+-- their replies.
 use Rattle.std.specs.Prelude.{
   ℕ,
   ◌≡◌,
@@ -34,14 +34,14 @@ use Rattle.plan_runner.specs.declared.next.Next.{Next}
 use Rattle.plan_runner.specs.declared.next.Next.TheVariants as step
 use Rattle.plan_runner.specs.declared.next.Running.{Running}
 use Rattle.plan_runner.specs.declared.next.Running.TheVariants as running
-use Rattle.plan_runner.specs.Runners.{answered_by, awaited, filled}
+use Rattle.plan_runner.specs.Runners.{answered_by, awaited_place, request_with_handles}
 use Rattle.plan_runner.specs.Pending.{own_place, reads_under}
 use Rattle.plan_window.specs.declared.window.ReadAt.{ReadAt}
-use Rattle.plan_runner.specs.Sound.{Fits}
+use Rattle.plan_runner.specs.Sound.{IsFittingReply}
 
--- ---- requests
+-- ---- Requests
 
--- a request that a call may make as it is: no greeting, no query for limits, and none that bears a handle
+-- A request that a call may make as it is: no greeting, no query for limits, and none with a handle.
 abbrev pub IsPlain : Request → Type 0
 IsPlain (request.Init version) = ⊥
 IsPlain request.LimitsQuery = ⊥
@@ -63,147 +63,149 @@ abbrev pub IsNoClose : Asked → Type 0
 IsNoClose (asked.Close grant) = ⊥
 IsNoClose other = Unit {0}
 
--- each grant whose handle a request bears is one of these
-abbrev pub Names : (ℕ → Type 0) → Asked → Type 0
-Names Has (asked.Plain r) = Unit {0}
-Names Has (asked.Close grant) = Has grant
-Names Has (asked.Read grant offset len) = Has grant
-Names Has (asked.Write grant offset content) = Has grant
-Names Has (asked.Fstat grant) = Has grant
-Names Has (asked.Fsetstat grant attrs) = Has grant
-Names Has (asked.Readdir grant) = Has grant
-Names Has (asked.Fsync grant) = Has grant
-Names Has (asked.CopyData from from_offset len to to_offset) = Has from × Has to
+-- Each grant whose handle a request has is one of these.
+abbrev pub NamesGrants : (ℕ → Type 0) → Asked → Type 0
+NamesGrants Has (asked.Plain r) = Unit {0}
+NamesGrants Has (asked.Close grant) = Has grant
+NamesGrants Has (asked.Read grant offset len) = Has grant
+NamesGrants Has (asked.Write grant offset content) = Has grant
+NamesGrants Has (asked.Fstat grant) = Has grant
+NamesGrants Has (asked.Fsetstat grant attrs) = Has grant
+NamesGrants Has (asked.Readdir grant) = Has grant
+NamesGrants Has (asked.Fsync grant) = Has grant
+NamesGrants Has (asked.CopyData from from_offset len to to_offset) = Has from × Has to
 
--- ---- grants
+-- ---- Grants
 
--- the grant that a call opened itself, and that no slot has
+-- The grant that a call opened itself, and that no slot has.
 abbrev pub opened_by : Running → Option ℕ
 opened_by (running.Listing place grant got bound) = Some grant
 opened_by (running.Writing place None file done) = Some file.grant
 opened_by (running.ReadingWhole grant bound window) = Some grant
 opened_by other = None
 
--- and what it is after this reply
+-- The grant that a call opened itself, after this reply.
 abbrev pub opened_after : Running → Option Reply → Option ℕ
 opened_after (running.OpeningToWrite place) (Some (reply.Handle handle)) = Some place
 opened_after (running.OpeningToRead place bound) (Some (reply.Handle handle)) = Some place
 opened_after (running.OpeningDirectory place bound) (Some (reply.Handle handle)) = Some place
 opened_after r answer = opened_by r
 
--- a slot has the grant, or the call opened it
+-- A slot has the grant, or the call opened it.
 abbrev pub HasGrant : Site → Option ℕ → ℕ → Type 0
 HasGrant site opened grant = (has_grant site grant ≡ true) ⊎ (opened ≡ Some grant)
 
--- the lane has the grant of a file in a slot, and the call opened a file that is in none
+-- The lane has the grant of a file in a slot, or the call opened a file that is in no slot.
 abbrev pub HasFile : Site → Option ℕ → Option ℕ → FileAt → Type 0
 HasFile site opened None file = opened ≡ Some file.grant
 HasFile site opened (Some slot) file = HasGrant site opened file.grant
 
--- ---- what a runner asks
+-- ---- The requests of a runner
 
--- The request at this place: it bears handles of grants that the lane has, and the call goes on with its reply, which
--- fits if it may answer.
+-- The request at this place: it has handles of grants that the lane has. The call continues with its reply, which fits
+-- if it may answer the request.
 pub record AsksOwn (opened : Option ℕ) (place : ℕ) (site : Site) (a : Asked) (r : Running) : Type 0 where
   pub call : IsOfCall a
-  pub named : Names (HasGrant site opened) a
+  pub named : NamesGrants (HasGrant site opened) a
   pub awaits : own_place (Some r) ≡ Some place
   pub keeps : (grant : ℕ) → opened_by r ≡ Some grant → opened ≡ Some grant
-  pub fits : (answers : Answers) (y : Reply) → may_answer (filled a answers) y ≡ true → Fits r (Some y)
+  pub fits : (answers : Answers) (y : Reply) → may_answer (request_with_handles a answers) y ≡ true
+      → IsFittingReply r (Some y)
 
--- What begins a call, where the site was this one, awaits what it asks.
+-- A call that starts, when the site was this one, awaits the reply to the request that it asks.
 abbrev pub AwaitsAsked : Option ℕ → ℕ → Site → Next → Type 0
 AwaitsAsked opened place site (step.Ask a r) = AsksOwn opened place site a r
 AwaitsAsked opened place site (step.Wait r) = ⊥
 AwaitsAsked opened place site (step.Done o) = Unit {0}
 
--- and a call that was begun asks no CLOSE
+-- The same, and a started call asks no CLOSE.
 abbrev pub AsksOn : Option ℕ → ℕ → Site → Next → Type 0
 AsksOn opened place site (step.Ask a r) = AsksOwn opened place site a r × IsNoClose a
 AsksOn opened place site (step.Wait r) = ⊥
 AsksOn opened place site (step.Done o) = Unit {0}
 
--- ---- what a runner asks that leaves replies to its slots
+-- ---- The requests of a runner that leaves replies to its slots
 
--- a READ or a WRITE
+-- A READ or a WRITE.
 abbrev pub IsTransfer : Asked → Type 0
 IsTransfer (asked.Read grant offset len) = Unit {0}
 IsTransfer (asked.Write grant offset content) = Unit {0}
 IsTransfer other = ⊥
 
--- the call goes on with the reply to this place, or it asked for a READ or a WRITE whose reply its slot awaits
+-- The call continues with the reply to this place, or it asked a READ or a WRITE whose reply its slot awaits.
 abbrev pub AwaitsOrDefers : Option ℕ → ℕ → Asked → Type 0
 AwaitsOrDefers None place a = IsTransfer a
 AwaitsOrDefers (Some p) place a = p ≡ place
 
--- ---- the READs of a whole read
+-- ---- The READs of a whole read
 
 abbrev pub IsAmong : ReadAt → List ReadAt → Type 0
 IsAmong x [] = ⊥
 IsAmong x (y ∷ ys) = (x ≡ y) ⊎ IsAmong x ys
 
--- the READ that is asked at this place
+-- The READ that is asked at this place.
 abbrev pub IsNewRead : ReadAt → ℕ → Asked → Type 0
 IsNewRead x place (asked.Read grant offset len) = x ≡ record { place = place; offset = offset; len = len }
 IsNewRead x place other = ⊥
 
--- whether a call reads a whole file by its window
+-- True if a call reads a whole file by its window.
 abbrev pub is_window : Running → Bool
 is_window (running.ReadingWhole grant bound window) = true
 is_window other = false
 
--- ---- what a runner asks that leaves replies to its slots, or has several READs under way
+-- ---- The requests of a runner that leaves replies to its slots, or has several READs in flight
 
--- the call goes on with the reply to this request, if with any, and the reply fits if it may answer
+-- The call continues with the reply to this request, if with any, and the reply fits if it may answer the request.
 pub record LooksAtOwn (place : ℕ) (site : Site) (a : Asked) (r : Running) : Type 0 where
-  pub looks : (p : ℕ) → awaited r site ≡ Some p → p ≡ place
-  pub fits : (answers : Answers) (y : Reply) → may_answer (filled a answers) y ≡ true → Fits r (Some y)
+  pub looks : (p : ℕ) → awaited_place r site ≡ Some p → p ≡ place
+  pub fits : (answers : Answers) (y : Reply) → may_answer (request_with_handles a answers) y ≡ true
+      → IsFittingReply r (Some y)
 
--- The request at this place: it bears handles of grants that the lane has, and the call or a slot awaits its reply. The
--- READs that a whole read has under way are those that it had, and this one. The site was the first one, and is the
+-- The request at this place: it has handles of grants that the lane has, and the call or a slot awaits its reply. The
+-- READs that a whole read has in flight are those that it had, and this one. The site was the first one, and is the
 -- second.
 pub record AsksOrDefers (opened : Option ℕ) (place : ℕ) (reads : List ReadAt) (old new : Site) (a : Asked) (r : Running)
     : Type 0 where
   pub call : IsOfCall a
-  pub named : Names (HasGrant old opened) a
+  pub named : NamesGrants (HasGrant old opened) a
   pub awaits : AwaitsOrDefers (own_place (Some r)) place a
   pub looks : LooksAtOwn place new a r ⊎ (is_window r ≡ true)
   pub keeps : (grant : ℕ) → opened_by r ≡ Some grant → opened ≡ Some grant
   pub under : (x : ReadAt) → IsAmong x (reads_under (Some r)) → IsAmong x reads ⊎ IsNewRead x place a
 
--- a call that asked nothing goes on with a reply that a slot awaits, or with that to one of its READs
-pub record Looks (opened : Option ℕ) (reads : List ReadAt) (site : Site) (r : Running) : Type 0 where
+-- A call that asked nothing continues with a reply that a slot awaits, or with the reply to one of its READs.
+pub record LooksForReply (opened : Option ℕ) (reads : List ReadAt) (site : Site) (r : Running) : Type 0 where
   pub deferred : own_place (Some r) ≡ None
-  pub some : is_some (awaited r site) ≡ true
+  pub some : is_some (awaited_place r site) ≡ true
   pub keeps : (grant : ℕ) → opened_by r ≡ Some grant → opened ≡ Some grant
   pub under : (x : ReadAt) → IsAmong x (reads_under (Some r)) → IsAmong x reads
 
--- What begins a call asks, or what it waits for. Where it waits, the site is as it was.
+-- The request that a starting call asks, or the reply that it waits for. If it waits, the site is unchanged.
 abbrev pub BeginsAsking : Option ℕ → ℕ → Site → Site → Next → Type 0
 BeginsAsking opened place old new (step.Ask a r) = AsksOrDefers opened place [] old new a r
-BeginsAsking opened place old new (step.Wait r) = Looks opened [] new r × (new ≡ old)
+BeginsAsking opened place old new (step.Wait r) = LooksForReply opened [] new r × (new ≡ old)
 BeginsAsking opened place old new (step.Done o) = Unit {0}
 
--- A call that was begun asks no CLOSE, and whatever reply it waits for fits, but for that of a whole read. These READs
--- were under way.
+-- A started call asks no CLOSE, and any reply that it waits for fits, except that of a whole read. These READs were in
+-- flight.
 abbrev pub GoesOnAsking : Option ℕ → ℕ → List ReadAt → Site → Site → Next → Type 0
 GoesOnAsking opened place reads old new (step.Ask a r) = AsksOrDefers opened place reads old new a r × IsNoClose a
-GoesOnAsking opened place reads old new (step.Wait r) = Looks opened reads new r
-    × (((y : Reply) → Fits r (Some y)) ⊎ (is_window r ≡ true))
+GoesOnAsking opened place reads old new (step.Wait r) = LooksForReply opened reads new r
+    × (((y : Reply) → IsFittingReply r (Some y)) ⊎ (is_window r ≡ true))
 GoesOnAsking opened place reads old new (step.Done o) = Unit {0}
 
--- A call that asks or ends while the reply that it awaits is missing awaits none of its own; it asks no CLOSE, and
--- leaves its site.
+-- A call that asks or ends while the awaited reply is missing awaits none of its own. It asks no CLOSE, and leaves its
+-- site unchanged.
 abbrev pub WidensAsking : Running → ℕ → Site → Next → Type 0
 WidensAsking running place site (step.Ask a r) = (own_place (Some running) ≡ None)
     × AsksOrDefers (opened_by running) place (reads_under (Some running)) site site a r × IsNoClose a
 WidensAsking running place site (step.Done o) = own_place (Some running) ≡ None
 WidensAsking running place site (step.Wait r) = Unit {0}
 
--- ---- which way a call goes on
+-- ---- The ways in which a call continues
 
--- A whole read asks at this place: the READs that it has under way then are these and the new one, and no more than its
--- window has.
+-- A whole read asks at this place. The READs that it then has in flight are these and the new one, and they are within
+-- its window.
 pub record IsWindowed (place : ℕ) (reads : List ReadAt) (facts : Facts) (a : Asked) (r : Running) : Type 0 where
   pub window : is_window r ≡ true
   pub read : ReadAt
@@ -211,20 +213,20 @@ pub record IsWindowed (place : ℕ) (reads : List ReadAt) (facts : Facts) (a : A
   pub under : reads_under (Some r) ≡ reads ++ read ∷ []
   pub few : length (reads_under (Some r)) ≤ facts.read_window
 
--- a whole read goes on by its window, which had these READs under way
+-- A whole read continues by its window, which had these READs in flight.
 abbrev pub ReadsOn : ℕ → List ReadAt → Facts → Next → Type 0
 ReadsOn place reads facts (step.Ask a r) = IsWindowed place reads facts a r
 ReadsOn place reads facts (step.Wait r) = (is_window r ≡ true) × (reads_under (Some r) ≡ reads)
 ReadsOn place reads facts (step.Done o) = Unit {0}
 
--- a call of its own requests, one after another, awaits what it asks, or ends
+-- A call that makes its own requests one after another awaits the request that it asks, or ends.
 abbrev pub OwnOn : ℕ → Next → Type 0
 OwnOn place (step.Ask a r) = own_place (Some r) ≡ Some place
 OwnOn place (step.Wait r) = ⊥
 OwnOn place (step.Done o) = Unit {0}
 
--- How a call goes on, by what it went on with and the reply that came, if it awaited one. A call that leaves replies to
--- its slots may go on in any way.
+-- The way in which a call continues, by the state that it continued from and the reply that came, if it awaited one. A
+-- call that leaves replies to its slots may continue in any way.
 abbrev pub GoesOnBy : Running → Option Reply → ℕ → Facts → Next → Type 0
 GoesOnBy (running.OpeningToRead grant bound) reply place facts n = ReadsOn place [] facts n
 GoesOnBy (running.ReadingWhole grant bound window) reply place facts n =

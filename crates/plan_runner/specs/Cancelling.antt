@@ -1,4 +1,4 @@
--- What a cancelled call leaves, by where its runner has come.
+-- The site that a cancelled call leaves, by the state of its runner.
 use Rattle.std.specs.Prelude.{ℕ, ◌≡◌, List, ◌∷◌, Option, Some, None, if◌then◌else◌}
 use Rattle.sftp_model.specs.declared.reply.Reply.{Reply}
 use Rattle.sftp_model.specs.declared.slot.Facts.{Facts}
@@ -9,25 +9,25 @@ use Rattle.plan_model.specs.BufferPlans.{cancelled_buf_flush, cancelled_buf_read
 use Rattle.plan_runner.specs.Buffers.{left_flushed}
 use Rattle.plan_model.specs.TransferPlans.{cancelled_transfer}
 use Rattle.plan_model.specs.declared.call.Call.{Call}
-use Rattle.plan_model.specs.CallPlans.{cancelled}
+use Rattle.plan_model.specs.CallPlans.{site_after_cancel}
 use Rattle.plan_runner.specs.declared.next.Asked.TheVariants as asked
 use Rattle.plan_runner.specs.declared.next.Running.{Running}
 use Rattle.plan_runner.specs.declared.next.Running.TheVariants as running
 use Rattle.plan_runner.specs.declared.next.Next.{Next}
 use Rattle.plan_runner.specs.declared.next.Next.TheVariants as step
-use Rattle.plan_runner.specs.Runners.{bytes_of, filled}
+use Rattle.plan_runner.specs.Runners.{bytes_of, request_with_handles}
 
--- what a cancelled call leaves, by its own requests and the replies
-abbrev pub Leaving : Type 0
-Leaving = Own → Answers → Site
+-- The site that a cancelled call leaves, by its own requests and the replies.
+abbrev pub SiteAfterCancel : Type 0
+SiteAfterCancel = Own → Answers → Site
 
--- what a transfer leaves whose file stands in a slot or in none
-abbrev pub left_kept : Option ℕ → Site → Facts → Leaving
+-- The site that a transfer leaves, whose file is in a slot or in none.
+abbrev pub left_kept : Option ℕ → Site → Facts → SiteAfterCancel
 left_kept None site facts own answers = site
 left_kept (Some slot) site facts own answers = cancelled_transfer slot site facts own answers
 
--- what a call leaves that is cancelled after these further requests
-abbrev pub left_behind : Running → List ℕ → Site → Facts → Leaving
+-- The site that a call leaves if it is cancelled after these further requests.
+abbrev pub left_behind : Running → List ℕ → Site → Facts → SiteAfterCancel
 left_behind (running.Ending place ends) bytes site facts later answers = site
 left_behind (running.Opening place slot flags) bytes site facts later answers = site
 left_behind (running.Reading place slot file len) bytes site facts later answers = site
@@ -52,33 +52,33 @@ left_behind (running.FillingBuffer slot n offset own) bytes site facts later ans
     cancelled_buf_read slot site facts later answers
 left_behind (running.Copying place from to source target len) bytes site facts later answers = site
 
--- what a call leaves that is cancelled after the reply that it awaited
-abbrev pub left_after : Running → List ℕ → Site → Facts → Option Reply → Leaving
+-- The site that a call leaves if it is cancelled after the reply that it awaited.
+abbrev pub left_after : Running → List ℕ → Site → Facts → Option Reply → SiteAfterCancel
 left_after (running.Flushing slot) bytes site facts (Some r) later answers =
     left_on_buffered (slot_at site slot) site (λ file buffer. left_flushed slot file buffer site buffer.deferred r
     answers)
 left_after other bytes site facts r later answers = left_behind other bytes site facts later answers
 
--- what a cancelled call leaves where a runner has come so far
-abbrev pub LeavesCancelled : Leaving → ℕ → List ℕ → Site → Facts → Next → Type 0
+-- The site that a cancelled call leaves, from the present state of its runner.
+abbrev pub LeavesCancelled : SiteAfterCancel → ℕ → List ℕ → Site → Facts → Next → Type 0
 LeavesCancelled leaving place bytes site facts (step.Ask a r) = (answers : Answers) (later : Own)
-    → leaving ((place, filled a answers) ∷ later) answers ≡ left_behind r bytes site facts later answers
+    → leaving ((place, request_with_handles a answers) ∷ later) answers ≡ left_behind r bytes site facts later answers
 LeavesCancelled leaving place bytes site facts (step.Wait r) = (answers : Answers) (later : Own) → leaving later answers
     ≡ left_behind r bytes site facts later answers
 LeavesCancelled leaving place bytes site facts (step.Done o) = Unit {0}
 
--- of what begins a call
+-- The same for a call that starts.
 abbrev pub BeginsLeaving : Call → ℕ → Site → Site → Facts → Next → Type 0
-BeginsLeaving c place old new facts n = LeavesCancelled (cancelled c old facts) place (bytes_of c) new facts n
+BeginsLeaving c place old new facts n = LeavesCancelled (site_after_cancel c old facts) place (bytes_of c) new facts n
 
--- a runner that asks, if it does, a READ or a WRITE
+-- A runner whose request, if it asks one, is a READ or a WRITE.
 abbrev pub AsksOffset : Next → Type 0
 AsksOffset (step.Ask (asked.Read grant offset len) r) = Unit {0}
 AsksOffset (step.Ask (asked.Write grant offset content) r) = Unit {0}
 AsksOffset (step.Done o) = Unit {0}
 AsksOffset other = ⊥
 
--- a runner that waits for the replies to its own requests alone
+-- A runner that waits only for the replies to its own requests.
 abbrev pub NeverWaits : Next → Type 0
 NeverWaits (step.Wait r) = ⊥
 NeverWaits other = Unit {0}

@@ -7,7 +7,7 @@ use Rattle.sftp_model.specs.declared.slot.Site.{Site}
 use Rattle.sftp_model.specs.declared.slot.Move.TheVariants.{Ask, Done}
 use Rattle.sftp_model.specs.Slots.{with_slot}
 use Rattle.plan_model.specs.Moves.{Answers}
-use Rattle.plan_model.specs.BufferPlans.{ask_deferred, carried, deferrable_len, written_slot}
+use Rattle.plan_model.specs.BufferPlans.{ask_deferred, carried_length, deferrable_len, written_slot}
 use Rattle.plan_runner.specs.declared.buffer_write.Deferral.{Deferral}
 use Rattle.plan_runner.specs.declared.buffer_write.Deferral.TheVariants as deferral
 use Rattle.plan_runner.specs.declared.next.Asked.{Asked}
@@ -15,31 +15,32 @@ use Rattle.plan_runner.specs.declared.next.Asked.TheVariants as asked
 use Rattle.plan_runner.specs.declared.next.Next.{Next}
 use Rattle.plan_runner.specs.declared.next.Next.TheVariants as step
 use Rattle.plan_runner.specs.Buffers.{running_after, rest_of}
-use Rattle.plan_runner.specs.Runners.{filled}
+use Rattle.plan_runner.specs.Runners.{request_with_handles}
 
--- a WRITE to the file
+-- A WRITE to the file.
 abbrev pub IsWriteOf : FileAt → Asked → Type 0
 IsWriteOf file (asked.Write grant offset content) = grant ≡ file.grant
 IsWriteOf file other = ⊥
 
--- It is the one that the plan asks for, of these bytes and at this place; or the plan refuses.
+-- It is the WRITE that the plan asks, of these bytes and at this place; or the plan refuses.
 abbrev pub IsDeferral : ℕ → Option ℕ → FileAt → Buffer → List ℕ → ℕ → Facts → Deferral → Type 0
 IsDeferral slot start file buffer bytes place facts (deferral.Refused o) =
     (site : Site) (answers : Answers) → ask_deferred file (rest_of start bytes) facts answers buffer site ≡ Done o site
 IsDeferral slot start file buffer bytes place facts (deferral.Asked a r held) =
     ((site : Site) (answers : Answers) → ask_deferred file (rest_of start bytes) facts answers buffer site
-    ≡ Ask (filled a answers))
-    × ((answers : Answers) → carried (filled a answers) ≡ deferrable_len facts (rest_of start bytes) buffer)
+    ≡ Ask (request_with_handles a answers))
+    × ((answers : Answers) → carried_length (request_with_handles a answers)
+    ≡ deferrable_len facts (rest_of start bytes) buffer)
     × (r ≡ running_after slot start (deferrable_len facts (rest_of start bytes) buffer))
     × (held ≡ written_slot file buffer place (deferrable_len facts (rest_of start bytes) buffer))
     × IsWriteOf file a
 
--- what the call does with it
+-- The next step of the call with it.
 abbrev pub settled_next : Deferral → Next
 settled_next (deferral.Refused o) = step.Done o
 settled_next (deferral.Asked a r held) = step.Ask a r
 
--- and what the slot holds then
+-- The site with the slot's new contents.
 abbrev pub settled_site : ℕ → Deferral → Site → Site
 settled_site slot (deferral.Refused o) site = site
 settled_site slot (deferral.Asked a r held) site = with_slot site slot held

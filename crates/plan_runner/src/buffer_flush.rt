@@ -1,14 +1,14 @@
-//! `buf_flush`: the deferred statuses from the oldest on, up to the first refusal.
+//! `buf_flush`: the deferred statuses, the oldest first, up to the first refusal.
 ghost use Rattle.std.specs.Prelude.{◌≡◌, ◌<◌, length, List, ℕ, [], Some, None};
 ghost use Rattle.sftp_model.specs.Slots.{slot_at};
 ghost use Rattle.sftp_model.specs.declared.slot.Facts.{Facts as FactsValue};
 ghost use Rattle.plan_model.specs.declared.call.Call.TheVariants as call;
 ghost use Rattle.plan_runner.specs.declared.next.Running.TheVariants as running;
 ghost use Rattle.plan_runner.specs.Runners.{BeginsByPlan, RunsByPlan, after};
-ghost use Rattle.plan_runner.specs.Buffers.{but_oldest, flushing, without_oldest};
+ghost use Rattle.plan_runner.specs.Buffers.{but_oldest, flush_oldest, without_oldest};
 ghost use Rattle.plan_runner.specs.Cancelling.{BeginsLeaving, LeavesCancelled, left_after};
-ghost use Rattle.plan_runner.specs.Sound.{KeepsSite, Sounds};
-ghost use Rattle.plan_runner.specs.Pending.{Fewer, Pends, pends_after, pends_idle};
+ghost use Rattle.plan_runner.specs.Sound.{KeepsSite, KeepsRunningSound};
+ghost use Rattle.plan_runner.specs.Pending.{AwaitsNoMore, PendsAfter, pends_after, pends_idle};
 ghost use Rattle.plan_runner.specs.Asking.{BeginsAsking, GoesOnAsking};
 
 use crate::next::{Next, Running};
@@ -22,8 +22,8 @@ pub fn begin_buf_flush(slot: u8, place: u64, site: &Site, facts: &Facts) -> Next
     requires { slot < length site.now.slots }
     ensures goes { BeginsByPlan (call.BufFlush slot) place site.now site.now facts.now result }
     ensures left { BeginsLeaving (call.BufFlush slot) place site.now site.now facts.now result }
-    ensures sound { Sounds [] facts.now site.now site.now result }
-    ensures pends { Pends (pends_idle site.now) place site.now result }
+    ensures sound { KeepsRunningSound [] facts.now site.now site.now result }
+    ensures pends { PendsAfter (pends_idle site.now) place site.now result }
     ensures asks { BeginsAsking None place site.now site.now result }
 {
     let Slot::Buffered(file, buffer) = slot_of(site, slot) else {
@@ -37,7 +37,7 @@ pub fn begin_buf_flush(slot: u8, place: u64, site: &Site, facts: &Facts) -> Next
 
 /// Awaits the oldest of these writes.
 fn flush_on(slot: u8, writes: &[(u64, u32)]) -> Next
-    ensures { result ≡ flushing slot writes.now }
+    ensures { result ≡ flush_oldest slot writes.now }
 {
     if writes.is_empty() {
         return Next::Done(Outcome::Done);
@@ -45,7 +45,7 @@ fn flush_on(slot: u8, writes: &[(u64, u32)]) -> Next
     Next::Wait(Running::Flushing { slot })
 }
 
-/// These writes without the oldest.
+/// Returns these writes without the oldest.
 fn but_oldest(writes: Items<(u64, u32)>) -> Items<(u64, u32)>
     ensures { result ≡ but_oldest writes }
 {
@@ -62,7 +62,7 @@ fn but_oldest(writes: Items<(u64, u32)>) -> Items<(u64, u32)>
 pub fn take_oldest(slot: u8, site: &mut Site)
     requires { slot < length site.old.slots }
     ensures after { site.new ≡ without_oldest site.old slot (slot_at site.old slot) }
-    ensures fewer { Fewer site.old site.new }
+    ensures fewer { AwaitsNoMore site.old site.new }
     ensures keeps { (facts : FactsValue) → KeepsSite facts site.old site.new }
 {
     match take_slot(site, slot) {
@@ -86,7 +86,7 @@ pub fn take_oldest(slot: u8, site: &mut Site)
     }
 }
 
-/// The reply to the oldest deferred write came to a flush, which goes on after a STATUS of OK.
+/// Processes the reply to the oldest deferred write of a flush, which continues after a STATUS of OK.
 pub(crate) fn flush_replied(
     slot: u8,
     reply: Reply,
@@ -101,8 +101,8 @@ pub(crate) fn flush_replied(
     ensures left { (bytes : List ℕ)
         → LeavesCancelled (left_after (running.Flushing slot) bytes site.old facts.now (Some reply))
         place bytes site.new facts.now result }
-    ensures sound { (bytes : List ℕ) → Sounds bytes facts.now site.old site.new result }
-    ensures pends { Pends (pends_after (running.Flushing slot) site.old (Some reply))
+    ensures sound { (bytes : List ℕ) → KeepsRunningSound bytes facts.now site.old site.new result }
+    ensures pends { PendsAfter (pends_after (running.Flushing slot) site.old (Some reply))
         place site.new result }
     ensures asks { GoesOnAsking None place [] site.old site.new result }
 {

@@ -1,16 +1,16 @@
-//! `buf_read`: from the buffer, which a READ fills where it is empty.
+//! `buf_read`: from the buffer, which a READ fills if it is empty.
 ghost use Rattle.std.specs.Prelude.{◌≡◌, ◌<◌, ◌≤◌, ◌-◌, ◌^◌, [], length, take, Option, Some, None, IfOk};
 ghost use Rattle.sftp_model.specs.Slots.{slot_at};
 ghost use Rattle.sftp_model.specs.declared.slot.Move.TheVariants.{Done};
 ghost use Rattle.plan_model.specs.declared.call.Call.TheVariants as call;
 ghost use Rattle.plan_model.specs.Moves.{further, on_buffered};
 ghost use Rattle.plan_model.specs.BufferPlans.{cancelled_buf_read, fill_next, was_filled};
-ghost use Rattle.plan_runner.specs.Ran.{BegunBuffered, Filled};
+ghost use Rattle.plan_runner.specs.Ran.{BegunBuffered, EndsByFill};
 ghost use Rattle.plan_runner.specs.Buffers.{with_reading};
 ghost use Rattle.plan_runner.specs.Runners.{RunsByPlan};
 ghost use Rattle.plan_runner.specs.Cancelling.{LeavesCancelled};
-ghost use Rattle.plan_runner.specs.Sound.{AreWithin, EndsWithin, Sounds, StandsAt};
-ghost use Rattle.plan_runner.specs.Pending.{Pends, pends_idle};
+ghost use Rattle.plan_runner.specs.Sound.{AreWithin, EndsWithin, KeepsRunningSound, StandsAt};
+ghost use Rattle.plan_runner.specs.Pending.{PendsAfter, pends_idle};
 ghost use Rattle.plan_runner.specs.Asking.{BeginsAsking};
 
 use crate::buffer_seek::{after_first, rebuffer};
@@ -24,7 +24,7 @@ use sftp_values::ByteText;
 use ssh_encoding::OutOfMemory;
 use std::alloc::Global;
 
-/// The first `n` of these bytes. Refused only for want of memory.
+/// Returns the first `n` of these bytes. Fails only if an allocation fails.
 fn first_of(alloc: Global, bytes: &[u8], n: u64) -> Result<ByteText, OutOfMemory>
     ensures { IfOk result (λ first. first ≡ take n bytes.now) }
 {
@@ -32,7 +32,7 @@ fn first_of(alloc: Global, bytes: &[u8], n: u64) -> Result<ByteText, OutOfMemory
     Ok(ByteText::new(Vec::from_slice(alloc, &bytes[..len])?))
 }
 
-/// Where a buffered file stands after the first `n` of these bytes.
+/// Returns a buffered file with its offset after the first `n` of these bytes.
 fn stands_after(file: &FileAt, bytes: &[u8], n: u64) -> FileAt
     requires { length bytes.now ≤ (2 ^ 64 - 1) - file.now.offset }
     ensures { result ≡ further file.now (length (take n bytes.now)) }
@@ -44,7 +44,7 @@ fn stands_after(file: &FileAt, bytes: &[u8], n: u64) -> FileAt
     }
 }
 
-/// The buffered file in a slot has this read under way, or none.
+/// Sets the read in flight of the buffered file in a slot, or removes it.
 #[tactic(auto, using(crate::proofs::SlotSets::set_twice))]
 fn set_reading(site: &mut Site, slot: u8, reading: Option<u64>)
     requires { slot < length site.old.slots }
@@ -71,7 +71,11 @@ fn set_reading(site: &mut Site, slot: u8, reading: Option<u64>)
     }
 }
 
-/// Reads at most `n` bytes of the buffered file in a slot. Refused only for want of memory; the site is as it was then.
+/// Reads at most `n` bytes of the buffered file in a slot.
+///
+/// # Errors
+///
+/// `OutOfMemory` if an allocation fails; `site` is unchanged.
 pub fn begin_buf_read(
     alloc: Global,
     slot: u8,
@@ -104,7 +108,7 @@ pub fn begin_buf_read(
     Ok(Next::Done(Outcome::Bytes(first)))
 }
 
-/// Fills the buffer of the file in a slot: by the read under way, or else by one of the call's own.
+/// Fills the buffer of the file in a slot: by the read in flight, or otherwise by one of the call's own.
 fn fill(slot: u8, n: u64, place: u64, site: &mut Site, facts: &Facts) -> Next
     requires { slot < length site.old.slots }
     ensures goes { RunsByPlan (λ own answers. on_buffered (slot_at site.old slot) site.old (λ file buffer.
@@ -112,8 +116,8 @@ fn fill(slot: u8, n: u64, place: u64, site: &mut Site, facts: &Facts) -> Next
         place [] site.new facts.now result }
     ensures left { LeavesCancelled (cancelled_buf_read slot site.old facts.now)
         place [] site.new facts.now result }
-    ensures sound { Sounds [] facts.now site.old site.new result }
-    ensures pends { Pends (pends_idle site.old) place site.new result }
+    ensures sound { KeepsRunningSound [] facts.now site.old site.new result }
+    ensures pends { PendsAfter (pends_idle site.old) place site.new result }
     ensures asks { BeginsAsking None place site.old site.new result }
 {
     let Slot::Buffered(file, buffer) = slot_of(site, slot) else {
@@ -153,8 +157,8 @@ fn fill(slot: u8, n: u64, place: u64, site: &mut Site, facts: &Facts) -> Next
     )
 }
 
-/// What the reply to the READ that fills a buffer gives: the first `n` bytes of a DATA, and the others stay in the
-/// buffer. Refused only for want of memory; the site is as it was then.
+/// Processes the reply to the READ that fills a buffer: the call returns the first `n` bytes of a DATA, and the others
+/// stay in the buffer. Fails only if an allocation fails; `site` is unchanged.
 pub(crate) fn filled_replied(
     alloc: Global,
     slot: u8,
@@ -166,7 +170,7 @@ pub(crate) fn filled_replied(
     requires slot { slot < length site.old.slots }
     requires stands { StandsAt offset (slot_at site.old slot) }
     requires room { EndsWithin offset reply }
-    ensures { Filled (on_buffered (slot_at site.old slot) site.old (λ file buffer.
+    ensures { EndsByFill (on_buffered (slot_at site.old slot) site.old (λ file buffer.
         was_filled slot n file buffer site.old reply)) slot site.old site.new result }
 {
     let Slot::Buffered(file, _) = slot_of(site, slot) else {

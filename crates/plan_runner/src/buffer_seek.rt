@@ -1,13 +1,13 @@
-//! `buf_seek`: a move forward keeps the buffered bytes from there on, any other none.
+//! `buf_seek`: a move forward keeps the buffered bytes from there on, any other keeps none.
 ghost use Rattle.std.specs.Prelude.{◌≡◌, ◌<◌, ◌-◌, ℕ, [], length, drop, Ok, Err, IfOk, OnErr, nat_lt, if◌then◌else◌};
 ghost use Rattle.sftp_model.specs.Slots.{slot_at};
 ghost use Rattle.sftp_model.specs.declared.slot.Facts.{Facts as FactsValue};
 ghost use Rattle.plan_model.specs.declared.call.Call.TheVariants as call;
 ghost use Rattle.plan_runner.specs.declared.next.Next.TheVariants as step;
 ghost use Rattle.plan_runner.specs.Runners.{BeginsByPlan};
-ghost use Rattle.plan_runner.specs.Seeks.{rebuffered, sought_bytes};
+ghost use Rattle.plan_runner.specs.Seeks.{with_buffer_at, sought_bytes};
 ghost use Rattle.plan_runner.specs.Sound.{KeepsSite};
-ghost use Rattle.plan_runner.specs.Pending.{Fewer};
+ghost use Rattle.plan_runner.specs.Pending.{AwaitsNoMore};
 
 use crate::gathering::no_bytes;
 use crate::local_calls::sought;
@@ -19,7 +19,7 @@ use ssh_encoding::OutOfMemory;
 use std::alloc::Global;
 use std::io::SeekFrom;
 
-/// These bytes without the first `n`. Refused only for want of memory.
+/// Returns these bytes without the first `n`. Fails only if an allocation fails.
 pub(crate) fn after_first(alloc: Global, bytes: &[u8], n: u64) -> Result<ByteText, OutOfMemory>
     ensures { IfOk result (λ rest. rest ≡ drop n bytes.now) }
 {
@@ -30,7 +30,7 @@ pub(crate) fn after_first(alloc: Global, bytes: &[u8], n: u64) -> Result<ByteTex
     Ok(ByteText::new(Vec::from_slice(alloc, rest)?))
 }
 
-/// The buffered bytes from a new offset on, where that lies ahead. Refused only for want of memory.
+/// Returns the buffered bytes from a new offset on, if it lies ahead. Fails only if an allocation fails.
 fn sought_bytes(alloc: Global, from: u64, to: u64, bytes: &[u8]) -> Result<ByteText, OutOfMemory>
     ensures { IfOk result (λ rest. rest ≡ sought_bytes from to bytes.now) }
 {
@@ -40,7 +40,7 @@ fn sought_bytes(alloc: Global, from: u64, to: u64, bytes: &[u8]) -> Result<ByteT
     Ok(no_bytes(alloc))
 }
 
-/// A buffered file stands elsewhere, with these bytes and this read under way.
+/// Replaces the buffered file in a slot, with these bytes and this read in flight.
 #[tactic(auto, using(crate::proofs::SlotSets::set_twice))]
 pub(crate) fn rebuffer(
     site: &mut Site,
@@ -50,7 +50,7 @@ pub(crate) fn rebuffer(
     reading: Option<u64>,
 )
     requires { slot < length site.old.slots }
-    ensures { site.new ≡ rebuffered slot site.old (slot_at site.old slot) file bytes reading }
+    ensures { site.new ≡ with_buffer_at slot site.old (slot_at site.old slot) file bytes reading }
 {
     match take_slot(site, slot) {
         Slot::Buffered(_, buffer) => {
@@ -68,8 +68,11 @@ pub(crate) fn rebuffer(
     }
 }
 
-/// Sets the offset of the buffered file in a slot; the read under way is let go where it moves. Refused only for want
-/// of memory; the site is as it was then.
+/// Sets the offset of the buffered file in a slot. The read in flight is abandoned if the offset changes.
+///
+/// # Errors
+///
+/// `OutOfMemory` if an allocation fails; `site` is unchanged.
 #[tactic(auto, using(crate::proofs::SlotSets::set_same))]
 pub fn begin_buf_seek(
     alloc: Global,
@@ -80,9 +83,9 @@ pub fn begin_buf_seek(
     requires { slot < length site.old.slots }
     ensures goes { (place : ℕ) (facts : FactsValue) → IfOk result (λ o.
         BeginsByPlan (call.BufSeek slot position) place site.old site.new facts (step.Done o)) }
-    ensures err { OnErr result (site.new ≡ site.old) }
+    ensures unchanged { OnErr result (site.new ≡ site.old) }
     ensures sound { (facts : FactsValue) → KeepsSite facts site.old site.new }
-    ensures pends { Fewer site.old site.new }
+    ensures pends { AwaitsNoMore site.old site.new }
 {
     let Slot::Buffered(file, buffer) = slot_of(site, slot) else {
         return Ok(Outcome::NoFile);

@@ -1,10 +1,10 @@
-//! `buf_write` and `buf_write_all`: WRITEs whose statuses are left for later, within the limit of what is pending.
+//! `buf_write` and `buf_write_all`: WRITEs whose statuses are left for later, within the limit of pending bytes.
 ghost use Rattle.std.specs.Prelude.{◌≡◌, ◌<◌, ◌≤◌, ◌-◌, ◌^◌, [], Some, None, length, drop, min, IfOk};
 ghost use Rattle.sftp_model.specs.Slots.{slot_at};
 ghost use Rattle.plan_model.specs.declared.call.Call.TheVariants as call;
 ghost use Rattle.plan_model.specs.Moves.{on_buffered};
-ghost use Rattle.plan_model.specs.BufferPlans.{after_write, buf_write_all_next, pending, with_capacity};
-ghost use Rattle.plan_runner.specs.Ran.{BegunBuffered, Continued, Defers};
+ghost use Rattle.plan_model.specs.BufferPlans.{after_write, buf_write_all_next, pending_bytes, with_capacity};
+ghost use Rattle.plan_runner.specs.Ran.{BegunBuffered, ContinuesByPlan, DefersWrite};
 ghost use Rattle.plan_runner.specs.declared.next.Running.TheVariants as running;
 ghost use Rattle.plan_runner.specs.Buffers.{running_after, must_wait, rest_of, sent_next};
 ghost use Rattle.plan_runner.specs.Deferrals.{IsDeferral, settled_next, settled_site};
@@ -22,12 +22,14 @@ use sftp_values::Items;
 use ssh_encoding::OutOfMemory;
 use std::alloc::Global;
 
-/// A WRITE that is to be deferred, before the slot is changed; or why none is asked.
+/// A WRITE that is to be deferred, before the slot is changed; or the reason why none is asked.
+///
+/// Used in `begin_buf_write`.
 #[derive(Debug, Drop)]
 pub enum Deferral {
     /// The call is wrong by itself.
     Refused(Outcome),
-    /// What is asked, how the call goes on, and what the slot holds after it.
+    /// The request, the state in which the call continues, and the contents of the slot after it.
     Asked {
         asked: Asked,
         running: Running,
@@ -35,10 +37,10 @@ pub enum Deferral {
     },
 }
 
-/// The bytes of these deferred writes.
+/// Returns the number of bytes of these deferred writes.
 fn pending_len(writes: &[(u64, u32)]) -> u64
-    requires { pending writes.now < 2 ^ 64 }
-    ensures { result ≡ pending writes.now }
+    requires { pending_bytes writes.now < 2 ^ 64 }
+    ensures { result ≡ pending_bytes writes.now }
 {
     let mut sum = 0;
     let mut rest = writes;
@@ -53,9 +55,9 @@ fn pending_len(writes: &[(u64, u32)]) -> u64
     }
 }
 
-/// Whether the oldest of these writes must make way for the next.
+/// Returns true if the oldest of these writes must be taken out before the next.
 fn must_wait(writes: &[(u64, u32)], facts: &Facts) -> bool
-    requires { pending writes.now ≤ facts.now.write_limit }
+    requires { pending_bytes writes.now ≤ facts.now.write_limit }
     ensures { result ≡ must_wait facts.now.write_limit writes.now }
 {
     let limit = facts.write_limit;
@@ -65,18 +67,18 @@ fn must_wait(writes: &[(u64, u32)], facts: &Facts) -> bool
     }
 }
 
-/// How many of these bytes one WRITE takes beside these deferred writes.
+/// Returns how many of these bytes one WRITE takes beside these deferred writes.
 fn deferrable_len(bytes: &[u8], writes: &[(u64, u32)], facts: &Facts) -> u32
-    requires { pending writes.now ≤ facts.now.write_limit }
+    requires { pending_bytes writes.now ≤ facts.now.write_limit }
     ensures { result ≡ min (length bytes.now)
-        (min facts.now.write_len (facts.now.write_limit - pending writes.now)) }
+        (min facts.now.write_len (facts.now.write_limit - pending_bytes writes.now)) }
 {
     let room = facts.write_limit - pending_len(writes);
     (bytes.len() as u64).min((facts.write_len as u64).min(room)) as u32
 }
 
-/// The buffer after a WRITE of so many bytes, asked at this place beside these deferred writes. Refused only for want
-/// of memory.
+/// Returns the buffer after a WRITE of this many bytes, asked at this place beside these deferred writes. Fails only if
+/// an allocation fails.
 fn after_write(
     alloc: Global,
     buffer: &Buffer,
@@ -98,7 +100,7 @@ fn after_write(
     })
 }
 
-/// The bytes that are left: all, or those from `done` on.
+/// Returns the bytes that are left: all, or those from `done` on.
 fn rest_of(done: Option<usize>, bytes: &[u8]) -> &[u8]
     requires { HasDone done bytes.now }
     ensures { result.now ≡ rest_of done bytes.now }
@@ -109,7 +111,7 @@ fn rest_of(done: Option<usize>, bytes: &[u8]) -> &[u8]
     }
 }
 
-/// How a call goes on after a WRITE of so many bytes.
+/// Returns the state of a call after a WRITE of this many bytes.
 fn running_after(slot: u8, done: Option<usize>, len: u32, bytes: &[u8]) -> Running
     requires done { HasDone done bytes.now }
     requires len { len ≤ length (rest_of done bytes.now) }
@@ -124,7 +126,7 @@ fn running_after(slot: u8, done: Option<usize>, len: u32, bytes: &[u8]) -> Runni
     }
 }
 
-/// The WRITE of the bytes that are left, beside these deferred writes. Refused only for want of memory.
+/// Returns the WRITE of the bytes that are left, beside these deferred writes. Fails only if an allocation fails.
 fn next_deferral(
     alloc: Global,
     slot: u8,
@@ -137,7 +139,7 @@ fn next_deferral(
     facts: &Facts,
 ) -> Result<Deferral, OutOfMemory>
     requires done { HasDone done bytes.now }
-    requires limit { pending writes.now ≤ facts.now.write_limit }
+    requires limit { pending_bytes writes.now ≤ facts.now.write_limit }
     ensures { IfOk result (IsDeferral slot done file.now (record buffer.now { deferred = writes.now })
         bytes.now place facts.now) }
 {
@@ -185,8 +187,8 @@ fn settle(slot: u8, deferral: Deferral, site: &mut Site) -> Next
     }
 }
 
-/// Writes the bytes that are left to the buffered file in a slot, or awaits the oldest status where the window is
-/// full. Refused only for want of memory; the site is as it was then.
+/// Writes the bytes that are left to the buffered file in a slot, or awaits the oldest status if the window is full.
+/// Fails only if an allocation fails; `site` is unchanged.
 fn send(
     alloc: Global,
     slot: u8,
@@ -199,7 +201,7 @@ fn send(
     requires slot { slot < length site.old.slots }
     requires done { HasDone done bytes.now }
     requires within { AreWithin facts.now site.old }
-    ensures { Defers (λ own answers. on_buffered (slot_at site.old slot) site.old (λ file buffer.
+    ensures { DefersWrite (λ own answers. on_buffered (slot_at site.old slot) site.old (λ file buffer.
         with_capacity slot file buffer site.old facts.now answers (sent_next slot done file bytes.now facts.now own answers)))
         slot bytes.now place site.old site.new facts.now result }
 {
@@ -214,8 +216,11 @@ fn send(
     Ok(settle(slot, deferral, site))
 }
 
-/// Writes the first of these bytes to the buffered file in a slot. Refused only for want of memory; the site is as it
-/// was then.
+/// Writes the first of these bytes to the buffered file in a slot.
+///
+/// # Errors
+///
+/// `OutOfMemory` if an allocation fails; `site` is unchanged.
 pub fn begin_buf_write(
     alloc: Global,
     slot: u8,
@@ -240,8 +245,11 @@ pub fn begin_buf_write(
     send(alloc, slot, None, bytes, place, site, facts)
 }
 
-/// Writes the bytes from `done` on to the buffered file in a slot, one WRITE after another. Refused only for want of
-/// memory; the site is as it was then.
+/// Writes the bytes from `done` on to the buffered file in a slot, one WRITE after another.
+///
+/// # Errors
+///
+/// `OutOfMemory` if an allocation fails; `site` is unchanged.
 pub fn defer_rest(
     alloc: Global,
     slot: u8,
@@ -254,7 +262,7 @@ pub fn defer_rest(
     requires slot { slot < length site.old.slots }
     requires done { done ≤ length bytes.now }
     requires within { AreWithin facts.now site.old }
-    ensures { Defers (buf_write_all_next slot (drop done bytes.now) site.old facts.now)
+    ensures { DefersWrite (buf_write_all_next slot (drop done bytes.now) site.old facts.now)
         slot bytes.now place site.old site.new facts.now result }
 {
     let Slot::Buffered(file, _) = slot_of(site, slot) else {
@@ -269,8 +277,11 @@ pub fn defer_rest(
     send(alloc, slot, Some(done), bytes, place, site, facts)
 }
 
-/// Writes all of these bytes to the buffered file in a slot. Refused only for want of memory; the site is as it was
-/// then.
+/// Writes all of these bytes to the buffered file in a slot.
+///
+/// # Errors
+///
+/// `OutOfMemory` if an allocation fails; `site` is unchanged.
 pub fn begin_buf_write_all(
     alloc: Global,
     slot: u8,
@@ -286,8 +297,8 @@ pub fn begin_buf_write_all(
     defer_rest(alloc, slot, 0, bytes, place, site, facts)
 }
 
-/// The reply to the oldest deferred write came at a full window: after a STATUS of OK the next WRITE is asked. Refused
-/// only for want of memory; the site is as it was then.
+/// Processes the reply to the oldest deferred write at a full window: after a STATUS of OK the next WRITE is asked.
+/// Fails only if an allocation fails; `site` is unchanged.
 pub(crate) fn room_replied(
     alloc: Global,
     slot: u8,
@@ -302,7 +313,7 @@ pub(crate) fn room_replied(
     requires full { IsFullAt facts.now (slot_at site.old slot) }
     requires done { HasDone done bytes.now }
     requires within { AreWithin facts.now site.old }
-    ensures { Continued (running.AwaitingRoom slot done) (Some reply) bytes.now place site.old site.new facts.now result }
+    ensures { ContinuesByPlan (running.AwaitingRoom slot done) (Some reply) bytes.now place site.old site.new facts.now result }
 {
     let Slot::Buffered(file, buffer) = slot_of(site, slot) else {
         return Ok(Next::Done(Outcome::NoFile));

@@ -1,24 +1,24 @@
-//! `close`: the slot is emptied, and the last slot of a file sends its CLOSE.
+//! `close`: the slot is cleared, and the last slot of a file sends its CLOSE.
 ghost use Rattle.std.specs.Prelude.{[], ◌≡◌, ◌<◌, true, length, Some, None};
 ghost use Rattle.sftp_model.specs.declared.slot.Site.{Site as SiteValue};
 ghost use Rattle.sftp_model.specs.Slots.{has_grant};
 ghost use Rattle.plan_model.specs.declared.call.Call.TheVariants as call;
 ghost use Rattle.plan_model.specs.FilePlans.{close_grant_next};
-ghost use Rattle.plan_runner.specs.Begun.{Begun};
+ghost use Rattle.plan_runner.specs.Begun.{StartsAsPlanned};
 ghost use Rattle.plan_runner.specs.Runners.{BeginsByPlan, RunsByPlan};
 ghost use Rattle.plan_runner.specs.Cancelling.{BeginsLeaving, LeavesCancelled, NeverWaits};
-ghost use Rattle.plan_runner.specs.Sound.{Sounds};
-ghost use Rattle.plan_runner.specs.Pending.{Pends, pends_idle};
+ghost use Rattle.plan_runner.specs.Sound.{KeepsRunningSound};
+ghost use Rattle.plan_runner.specs.Pending.{PendsAfter, pends_idle};
 ghost use Rattle.plan_runner.specs.Asking.{AwaitsAsked};
 
 use crate::next::{Asked, EndsBy, Next, Running};
 use crate::site::{holds_grant, set_slot, slot_of};
 use sftp_model::{Facts, Outcome, Site, Slot};
 
-/// Closes the file in a slot, which is emptied at once.
+/// Closes the file in a slot, which is cleared at once.
 pub fn begin_close(slot: u8, place: u64, site: &mut Site, facts: &Facts) -> Next
     requires { slot < length site.old.slots }
-    ensures { Begun (call.Close slot) place site.old site.new facts.now result }
+    ensures { StartsAsPlanned (call.Close slot) place site.old site.new facts.now result }
 {
     let grant = match slot_of(site, slot) {
         Slot::Empty => return Next::Done(Outcome::NoFile),
@@ -29,13 +29,13 @@ pub fn begin_close(slot: u8, place: u64, site: &mut Site, facts: &Facts) -> Next
     close_grant(grant, place, site, facts)
 }
 
-/// Closes what no slot has any more.
+/// Closes a grant if no slot has it any more.
 fn close_grant(grant: u64, place: u64, site: &Site, facts: &Facts) -> Next
     ensures asks { NeverWaits result }
     ensures goes { RunsByPlan (close_grant_next grant site.now) place [] site.now facts.now result }
     ensures left { LeavesCancelled (λ own answers. site.now) place [] site.now facts.now result }
-    ensures sound { Sounds [] facts.now site.now site.now result }
-    ensures pends { Pends (pends_idle site.now) place site.now result }
+    ensures sound { KeepsRunningSound [] facts.now site.now site.now result }
+    ensures pends { PendsAfter (pends_idle site.now) place site.now result }
     ensures grants { (old : SiteValue) → has_grant old grant ≡ true → AwaitsAsked None place old result }
 {
     if holds_grant(site, grant) {

@@ -1,14 +1,14 @@
-//! Calls on the file in a slot that make one request, but for reads and writes.
+//! Calls on the file in a slot that make one request, except reads and writes.
 ghost use Rattle.std.specs.Prelude.{◌<◌, length, Some, None};
 ghost use Rattle.sftp_model.specs.declared.outcome.Outcome.TheVariants as outcome;
 ghost use Rattle.sftp_model.specs.declared.slot.Move.TheVariants.{Done};
 ghost use Rattle.plan_model.specs.declared.call.Call.TheVariants as call;
-ghost use Rattle.plan_model.specs.FilePlans.{copied};
+ghost use Rattle.plan_model.specs.FilePlans.{site_after_copy};
 ghost use Rattle.plan_model.specs.Moves.{on_status};
-ghost use Rattle.plan_runner.specs.Ran.{Replied};
-ghost use Rattle.plan_runner.specs.Begun.{Begun};
+ghost use Rattle.plan_runner.specs.Ran.{EndsByReply};
+ghost use Rattle.plan_runner.specs.Begun.{StartsAsPlanned};
 ghost use Rattle.plan_runner.specs.Sound.{CanMove};
-ghost use Rattle.plan_runner.specs.Pending.{Fewer};
+ghost use Rattle.plan_runner.specs.Pending.{AwaitsNoMore};
 ghost use Rattle.plan_runner.specs.Asking.{AwaitsAsked};
 
 use crate::next::{Asked, EndsBy, Next, Running};
@@ -20,7 +20,7 @@ use sftp_model::{Extensions, Facts, FileAt, IoKind, Outcome, Reply, Site, Slot};
 /// Sets the size of the file in a slot.
 pub fn begin_set_len(slot: u8, n: u64, place: u64, site: &Site, facts: &Facts) -> Next
     requires { slot < length site.now.slots }
-    ensures { Begun (call.SetLen slot n) place site.now site.now facts.now result }
+    ensures { StartsAsPlanned (call.SetLen slot n) place site.now site.now facts.now result }
 {
     let Slot::File(file) = slot_of(site, slot) else {
         return Next::Done(Outcome::NoFile);
@@ -40,7 +40,7 @@ pub fn begin_set_len(slot: u8, n: u64, place: u64, site: &Site, facts: &Facts) -
 /// Sets the mode of the file in a slot.
 pub fn begin_set_perm(slot: u8, mode: u32, place: u64, site: &Site, facts: &Facts) -> Next
     requires { slot < length site.now.slots }
-    ensures { Begun (call.SetPerm slot mode) place site.now site.now facts.now result }
+    ensures { StartsAsPlanned (call.SetPerm slot mode) place site.now site.now facts.now result }
 {
     let Slot::File(file) = slot_of(site, slot) else {
         return Next::Done(Outcome::NoFile);
@@ -60,7 +60,7 @@ pub fn begin_set_perm(slot: u8, mode: u32, place: u64, site: &Site, facts: &Fact
 /// Asks for the attributes of the file in a slot.
 pub fn begin_meta(slot: u8, place: u64, site: &Site, facts: &Facts) -> Next
     requires { slot < length site.now.slots }
-    ensures { Begun (call.Meta slot) place site.now site.now facts.now result }
+    ensures { StartsAsPlanned (call.Meta slot) place site.now site.now facts.now result }
 {
     let Slot::File(file) = slot_of(site, slot) else {
         return Next::Done(Outcome::NoFile);
@@ -75,10 +75,10 @@ pub fn begin_meta(slot: u8, place: u64, site: &Site, facts: &Facts) -> Next
     Next::Ask(Asked::Fstat { grant: file.grant }, running)
 }
 
-/// Has the server put the file in a slot on its disk.
+/// Requests that the server writes the file in a slot to its disk.
 pub fn begin_sync(slot: u8, place: u64, site: &Site, facts: &Facts) -> Next
     requires { slot < length site.now.slots }
-    ensures { Begun (call.Sync slot) place site.now site.now facts.now result }
+    ensures { StartsAsPlanned (call.Sync slot) place site.now site.now facts.now result }
 {
     let Slot::File(file) = slot_of(site, slot) else {
         return Next::Done(Outcome::NoFile);
@@ -96,11 +96,11 @@ pub fn begin_sync(slot: u8, place: u64, site: &Site, facts: &Facts) -> Next
     Next::Ask(Asked::Fsync { grant: file.grant }, running)
 }
 
-/// Has the server copy `len` bytes from the file in one slot to that in another, each from where it stands.
+/// Requests that the server copies `len` bytes from the file in one slot to that in another, each from its offset.
 pub fn begin_copy(from: u8, to: u8, len: u64, place: u64, site: &Site, facts: &Facts) -> Next
     requires source { from < length site.now.slots }
     requires target { to < length site.now.slots }
-    ensures { Begun (call.Copy from to len) place site.now site.now facts.now result }
+    ensures { StartsAsPlanned (call.Copy from to len) place site.now site.now facts.now result }
 {
     if from == to {
         return Next::Done(Outcome::NoFile);
@@ -143,7 +143,7 @@ pub fn begin_copy(from: u8, to: u8, len: u64, place: u64, site: &Site, facts: &F
     )
 }
 
-/// What the reply to a `copy-data` gives: after a STATUS of OK both files stand after the bytes.
+/// Processes the reply to a `copy-data`: after a STATUS of OK the offsets of both files are after the bytes.
 #[tactic(auto, using(crate::proofs::Fewer::fewer_files))]
 pub(crate) fn copy_replied(
     from: u8,
@@ -158,7 +158,7 @@ pub(crate) fn copy_replied(
     requires to { to < length site.old.slots }
     requires source { CanMove source len }
     requires target { CanMove target len }
-    ensures { Replied (on_status reply site.old (Done outcome.Done (copied from to source target len site.old)))
+    ensures { EndsByReply (on_status reply site.old (Done outcome.Done (site_after_copy from to source target len site.old)))
         result site.old site.new }
 {
     if let Some(outcome) = failure(reply) {

@@ -1,16 +1,16 @@
-//! `read_all`: what is missing after what was got, again and again.
+//! `read_all`: the bytes missing after those received, repeatedly.
 ghost use Rattle.std.specs.Prelude.{◌≡◌, ◌<◌, [], ◌++◌, length, List, ℕ, Option, Some, None, IfOk};
 ghost use Rattle.sftp_model.specs.declared.reply.Reply.TheVariants as reply;
 ghost use Rattle.sftp_model.specs.declared.slot.Site.{Site as SiteValue};
 ghost use Rattle.plan_model.specs.declared.call.Call.TheVariants as call;
 ghost use Rattle.plan_model.specs.TransferPlans.{missing_next};
-ghost use Rattle.plan_runner.specs.Ran.{Transfers};
+ghost use Rattle.plan_runner.specs.Ran.{ContinuesTransfer};
 ghost use Rattle.plan_runner.specs.declared.next.Running.TheVariants as running;
-ghost use Rattle.plan_runner.specs.Begun.{Begun};
+ghost use Rattle.plan_runner.specs.Begun.{StartsAsPlanned};
 ghost use Rattle.plan_runner.specs.Runners.{RunsByPlan, after, content_after};
 ghost use Rattle.plan_runner.specs.Cancelling.{AsksOffset, LeavesCancelled, left_kept};
-ghost use Rattle.plan_runner.specs.Sound.{CanMove, HasRoom, IsKept, Sounds};
-ghost use Rattle.plan_runner.specs.Pending.{Pends, pends_after, pends_idle};
+ghost use Rattle.plan_runner.specs.Sound.{CanMove, HasRoom, IsKept, KeepsRunningSound};
+ghost use Rattle.plan_runner.specs.Pending.{PendsAfter, pends_after, pends_idle};
 ghost use Rattle.plan_runner.specs.Asking.{AsksOn, HasGrant};
 
 use crate::next::{Asked, Next, Running};
@@ -23,7 +23,7 @@ use sftp_values::ByteText;
 use ssh_encoding::OutOfMemory;
 use std::alloc::Global;
 
-/// Reads `left` bytes of the file in a slot after those that were got; the site may be any.
+/// Reads `left` bytes of the file in a slot after those received; the site may be any.
 pub fn read_rest(
     slot: u8,
     file: FileAt,
@@ -37,8 +37,8 @@ pub fn read_rest(
     ensures left { (site : SiteValue) (bytes : List ℕ) → IsKept (Some slot) file site
         → LeavesCancelled (left_kept (Some slot) site facts.now) place bytes site facts.now result }
     ensures sound { (site : SiteValue) (bytes : List ℕ) → IsKept (Some slot) file site
-        → Sounds bytes facts.now site site result }
-    ensures pends { (site : SiteValue) → Pends (pends_idle site) place site result }
+        → KeepsRunningSound bytes facts.now site site result }
+    ensures pends { (site : SiteValue) → PendsAfter (pends_idle site) place site result }
     ensures asks { AsksOffset result }
     ensures grants { (site : SiteValue) (opened : Option ℕ) → HasGrant site opened file.grant
         → AsksOn opened place site result }
@@ -71,7 +71,7 @@ pub fn read_rest(
     )
 }
 
-/// No bytes.
+/// Returns no bytes.
 pub(crate) fn no_bytes(alloc: Global) -> ByteText
     ensures { result ≡ [] }
 {
@@ -88,7 +88,7 @@ pub fn begin_read_all(
     facts: &Facts,
 ) -> Next
     requires { slot < length site.now.slots }
-    ensures { Begun (call.ReadAll slot n) place site.now site.now facts.now result }
+    ensures { StartsAsPlanned (call.ReadAll slot n) place site.now site.now facts.now result }
 {
     let Slot::File(file) = slot_of(site, slot) else {
         return Next::Done(Outcome::NoFile);
@@ -96,7 +96,7 @@ pub fn begin_read_all(
     read_rest(slot, *file, no_bytes(alloc), n, place, facts)
 }
 
-/// The bytes of both, in this order. Refused only for want of memory.
+/// Returns the bytes of both, in this order. Fails only if an allocation fails.
 pub(crate) fn joined(got: ByteText, more: &[u8]) -> Result<ByteText, OutOfMemory>
     ensures { IfOk result (λ bytes. bytes ≡ got ++ more.now) }
 {
@@ -105,8 +105,8 @@ pub(crate) fn joined(got: ByteText, more: &[u8]) -> Result<ByteText, OutOfMemory
     Ok(ByteText::new(bytes))
 }
 
-/// A DATA came: the file stands after its bytes, and the rest is read. Refused only for want of memory; the site is
-/// as it was then.
+/// Processes a DATA: the file's offset is moved past its bytes, and the rest is read. Fails only if an allocation
+/// fails; `site` is unchanged.
 fn content_came(
     alloc: Global,
     awaited: u64,
@@ -122,7 +122,7 @@ fn content_came(
 ) -> Result<Next, OutOfMemory>
     requires kept { IsKept (Some slot) file site.old }
     requires room { CanMove file (length content) }
-    ensures { (bytes : List ℕ) → Transfers (content_after slot file got left content site.old facts.now) (Some slot) None
+    ensures { (bytes : List ℕ) → ContinuesTransfer (content_after slot file got left content site.old facts.now) (Some slot) None
         (pends_after (running.Gathering awaited slot file got left len) site.old (Some (reply.Content content)))
         bytes place site.old site.new facts.now result }
 {
@@ -138,8 +138,8 @@ fn content_came(
     Ok(next)
 }
 
-/// The reply to a READ came: after a DATA the rest is read. Refused only for want of memory; the site is as it was
-/// then.
+/// Processes the reply to a READ: after a DATA the rest is read. Fails only if an allocation fails; `site` is
+/// unchanged.
 pub(crate) fn content_replied(
     alloc: Global,
     awaited: u64,
@@ -156,7 +156,7 @@ pub(crate) fn content_replied(
     requires kept { IsKept (Some slot) file site.old }
     requires room { HasRoom file reply }
     ensures { (bytes : List ℕ)
-        → Transfers (after (running.Gathering awaited slot file got left len) bytes site.old facts.now (Some reply))
+        → ContinuesTransfer (after (running.Gathering awaited slot file got left len) bytes site.old facts.now (Some reply))
         (Some slot) None (pends_after (running.Gathering awaited slot file got left len) site.old (Some reply))
         bytes place site.old site.new facts.now result }
 {

@@ -1,9 +1,9 @@
-//! Whatever the call: how a call that was begun goes on.
+//! The continuation of a started call, for any call.
 ghost use Rattle.std.specs.Prelude.{◌≡◌, Some, None};
-ghost use Rattle.plan_runner.specs.Ran.{Continued};
-ghost use Rattle.plan_runner.specs.Runners.{after, awaited, place_in};
+ghost use Rattle.plan_runner.specs.Ran.{ContinuesByPlan};
+ghost use Rattle.plan_runner.specs.Runners.{after, awaited_place, place_in};
 ghost use Rattle.plan_window.specs.Windows.{first_of};
-ghost use Rattle.plan_runner.specs.Sound.{AreWithin, AsksWithin, Fits, Sound};
+ghost use Rattle.plan_runner.specs.Sound.{AreWithin, AsksWithin, IsFittingReply, IsRunningSound};
 
 use crate::buffer_flush::flush_replied;
 use crate::buffer_read::filled_replied;
@@ -24,9 +24,9 @@ use ssh_encoding::OutOfMemory;
 use std::alloc::Global;
 
 impl Running {
-    /// The place of the request whose reply is awaited.
+    /// Returns the place of the request whose reply is awaited.
     pub fn awaited(&self, site: &Site) -> Option<u64>
-        ensures { result ≡ awaited self.now site.now }
+        ensures { result ≡ awaited_place self.now site.now }
     {
         match self {
             Running::ReadingWhole { window, .. } => first_place(window),
@@ -38,7 +38,7 @@ impl Running {
     }
 }
 
-/// The place of the first READ of a window that was not answered.
+/// Returns the place of the first READ of a window that was not answered.
 fn first_place(window: &Window) -> Option<u64>
     ensures { result ≡ place_in (first_of window.now.waiting) }
 {
@@ -48,8 +48,12 @@ fn first_place(window: &Window) -> Option<u64>
     }
 }
 
-/// A call goes on after the reply that it awaited, if it awaited one. `bytes` are those that the call carries, and
-/// what is asked next bears the place. Refused only for want of memory; the site is as it was then.
+/// Continues a call after the reply that it awaited, if it awaited one. `bytes` are those that the call carries, and
+/// the next request has `place`.
+///
+/// # Errors
+///
+/// `OutOfMemory` if an allocation fails; `site` is unchanged.
 pub fn go_on(
     alloc: Global,
     running: Running,
@@ -59,11 +63,11 @@ pub fn go_on(
     site: &mut Site,
     facts: &Facts,
 ) -> Result<Next, OutOfMemory>
-    requires sound { Sound running bytes.now site.old facts.now }
+    requires sound { IsRunningSound running bytes.now site.old facts.now }
     requires within { AreWithin facts.now site.old }
-    requires fits { Fits running reply }
+    requires fits { IsFittingReply running reply }
     requires range { AsksWithin facts.now (after running bytes.now site.old facts.now reply) }
-    ensures { Continued running reply bytes.now place site.old site.new facts.now result }
+    ensures { ContinuesByPlan running reply bytes.now place site.old site.new facts.now result }
 {
     let Some(reply) = reply else {
         return go_on_at_once(alloc, running, bytes, place, site, facts);
@@ -147,7 +151,7 @@ pub fn go_on(
     }
 }
 
-/// A call goes on that awaits no reply. Refused only for want of memory; the site is as it was then.
+/// Continues a call that awaits no reply. Fails only if an allocation fails; `site` is unchanged.
 fn go_on_at_once(
     alloc: Global,
     running: Running,
@@ -156,10 +160,10 @@ fn go_on_at_once(
     site: &mut Site,
     facts: &Facts,
 ) -> Result<Next, OutOfMemory>
-    requires sound { Sound running bytes.now site.old facts.now }
+    requires sound { IsRunningSound running bytes.now site.old facts.now }
     requires within { AreWithin facts.now site.old }
     requires range { AsksWithin facts.now (after running bytes.now site.old facts.now None) }
-    ensures { Continued running None bytes.now place site.old site.new facts.now result }
+    ensures { ContinuesByPlan running None bytes.now place site.old site.new facts.now result }
 {
     match running {
         Running::Deferred { count, .. } => Ok(Next::Done(Outcome::Count(count as u64))),

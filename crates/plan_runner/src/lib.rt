@@ -1,5 +1,5 @@
-//! The plans of calls as runners over plain values: what a call asks first, and how it goes on with each reply.
-//! Nothing here sends or receives: the lane that runs a call submits what is asked and hands in each reply.
+//! The plans of calls as runners over plain values: the first request of a call, and its continuation with each reply.
+//! This crate sends and receives nothing: the lane that runs a call submits its requests and passes in each reply.
 #![tactic(auto)]
 
 mod buffer_flush;

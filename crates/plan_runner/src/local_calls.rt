@@ -9,7 +9,7 @@ ghost use Rattle.std.specs.declared.io.traits.SeekFrom.TheVariants as position;
 ghost use Rattle.plan_runner.specs.declared.next.Next.TheVariants as step;
 ghost use Rattle.plan_runner.specs.Runners.{BeginsByPlan, by_seek};
 ghost use Rattle.plan_runner.specs.Sound.{KeepsSite};
-ghost use Rattle.plan_runner.specs.Pending.{Fewer};
+ghost use Rattle.plan_runner.specs.Pending.{AwaitsNoMore};
 
 use crate::replies::refused;
 use crate::site::{set_slot, slot_of};
@@ -19,7 +19,7 @@ use ssh_encoding::OutOfMemory;
 use std::alloc::Global;
 use std::io::SeekFrom;
 
-/// The offset that lies so far from another.
+/// Returns the offset at this distance from another.
 fn moved_by(offset: u64, by: i64) -> Result<u64, IoKind>
     ensures { (site : SiteValue) (go : ℕ → Move)
         → on_seek (position.Current by) offset site go ≡ by_seek result site go }
@@ -31,7 +31,11 @@ fn moved_by(offset: u64, by: i64) -> Result<u64, IoKind>
     offset.checked_add(distance).ok_or(IoKind::SeekOverflow)
 }
 
-/// The offset that a seek from another leads to.
+/// Returns the offset that a seek from another leads to.
+///
+/// # Errors
+///
+/// The `IoKind` of a seek that is refused.
 pub fn sought(offset: u64, position: SeekFrom) -> Result<u64, IoKind>
     ensures { (site : SiteValue) (go : ℕ → Move)
         → on_seek position offset site go ≡ by_seek result site go }
@@ -50,7 +54,7 @@ pub fn begin_seek(slot: u8, position: SeekFrom, site: &mut Site) -> Outcome
     ensures goes { (place : ℕ) (facts : FactsValue)
         → BeginsByPlan (call.Seek slot position) place site.old site.new facts (step.Done result) }
     ensures sound { (facts : FactsValue) → KeepsSite facts site.old site.new }
-    ensures pends { Fewer site.old site.new }
+    ensures pends { AwaitsNoMore site.old site.new }
 {
     let Slot::File(file) = slot_of(site, slot) else {
         return Outcome::NoFile;
@@ -64,7 +68,7 @@ pub fn begin_seek(slot: u8, position: SeekFrom, site: &mut Site) -> Outcome
     Outcome::Count(offset)
 }
 
-/// Puts the file in one slot into another as well; what stood there is let go.
+/// Puts the file in one slot into another as well; the old contents of that slot are released.
 #[tactic(auto, using(crate::proofs::Fewer::fewer_file))]
 pub fn begin_clone(from: u8, to: u8, site: &mut Site) -> Outcome
     requires source { from < length site.old.slots }
@@ -72,7 +76,7 @@ pub fn begin_clone(from: u8, to: u8, site: &mut Site) -> Outcome
     ensures goes { (place : ℕ) (facts : FactsValue)
         → BeginsByPlan (call.CloneFile from to) place site.old site.new facts (step.Done result) }
     ensures sound { (facts : FactsValue) → KeepsSite facts site.old site.new }
-    ensures pends { Fewer site.old site.new }
+    ensures pends { AwaitsNoMore site.old site.new }
 {
     if from == to {
         return Outcome::NoFile;
@@ -92,7 +96,7 @@ pub fn begin_buffer(alloc: Global, slot: u8, len: u32, site: &mut Site) -> Outco
     ensures goes { (place : ℕ) (facts : FactsValue)
         → BeginsByPlan (call.Buffer slot len) place site.old site.new facts (step.Done result) }
     ensures sound { (facts : FactsValue) → KeepsSite facts site.old site.new }
-    ensures pends { Fewer site.old site.new }
+    ensures pends { AwaitsNoMore site.old site.new }
 {
     let Slot::File(file) = slot_of(site, slot) else {
         return Outcome::NoFile;
@@ -108,14 +112,14 @@ pub fn begin_buffer(alloc: Global, slot: u8, len: u32, site: &mut Site) -> Outco
     Outcome::Done
 }
 
-/// Takes the buffer from the file in a slot: its bytes and the replies that it awaits are let go.
+/// Removes the buffer from the file in a slot: its bytes and the replies that it awaits are dropped.
 #[tactic(auto, using(crate::proofs::Fewer::fewer_file))]
 pub fn begin_unbuffer(slot: u8, site: &mut Site) -> Outcome
     requires { slot < length site.old.slots }
     ensures goes { (place : ℕ) (facts : FactsValue)
         → BeginsByPlan (call.Unbuffer slot) place site.old site.new facts (step.Done result) }
     ensures sound { (facts : FactsValue) → KeepsSite facts site.old site.new }
-    ensures pends { Fewer site.old site.new }
+    ensures pends { AwaitsNoMore site.old site.new }
 {
     let Slot::Buffered(file, _) = slot_of(site, slot) else {
         return Outcome::NoFile;
@@ -125,13 +129,17 @@ pub fn begin_unbuffer(slot: u8, site: &mut Site) -> Outcome
     Outcome::Done
 }
 
-/// Sets the working directory, to the path as it is. Refused only for want of memory; the site is as it was then.
+/// Sets the working directory, to the path as it is.
+///
+/// # Errors
+///
+/// `OutOfMemory` if an allocation fails; `site` is unchanged.
 pub fn begin_cwd(alloc: Global, path: &[u8], site: &mut Site) -> Result<Outcome, OutOfMemory>
     ensures goes { (place : ℕ) (facts : FactsValue) → IfOk result (λ o.
         BeginsByPlan (call.Cwd path.now) place site.old site.new facts (step.Done o)) }
-    ensures err { OnErr result (site.new ≡ site.old) }
+    ensures unchanged { OnErr result (site.new ≡ site.old) }
     ensures sound { (facts : FactsValue) → KeepsSite facts site.old site.new }
-    ensures pends { Fewer site.old site.new }
+    ensures pends { AwaitsNoMore site.old site.new }
 {
     site.directory = RemotePath::new(Vec::from_slice(alloc, path)?);
     Ok(Outcome::Done)

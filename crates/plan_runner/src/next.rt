@@ -1,8 +1,11 @@
+//! The states and steps of runners.
 use plan_window::Window;
 use sftp_model::{Content, FileAt, FileAttrs, NameEntry, OpenFlags, Outcome, Request};
 use sftp_values::{ByteText, Items};
 
 /// A request whose handles are named by the places of their grants: of the OPENs that brought them.
+///
+/// Example: `crates/test_library/src/sites.rt`.
 #[derive(Debug, Drop)]
 pub enum Asked {
     /// A request without a handle.
@@ -50,18 +53,22 @@ pub enum Asked {
     },
 }
 
-/// What ends a call of one request that changes no slot.
+/// The kind of reply that ends a call of one request that changes no slot.
+///
+/// Used in `crates/plan_runner/src/single.rt`.
 #[derive(Clone, Copy, Debug, PartialEq, Eq)]
 pub enum EndsBy {
     /// A STATUS of OK.
     Status,
-    /// ATTRS, which are told.
+    /// ATTRS, which the call returns.
     Attributes,
-    /// A NAME, of which the first name is told.
+    /// A NAME, of which the call returns the first name.
     FirstName,
 }
 
-/// A call that was begun. Its place is that of the request whose reply is awaited.
+/// A started call. Its place is that of the request whose reply is awaited.
+///
+/// Example: `crates/test_library/src/sites.rt`.
 #[derive(Debug, Drop)]
 pub enum Running {
     /// The reply ends the call, and no slot changes.
@@ -82,7 +89,7 @@ pub enum Running {
         file: FileAt,
         len: u32,
     },
-    /// A READ of a `read_all` awaits its reply: these bytes were got, and so many are left.
+    /// A READ of a `read_all` awaits its reply: the bytes received so far, and the number of those left.
     Gathering {
         place: u64,
         slot: u8,
@@ -109,23 +116,25 @@ pub enum Running {
     OpeningToWrite {
         place: u64,
     },
-    /// The OPEN of a whole read awaits its reply; so many DATA may come.
+    /// The OPEN of a whole read awaits its reply; this many DATA may come.
     OpeningToRead {
         place: u64,
         bound: u32,
     },
-    /// A whole read goes on by its window: the reply to the first READ under way is awaited, and so many DATA may come.
+    /// A whole read continues by its window: the reply to the first READ in flight is awaited, and this many DATA may
+    /// come.
     ReadingWhole {
         grant: u64,
         bound: u32,
         window: Window,
     },
-    /// An OPENDIR awaits its reply; so many READDIRs may follow.
+    /// An OPENDIR awaits its reply; this many READDIRs may follow.
     OpeningDirectory {
         place: u64,
         bound: u32,
     },
-    /// A READDIR awaits its reply: these entries were got, and so many READDIRs may be made with this one.
+    /// A READDIR awaits its reply: the entries received so far, and the number of READDIRs that may be made, including
+    /// this one.
     Listing {
         place: u64,
         grant: u64,
@@ -153,7 +162,7 @@ pub enum Running {
         done: usize,
     },
     /// A READ that fills the buffer from this offset on awaits its reply, for the first `n` of its bytes. It is the
-    /// call's own, or was under way.
+    /// call's own, or was in flight before.
     FillingBuffer {
         slot: u8,
         n: u64,
@@ -171,12 +180,14 @@ pub enum Running {
     },
 }
 
-/// What a call does next.
+/// The next step of a call.
+///
+/// Example: `crates/test_library/src/sites.rt`.
 #[derive(Debug, Drop)]
 pub enum Next {
-    /// This request is asked, and the call goes on with its reply.
+    /// This request is asked, and the call continues with its reply.
     Ask(Asked, Running),
-    /// The reply that the call awaits hasn't come.
+    /// The reply that the call awaits has not come.
     Wait(Running),
     /// The call ends.
     Done(Outcome),

@@ -1,14 +1,14 @@
-//! `open`: the path as it is, and what the slot held is let go.
+//! `open`: the path as it is; the old contents of the slot are released.
 ghost use Rattle.std.specs.Prelude.{[], ◌≡◌, ◌<◌, length, Some, None, IfOk};
 ghost use Rattle.sftp_model.specs.declared.slot.Move.TheVariants.{Done};
 ghost use Rattle.sftp_model.specs.declared.slot.Facts.{Facts as FactsValue};
 ghost use Rattle.plan_model.specs.declared.call.Call.TheVariants as call;
-ghost use Rattle.plan_model.specs.FilePlans.{open_request, opened, opened_file};
-ghost use Rattle.plan_runner.specs.Begun.{Begun};
+ghost use Rattle.plan_model.specs.FilePlans.{open_request, opened_move, opened_file};
+ghost use Rattle.plan_runner.specs.Begun.{StartsAsPlanned};
 ghost use Rattle.plan_runner.specs.Runners.{BeginsByPlan};
 ghost use Rattle.plan_runner.specs.Cancelling.{BeginsLeaving};
-ghost use Rattle.plan_runner.specs.Sound.{KeepsSite, Sounds};
-ghost use Rattle.plan_runner.specs.Pending.{Fewer, Pends, pends_idle};
+ghost use Rattle.plan_runner.specs.Sound.{KeepsSite, KeepsRunningSound};
+ghost use Rattle.plan_runner.specs.Pending.{AwaitsNoMore, PendsAfter, pends_idle};
 ghost use Rattle.plan_runner.specs.Asking.{AwaitsAsked};
 
 use crate::next::{Asked, Next, Running};
@@ -24,7 +24,7 @@ use sftp_model::{
 use ssh_encoding::OutOfMemory;
 use std::alloc::Global;
 
-/// The OPEN of a path.
+/// Returns the OPEN of a path.
 pub(crate) fn open_request(path: RemotePath, flags: OpenFlags) -> Request
     ensures { result ≡ open_request flags path }
 {
@@ -35,7 +35,8 @@ pub(crate) fn open_request(path: RemotePath, flags: OpenFlags) -> Request
     }
 }
 
-/// A file that the OPEN at a place opened: it may be read and written by its flags, and stands at its start.
+/// Returns the file that the OPEN at a place opened: it may be read and written according to its flags, and its offset
+/// is its start.
 pub fn opened_file(flags: OpenFlags, grant: u64) -> FileAt
     ensures { result ≡ opened_file flags grant }
 {
@@ -47,7 +48,11 @@ pub fn opened_file(flags: OpenFlags, grant: u64) -> FileAt
     }
 }
 
-/// Opens a file for a slot. Refused only for want of memory.
+/// Opens a file for a slot.
+///
+/// # Errors
+///
+/// `OutOfMemory` if an allocation fails.
 pub fn begin_open(
     alloc: Global,
     slot: u8,
@@ -58,7 +63,7 @@ pub fn begin_open(
     facts: &Facts,
 ) -> Result<Next, OutOfMemory>
     requires { slot < length site.now.slots }
-    ensures { IfOk result (Begun (call.OpenFile slot options path.now) place site.now site.now facts.now) }
+    ensures { IfOk result (StartsAsPlanned (call.OpenFile slot options path.now) place site.now site.now facts.now) }
 {
     let flags = options.flags();
     let path = RemotePath::new(Vec::from_slice(alloc, path)?);
@@ -72,7 +77,7 @@ pub fn begin_open(
     ))
 }
 
-/// What the reply to an OPEN gives: the file of a HANDLE stands in its slot then.
+/// Processes the reply to an OPEN: the file of a HANDLE is then in its slot.
 #[tactic(auto, using(crate::proofs::Fewer::fewer_file))]
 pub(crate) fn open_replied(
     grant: u64,
@@ -82,9 +87,9 @@ pub(crate) fn open_replied(
     site: &mut Site,
 ) -> Outcome
     requires { slot < length site.old.slots }
-    ensures gives { opened slot flags site.old grant reply ≡ Done result site.new }
+    ensures gives { opened_move slot flags site.old grant reply ≡ Done result site.new }
     ensures sound { (facts : FactsValue) → KeepsSite facts site.old site.new }
-    ensures fewer { Fewer site.old site.new }
+    ensures fewer { AwaitsNoMore site.old site.new }
 {
     match reply {
         Reply::Handle(_handle) => {

@@ -5,8 +5,8 @@ ghost use Rattle.plan_runner.specs.Pending.{own_place};
 use crate::next::Running;
 
 impl Running {
-    /// The place of the call's own request whose reply is awaited. None where the call awaits the reply that a slot
-    /// awaits, or none.
+    /// Returns the place of the call's own request whose reply is awaited. Returns `None` if the call awaits the reply
+    /// that a slot awaits, or none.
     pub fn own_place(&self) -> Option<u64>
         ensures { result ≡ own_place (Some self.now) }
     {

@@ -2,7 +2,7 @@
 ghost use Rattle.std.specs.Prelude.{◌≡◌, IfOk};
 ghost use Rattle.plan_model.specs.declared.call.Call.TheVariants as call;
 ghost use Rattle.plan_model.specs.PathPlans.{canonical_request, rename_request};
-ghost use Rattle.plan_runner.specs.Begun.{Begun};
+ghost use Rattle.plan_runner.specs.Begun.{StartsAsPlanned};
 
 use crate::next::{EndsBy, Next};
 use crate::replies::unsupported;
@@ -11,7 +11,11 @@ use sftp_model::{Extensions, Facts, RemotePath, Request, Site};
 use ssh_encoding::OutOfMemory;
 use std::alloc::Global;
 
-/// Asks for the attributes of what a path names. Refused only for want of memory.
+/// Asks for the attributes of a path; for a link, those of its target.
+///
+/// # Errors
+///
+/// `OutOfMemory` if an allocation fails.
 pub fn begin_stat(
     alloc: Global,
     path: &[u8],
@@ -19,14 +23,18 @@ pub fn begin_stat(
     site: &Site,
     facts: &Facts,
 ) -> Result<Next, OutOfMemory>
-    ensures { IfOk result (Begun (call.Stat path.now) place site.now site.now facts.now) }
+    ensures { IfOk result (StartsAsPlanned (call.Stat path.now) place site.now site.now facts.now) }
 {
     let path = site.directory.join(alloc, path)?;
     let request = Request::Stat { path };
     Ok(ask_path(request, EndsBy::Attributes, place, site, facts))
 }
 
-/// Asks for the attributes of what a path names, and of a link itself. Refused only for want of memory.
+/// Asks for the attributes of a path; for a link, those of the link itself.
+///
+/// # Errors
+///
+/// `OutOfMemory` if an allocation fails.
 pub fn begin_lstat(
     alloc: Global,
     path: &[u8],
@@ -34,14 +42,18 @@ pub fn begin_lstat(
     site: &Site,
     facts: &Facts,
 ) -> Result<Next, OutOfMemory>
-    ensures { IfOk result (Begun (call.Lstat path.now) place site.now site.now facts.now) }
+    ensures { IfOk result (StartsAsPlanned (call.Lstat path.now) place site.now site.now facts.now) }
 {
     let path = site.directory.join(alloc, path)?;
     let request = Request::Lstat { path };
     Ok(ask_path(request, EndsBy::Attributes, place, site, facts))
 }
 
-/// Sets the size and the mode of what a path names, each where it is given. Refused only for want of memory.
+/// Sets the size and the mode of a path, if they are given.
+///
+/// # Errors
+///
+/// `OutOfMemory` if an allocation fails.
 pub fn begin_set_stat(
     alloc: Global,
     path: &[u8],
@@ -51,7 +63,7 @@ pub fn begin_set_stat(
     site: &Site,
     facts: &Facts,
 ) -> Result<Next, OutOfMemory>
-    ensures { IfOk result (Begun (call.SetStat path.now size mode) place site.now site.now facts.now) }
+    ensures { IfOk result (StartsAsPlanned (call.SetStat path.now size mode) place site.now site.now facts.now) }
 {
     let path = site.directory.join(alloc, path)?;
     let request = Request::Setstat {
@@ -61,7 +73,11 @@ pub fn begin_set_stat(
     Ok(ask_path(request, EndsBy::Status, place, site, facts))
 }
 
-/// Removes a file. Refused only for want of memory.
+/// Removes a file.
+///
+/// # Errors
+///
+/// `OutOfMemory` if an allocation fails.
 pub fn begin_remove(
     alloc: Global,
     path: &[u8],
@@ -69,14 +85,18 @@ pub fn begin_remove(
     site: &Site,
     facts: &Facts,
 ) -> Result<Next, OutOfMemory>
-    ensures { IfOk result (Begun (call.Remove path.now) place site.now site.now facts.now) }
+    ensures { IfOk result (StartsAsPlanned (call.Remove path.now) place site.now site.now facts.now) }
 {
     let path = site.directory.join(alloc, path)?;
     let request = Request::Remove { path };
     Ok(ask_path(request, EndsBy::Status, place, site, facts))
 }
 
-/// Makes a directory. Refused only for want of memory.
+/// Creates a directory.
+///
+/// # Errors
+///
+/// `OutOfMemory` if an allocation fails.
 pub fn begin_mkdir(
     alloc: Global,
     path: &[u8],
@@ -84,7 +104,7 @@ pub fn begin_mkdir(
     site: &Site,
     facts: &Facts,
 ) -> Result<Next, OutOfMemory>
-    ensures { IfOk result (Begun (call.Mkdir path.now) place site.now site.now facts.now) }
+    ensures { IfOk result (StartsAsPlanned (call.Mkdir path.now) place site.now site.now facts.now) }
 {
     let path = site.directory.join(alloc, path)?;
     let request = Request::Mkdir {
@@ -94,7 +114,11 @@ pub fn begin_mkdir(
     Ok(ask_path(request, EndsBy::Status, place, site, facts))
 }
 
-/// Removes a directory. Refused only for want of memory.
+/// Removes a directory.
+///
+/// # Errors
+///
+/// `OutOfMemory` if an allocation fails.
 pub fn begin_rmdir(
     alloc: Global,
     path: &[u8],
@@ -102,14 +126,18 @@ pub fn begin_rmdir(
     site: &Site,
     facts: &Facts,
 ) -> Result<Next, OutOfMemory>
-    ensures { IfOk result (Begun (call.Rmdir path.now) place site.now site.now facts.now) }
+    ensures { IfOk result (StartsAsPlanned (call.Rmdir path.now) place site.now site.now facts.now) }
 {
     let path = site.directory.join(alloc, path)?;
     let request = Request::Rmdir { path };
     Ok(ask_path(request, EndsBy::Status, place, site, facts))
 }
 
-/// Asks what a link names. Refused only for want of memory.
+/// Asks for the target of a link.
+///
+/// # Errors
+///
+/// `OutOfMemory` if an allocation fails.
 pub fn begin_read_link(
     alloc: Global,
     path: &[u8],
@@ -117,14 +145,14 @@ pub fn begin_read_link(
     site: &Site,
     facts: &Facts,
 ) -> Result<Next, OutOfMemory>
-    ensures { IfOk result (Begun (call.ReadLink path.now) place site.now site.now facts.now) }
+    ensures { IfOk result (StartsAsPlanned (call.ReadLink path.now) place site.now site.now facts.now) }
 {
     let path = site.directory.join(alloc, path)?;
     let request = Request::Readlink { path };
     Ok(ask_path(request, EndsBy::FirstName, place, site, facts))
 }
 
-/// The request that asks for the absolute form of a path: by the extension that knows `~`, where it is offered.
+/// Returns the request for the absolute form of a path: by the extension that knows `~`, if it is offered.
 fn canonical_request(path: RemotePath, facts: &Facts) -> Request
     ensures { result ≡ canonical_request facts.now path }
 {
@@ -134,7 +162,11 @@ fn canonical_request(path: RemotePath, facts: &Facts) -> Request
     Request::Realpath { path }
 }
 
-/// Asks for the absolute form of a path. Refused only for want of memory.
+/// Asks for the absolute form of a path.
+///
+/// # Errors
+///
+/// `OutOfMemory` if an allocation fails.
 pub fn begin_canonicalize(
     alloc: Global,
     path: &[u8],
@@ -142,14 +174,14 @@ pub fn begin_canonicalize(
     site: &Site,
     facts: &Facts,
 ) -> Result<Next, OutOfMemory>
-    ensures { IfOk result (Begun (call.Canonicalize path.now) place site.now site.now facts.now) }
+    ensures { IfOk result (StartsAsPlanned (call.Canonicalize path.now) place site.now site.now facts.now) }
 {
     let path = site.directory.join(alloc, path)?;
     let request = canonical_request(path, facts);
     Ok(ask_path(request, EndsBy::FirstName, place, site, facts))
 }
 
-/// The request that renames: the one that replaces, where the server offers it.
+/// Returns the request that renames: the one that replaces, if the server offers it.
 fn rename_request(old: RemotePath, to: RemotePath, facts: &Facts) -> Request
     ensures { result ≡ rename_request facts.now old to }
 {
@@ -159,7 +191,11 @@ fn rename_request(old: RemotePath, to: RemotePath, facts: &Facts) -> Request
     Request::Rename { old, to }
 }
 
-/// Renames. Refused only for want of memory.
+/// Renames a file or directory.
+///
+/// # Errors
+///
+/// `OutOfMemory` if an allocation fails.
 pub fn begin_rename(
     alloc: Global,
     old: &[u8],
@@ -168,7 +204,7 @@ pub fn begin_rename(
     site: &Site,
     facts: &Facts,
 ) -> Result<Next, OutOfMemory>
-    ensures { IfOk result (Begun (call.Rename old.now to.now) place site.now site.now facts.now) }
+    ensures { IfOk result (StartsAsPlanned (call.Rename old.now to.now) place site.now site.now facts.now) }
 {
     let old = site.directory.join(alloc, old)?;
     let to = site.directory.join(alloc, to)?;
@@ -176,7 +212,11 @@ pub fn begin_rename(
     Ok(ask_path(request, EndsBy::Status, place, site, facts))
 }
 
-/// Makes a symbolic link at `dst` that names `src`. Refused only for want of memory.
+/// Creates a symbolic link at `dst` whose target is `src`.
+///
+/// # Errors
+///
+/// `OutOfMemory` if an allocation fails.
 pub fn begin_symlink(
     alloc: Global,
     src: &[u8],
@@ -185,7 +225,7 @@ pub fn begin_symlink(
     site: &Site,
     facts: &Facts,
 ) -> Result<Next, OutOfMemory>
-    ensures { IfOk result (Begun (call.Symlink src.now dst.now) place site.now site.now facts.now) }
+    ensures { IfOk result (StartsAsPlanned (call.Symlink src.now dst.now) place site.now site.now facts.now) }
 {
     let src = site.directory.join(alloc, src)?;
     let dst = site.directory.join(alloc, dst)?;
@@ -193,7 +233,11 @@ pub fn begin_symlink(
     Ok(ask_path(request, EndsBy::Status, place, site, facts))
 }
 
-/// Gives a file a second name, where the server offers it. Refused only for want of memory.
+/// Gives a file a second name, if the server offers it.
+///
+/// # Errors
+///
+/// `OutOfMemory` if an allocation fails.
 pub fn begin_hard_link(
     alloc: Global,
     old: &[u8],
@@ -202,7 +246,7 @@ pub fn begin_hard_link(
     site: &Site,
     facts: &Facts,
 ) -> Result<Next, OutOfMemory>
-    ensures { IfOk result (Begun (call.HardLink old.now to.now) place site.now site.now facts.now) }
+    ensures { IfOk result (StartsAsPlanned (call.HardLink old.now to.now) place site.now site.now facts.now) }
 {
     if !offers(facts, Extensions::HARDLINK) {
         return Ok(Next::Done(unsupported(Extensions::HARDLINK)));

@@ -4,11 +4,11 @@ ghost use Rattle.sftp_model.specs.declared.slot.Move.TheVariants.{Done};
 ghost use Rattle.sftp_model.specs.declared.slot.Facts.{Facts as FactsValue};
 ghost use Rattle.plan_model.specs.declared.call.Call.TheVariants as call;
 ghost use Rattle.plan_model.specs.TransferPlans.{was_read};
-ghost use Rattle.plan_runner.specs.Begun.{Begun};
+ghost use Rattle.plan_runner.specs.Begun.{StartsAsPlanned};
 ghost use Rattle.plan_runner.specs.Runners.{BeginsByPlan};
 ghost use Rattle.plan_runner.specs.Cancelling.{BeginsLeaving};
-ghost use Rattle.plan_runner.specs.Sound.{HasRoom, KeepsSite, Sounds};
-ghost use Rattle.plan_runner.specs.Pending.{Fewer, Pends, pends_idle};
+ghost use Rattle.plan_runner.specs.Sound.{HasRoom, KeepsSite, KeepsRunningSound};
+ghost use Rattle.plan_runner.specs.Pending.{AwaitsNoMore, PendsAfter, pends_idle};
 ghost use Rattle.plan_runner.specs.Asking.{AwaitsAsked};
 
 use crate::next::{Asked, Next, Running};
@@ -23,7 +23,7 @@ use std::alloc::Global;
 /// Reads at most `n` bytes of the file in a slot.
 pub fn begin_read(slot: u8, n: u32, place: u64, site: &Site, facts: &Facts) -> Next
     requires { slot < length site.now.slots }
-    ensures { Begun (call.Read slot n) place site.now site.now facts.now result }
+    ensures { StartsAsPlanned (call.Read slot n) place site.now site.now facts.now result }
 {
     let Slot::File(file) = slot_of(site, slot) else {
         return Next::Done(Outcome::NoFile);
@@ -55,8 +55,8 @@ pub fn begin_read(slot: u8, n: u32, place: u64, site: &Site, facts: &Facts) -> N
     )
 }
 
-/// What the reply to a READ gives: the file stands after the bytes of a DATA. Refused only for want of memory; the
-/// site is as it was then.
+/// Processes the reply to a READ: the file's offset is moved past the bytes of a DATA. Fails only if an allocation
+/// fails; `site` is unchanged.
 #[tactic(auto, using(crate::proofs::Fewer::fewer_file))]
 pub(crate) fn read_replied(
     alloc: Global,
@@ -68,9 +68,9 @@ pub(crate) fn read_replied(
     requires within { slot < length site.old.slots }
     requires room { HasRoom file reply }
     ensures gives { IfOk result (λ o. was_read slot file site.old reply ≡ Done o site.new) }
-    ensures err { OnErr result (site.new ≡ site.old) }
+    ensures unchanged { OnErr result (site.new ≡ site.old) }
     ensures sound { (facts : FactsValue) → KeepsSite facts site.old site.new }
-    ensures fewer { Fewer site.old site.new }
+    ensures fewer { AwaitsNoMore site.old site.new }
 {
     match reply {
         Reply::Content(bytes) => {

@@ -1,4 +1,4 @@
-//! What replies and refusals make of a call.
+//! The outcomes of replies and refusals.
 ghost use Rattle.std.specs.Prelude.{◌≡◌, Some};
 ghost use Rattle.sftp_model.specs.declared.outcome.Outcome.TheVariants as outcome;
 ghost use Rattle.sftp_model.specs.declared.error.Error.TheVariants as error;
@@ -9,21 +9,21 @@ use sftp_model::numbers::SSH_FX_OK;
 use sftp_model::{Error, Extensions, IoKind, Outcome, Reply};
 use sftp_values::ByteText;
 
-/// The outcome of a call that is wrong by itself: no request is made for it.
+/// Returns the outcome of a call that is wrong by itself: no request is made for it.
 pub fn refused(why: IoKind) -> Outcome
     ensures { result ≡ outcome.Refused (error.IOError why) }
 {
     Outcome::Refused(Error::IOError(why))
 }
 
-/// The outcome of a call that needs an extension which the server doesn't offer.
+/// Returns the outcome of a call that needs an extension that the server does not offer.
 pub fn unsupported(extension: Extensions) -> Outcome
     ensures { result ≡ outcome.Refused (error.UnsupportedExtension extension) }
 {
     Outcome::Refused(Error::UnsupportedExtension(extension))
 }
 
-/// The outcome of a refusal by a STATUS.
+/// Returns the outcome of a refusal by a STATUS.
 pub fn status_refusal(code: u32, message: ByteText, language: ByteText) -> Outcome
     ensures { result ≡ outcome.Refused (error.SftpError code message language) }
 {
@@ -34,7 +34,7 @@ pub fn status_refusal(code: u32, message: ByteText, language: ByteText) -> Outco
     })
 }
 
-/// The outcome of a reply that refuses.
+/// Returns the outcome of a reply that refuses.
 pub fn refusal(reply: Reply) -> Outcome
     ensures { result ≡ refusal_of reply }
 {
@@ -48,7 +48,7 @@ pub fn refusal(reply: Reply) -> Outcome
     }
 }
 
-/// Whether a reply is a STATUS of OK.
+/// Returns true if a reply is a STATUS of OK.
 pub fn is_good(reply: &Reply) -> bool
     ensures { result ≡ is_good (Some reply.now) }
 {
@@ -58,7 +58,7 @@ pub fn is_good(reply: &Reply) -> bool
     }
 }
 
-/// None where a STATUS of OK lets the call go on, and else the outcome of the refusal.
+/// Returns `None` if the call continues after a STATUS of OK; otherwise the outcome of the refusal.
 pub fn failure(reply: Reply) -> Option<Outcome>
     ensures { result ≡ failure_of reply }
 {

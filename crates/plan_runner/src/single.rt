@@ -7,8 +7,8 @@ ghost use Rattle.plan_model.specs.Moves.{ask_path, by_reply, offers, told_by, do
 ghost use Rattle.plan_model.specs.PathPlans.{named_by, set_attributes};
 ghost use Rattle.plan_runner.specs.Runners.{RunsByPlan, ended_by};
 ghost use Rattle.plan_runner.specs.Cancelling.{LeavesCancelled};
-ghost use Rattle.plan_runner.specs.Sound.{Sounds};
-ghost use Rattle.plan_runner.specs.Pending.{Pends, pends_idle};
+ghost use Rattle.plan_runner.specs.Sound.{KeepsRunningSound};
+ghost use Rattle.plan_runner.specs.Pending.{PendsAfter, pends_idle};
 ghost use Rattle.plan_runner.specs.Asking.{AwaitsAsked, IsPlain};
 
 use crate::next::{Asked, EndsBy, Next, Running};
@@ -22,21 +22,21 @@ use sftp_wire::request_len;
 use ssh_encoding::OutOfMemory;
 use std::alloc::Global;
 
-/// Whether the body of a request passes the greatest length.
+/// Returns true if the body of a request is longer than the greatest length.
 pub fn is_too_long(request: &Request) -> bool
     ensures { result ≡ is_too_long request.now }
 {
     request_len(request).is_none()
 }
 
-/// Whether the server offers an extension.
+/// Returns true if the server offers an extension.
 pub fn offers(facts: &Facts, extension: Extensions) -> bool
     ensures { result ≡ offers facts.now extension.0 }
 {
     facts.extensions.bits() & extension.bits() != 0
 }
 
-/// The attributes that a call sets: a size, and the twelve low bits of a mode.
+/// Returns the attributes that a call sets: a size, and the twelve low bits of a mode.
 pub fn attributes(size: Option<u64>, mode: Option<u32>) -> FileAttrs
     ensures { result ≡ set_attributes size mode }
 {
@@ -48,13 +48,13 @@ pub fn attributes(size: Option<u64>, mode: Option<u32>) -> FileAttrs
     }
 }
 
-/// Asks a request of one path or two, where it fits a frame; its reply ends the call.
+/// Asks a request of one path or two, if it fits a frame; its reply ends the call.
 pub fn ask_path(request: Request, by: EndsBy, place: u64, site: &Site, facts: &Facts) -> Next
     ensures goes { RunsByPlan (by_reply (ask_path request site.now) (ended_by by site.now))
         place [] site.now facts.now result }
     ensures left { LeavesCancelled (λ own answers. site.now) place [] site.now facts.now result }
-    ensures sound { Sounds [] facts.now site.now site.now result }
-    ensures pends { Pends (pends_idle site.now) place site.now result }
+    ensures sound { KeepsRunningSound [] facts.now site.now site.now result }
+    ensures pends { PendsAfter (pends_idle site.now) place site.now result }
     ensures asks { IsPlain request → AwaitsAsked None place site.now result }
 {
     if is_too_long(&request) {
@@ -63,7 +63,7 @@ pub fn ask_path(request: Request, by: EndsBy, place: u64, site: &Site, facts: &F
     Next::Ask(Asked::Plain(request), Running::Ending { place, by })
 }
 
-/// What a STATUS gives to a call that has nothing else to tell.
+/// Returns the outcome of a STATUS for a call that returns no value.
 fn status_told(reply: Reply) -> Outcome
     ensures { (site : SiteValue) → done_by site reply ≡ Done result site }
 {
@@ -82,7 +82,7 @@ fn status_told(reply: Reply) -> Outcome
     }
 }
 
-/// What ATTRS tell.
+/// Returns the outcome of ATTRS.
 fn attributes_told(reply: Reply) -> Outcome
     ensures { (site : SiteValue) → told_by site reply ≡ Done result site }
 {
@@ -97,7 +97,7 @@ fn attributes_told(reply: Reply) -> Outcome
     }
 }
 
-/// What the first name of a NAME tells.
+/// Returns the outcome of the first name of a NAME. Fails only if an allocation fails.
 fn first_name_told(alloc: Global, reply: Reply) -> Result<Outcome, OutOfMemory>
     ensures { (site : SiteValue) → IfOk result (λ o. named_by site reply ≡ Done o site) }
 {
@@ -115,7 +115,11 @@ fn first_name_told(alloc: Global, reply: Reply) -> Result<Outcome, OutOfMemory>
     }
 }
 
-/// What the reply tells that ends a call. Refused only for want of memory.
+/// Returns the outcome of the reply that ends a call.
+///
+/// # Errors
+///
+/// `OutOfMemory` if an allocation fails.
 pub fn ending_told(alloc: Global, by: EndsBy, reply: Reply) -> Result<Outcome, OutOfMemory>
     ensures { (site : SiteValue) → IfOk result (λ o. ended_by by site reply ≡ Done o site) }
 {

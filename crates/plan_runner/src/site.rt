@@ -1,4 +1,4 @@
-//! What a lane holds, slot by slot.
+//! The slots of a lane's site.
 ghost use Rattle.std.specs.Prelude.{◌≡◌, ◌<◌, length};
 ghost use Rattle.std.specs.List.{list_any};
 ghost use Rattle.sftp_model.specs.declared.slot.Slot.TheVariants as slots;
@@ -7,7 +7,7 @@ ghost use Rattle.sftp_model.specs.Slots.{slot_at, with_slot, has_grant, slot_has
 
 use sftp_model::{Site, Slot};
 
-/// What a slot holds.
+/// Returns the contents of a slot.
 pub fn slot_of(site: &Site, slot: u8) -> &Slot
     requires { slot < length site.now.slots }
     ensures { result.now ≡ slot_at site.now slot }
@@ -15,7 +15,7 @@ pub fn slot_of(site: &Site, slot: u8) -> &Slot
     &site.slots.as_slice()[slot as usize]
 }
 
-/// Puts something into a slot.
+/// Sets the contents of a slot.
 pub fn set_slot(site: &mut Site, slot: u8, held: Slot)
     requires { slot < length site.old.slots }
     ensures { site.new ≡ with_slot site.old slot held }
@@ -23,7 +23,7 @@ pub fn set_slot(site: &mut Site, slot: u8, held: Slot)
     site.slots.set(slot as usize, held);
 }
 
-/// Takes out what a slot holds.
+/// Takes out the contents of a slot.
 pub fn take_slot(site: &mut Site, slot: u8) -> Slot
     requires { slot < length site.old.slots }
     ensures answer { result ≡ slot_at site.old slot }
@@ -32,7 +32,7 @@ pub fn take_slot(site: &mut Site, slot: u8) -> Slot
     site.slots.replace(slot as usize, Slot::Empty)
 }
 
-/// The place of the oldest write that the file in a slot has deferred.
+/// Returns the place of the oldest write that the file in a slot has deferred.
 pub fn oldest_deferred(site: &Site, slot: u8) -> Option<u64>
     ensures { result ≡ oldest_in (slot_at site.now slot) }
 {
@@ -42,7 +42,7 @@ pub fn oldest_deferred(site: &Site, slot: u8) -> Option<u64>
     }
 }
 
-/// The place of the oldest write that a slot's file has deferred.
+/// Returns the place of the oldest write that a slot's file has deferred.
 fn oldest_in(slot: &Slot) -> Option<u64>
     ensures { result ≡ oldest_in slot.now }
 {
@@ -56,7 +56,7 @@ fn oldest_in(slot: &Slot) -> Option<u64>
     }
 }
 
-/// The place of the read under way of the file in a slot.
+/// Returns the place of the read in flight of the file in a slot.
 pub fn reading_under_way(site: &Site, slot: u8) -> Option<u64>
     ensures { result ≡ reading_in (slot_at site.now slot) }
 {
@@ -66,7 +66,7 @@ pub fn reading_under_way(site: &Site, slot: u8) -> Option<u64>
     }
 }
 
-/// The place of the read under way of a slot's file.
+/// Returns the place of the read in flight of a slot's file.
 fn reading_in(slot: &Slot) -> Option<u64>
     ensures { result ≡ reading_in slot.now }
 {
@@ -77,14 +77,14 @@ fn reading_in(slot: &Slot) -> Option<u64>
     }
 }
 
-/// Whether some slot has the grant of this place.
+/// Returns true if some slot has the grant of this place.
 pub fn holds_grant(site: &Site, grant: u64) -> bool
     ensures { result ≡ has_grant site.now grant }
 {
     some_has(site.slots.as_slice(), grant)
 }
 
-/// Whether a slot has the grant of this place.
+/// Returns true if a slot has the grant of this place.
 pub fn slot_has(slot: &Slot, grant: u64) -> bool
     ensures { result ≡ slot_has grant slot.now }
 {
@@ -95,7 +95,7 @@ pub fn slot_has(slot: &Slot, grant: u64) -> bool
     }
 }
 
-/// Whether some of these slots has the grant of this place.
+/// Returns true if some of these slots has the grant of this place.
 pub fn some_has(slots: &[Slot], grant: u64) -> bool
     ensures { result ≡ list_any (slot_has grant) slots.now }
 {

@@ -1,4 +1,4 @@
-//! Calls that open a path, work on it and end: `fs_write` and `list`. No slot holds what they open.
+//! Calls that open a path, work on it and end: `fs_write` and `list`. No slot holds the files that they open.
 ghost use Rattle.std.specs.Prelude.{◌≡◌, ◌++◌, [], List, ℕ, Some, None, IfOk};
 ghost use Rattle.sftp_model.specs.declared.slot.Facts.{Facts as FactsValue};
 ghost use Rattle.sftp_model.specs.declared.slot.Site.{Site as SiteValue};
@@ -8,11 +8,11 @@ ghost use Rattle.plan_model.specs.FilePlans.{opened_file};
 ghost use Rattle.plan_model.specs.Moves.{handle_of};
 ghost use Rattle.plan_model.specs.WholePlans.{entries_next, to_replace};
 ghost use Rattle.plan_runner.specs.declared.next.Running.TheVariants as running;
-ghost use Rattle.plan_runner.specs.Begun.{Begun};
+ghost use Rattle.plan_runner.specs.Begun.{StartsAsPlanned};
 ghost use Rattle.plan_runner.specs.Runners.{BeginsByPlan, RunsByPlan, after};
 ghost use Rattle.plan_runner.specs.Cancelling.{BeginsLeaving, LeavesCancelled};
-ghost use Rattle.plan_runner.specs.Sound.{Sounds};
-ghost use Rattle.plan_runner.specs.Pending.{Pends, pends_after, pends_idle};
+ghost use Rattle.plan_runner.specs.Sound.{KeepsRunningSound};
+ghost use Rattle.plan_runner.specs.Pending.{PendsAfter, pends_after, pends_idle};
 ghost use Rattle.plan_runner.specs.Asking.{AwaitsAsked, AsksOn, opened_after};
 
 use crate::next::{Asked, Next, Running};
@@ -29,21 +29,25 @@ use sftp_values::Items;
 use ssh_encoding::OutOfMemory;
 use std::alloc::Global;
 
-/// The flags of a file that is made or emptied.
+/// Returns the flags of a file that is created or truncated.
 fn to_replace() -> OpenFlags
     ensures { result ≡ to_replace }
 {
     OpenFlags::from_bits_retain(SSH_FXF_WRITE + SSH_FXF_CREAT + SSH_FXF_TRUNC)
 }
 
-/// The file that the OPEN of a whole write at a place opened.
+/// Returns the file that the OPEN of a whole write at a place opened.
 fn file_to_replace(grant: u64) -> FileAt
     ensures { result ≡ opened_file to_replace grant }
 {
     opened_file(to_replace(), grant)
 }
 
-/// Makes or empties a file, and writes all of the bytes. Refused only for want of memory.
+/// Creates or truncates a file, and writes all of the bytes.
+///
+/// # Errors
+///
+/// `OutOfMemory` if an allocation fails.
 pub fn begin_fs_write(
     alloc: Global,
     path: &[u8],
@@ -52,7 +56,7 @@ pub fn begin_fs_write(
     site: &Site,
     facts: &Facts,
 ) -> Result<Next, OutOfMemory>
-    ensures { IfOk result (Begun (call.FsWrite path.now bytes.now) place site.now site.now facts.now) }
+    ensures { IfOk result (StartsAsPlanned (call.FsWrite path.now bytes.now) place site.now site.now facts.now) }
 {
     let path = site.directory.join(alloc, path)?;
     let request = open_request(path, to_replace());
@@ -62,7 +66,8 @@ pub fn begin_fs_write(
     Ok(Next::Ask(Asked::Plain(request), Running::OpeningToWrite { place }))
 }
 
-/// The reply to the OPEN of a whole write came: after a HANDLE the bytes are written. Refused only for want of memory.
+/// Processes the reply to the OPEN of a whole write: after a HANDLE the bytes are written. Fails only if an allocation
+/// fails.
 pub(crate) fn whole_opened(
     alloc: Global,
     grant: u64,
@@ -76,8 +81,8 @@ pub(crate) fn whole_opened(
         place bytes.now site.now facts.now) }
     ensures left { IfOk result (LeavesCancelled (λ own answers. site.now)
         place bytes.now site.now facts.now) }
-    ensures sound { IfOk result (Sounds bytes.now facts.now site.now site.now) }
-    ensures pends { IfOk result (Pends (pends_after (running.OpeningToWrite grant) site.now (Some reply)) place site.now) }
+    ensures sound { IfOk result (KeepsRunningSound bytes.now facts.now site.now site.now) }
+    ensures pends { IfOk result (PendsAfter (pends_after (running.OpeningToWrite grant) site.now (Some reply)) place site.now) }
     ensures asks { IfOk result (AsksOn (opened_after (running.OpeningToWrite grant) (Some reply)) place site.now) }
 {
     match reply {
@@ -94,7 +99,11 @@ pub(crate) fn whole_opened(
     }
 }
 
-/// Lists a directory by at most `bound` READDIRs. Refused only for want of memory.
+/// Lists a directory by at most `bound` READDIRs.
+///
+/// # Errors
+///
+/// `OutOfMemory` if an allocation fails.
 pub fn begin_list(
     alloc: Global,
     path: &[u8],
@@ -103,7 +112,7 @@ pub fn begin_list(
     site: &Site,
     facts: &Facts,
 ) -> Result<Next, OutOfMemory>
-    ensures { IfOk result (Begun (call.List path.now bound) place site.now site.now facts.now) }
+    ensures { IfOk result (StartsAsPlanned (call.List path.now bound) place site.now site.now facts.now) }
 {
     let path = site.directory.join(alloc, path)?;
     let request = Request::Opendir { path };
@@ -116,15 +125,15 @@ pub fn begin_list(
     ))
 }
 
-/// Asks for further entries of a directory after those that were got; the site may be any.
+/// Asks for further entries of a directory after those received; the site may be any.
 fn list_rest(grant: u64, got: Items<NameEntry>, bound: u32, place: u64) -> Next
     ensures goes { (site : SiteValue) (facts : FactsValue) (bytes : List ℕ)
         → RunsByPlan (λ own answers. entries_next (handle_of (answers grant)) got bound site own answers) place bytes site facts result }
     ensures left { (site : SiteValue) (facts : FactsValue) (bytes : List ℕ)
         → LeavesCancelled (λ own answers. site) place bytes site facts result }
     ensures sound { (site : SiteValue) (facts : FactsValue) (bytes : List ℕ)
-        → Sounds bytes facts site site result }
-    ensures pends { (site : SiteValue) → Pends (pends_idle site) place site result }
+        → KeepsRunningSound bytes facts site site result }
+    ensures pends { (site : SiteValue) → PendsAfter (pends_idle site) place site result }
     ensures asks { (site : SiteValue) → AsksOn (Some grant) place site result }
 {
     if bound == 0 {
@@ -141,14 +150,14 @@ fn list_rest(grant: u64, got: Items<NameEntry>, bound: u32, place: u64) -> Next
     )
 }
 
-/// No entries.
+/// Returns no entries.
 fn no_entries(alloc: Global) -> Items<NameEntry>
     ensures { result ≡ [] }
 {
     Items::new(Vec::new(alloc))
 }
 
-/// The reply to an OPENDIR came: after a HANDLE the entries are asked for.
+/// Processes the reply to an OPENDIR: after a HANDLE the entries are asked for.
 pub(crate) fn directory_opened(
     alloc: Global,
     grant: u64,
@@ -163,8 +172,8 @@ pub(crate) fn directory_opened(
         place bytes site.now facts.now result }
     ensures left { (bytes : List ℕ) → LeavesCancelled (λ own answers. site.now)
         place bytes site.now facts.now result }
-    ensures sound { (bytes : List ℕ) → Sounds bytes facts.now site.now site.now result }
-    ensures pends { Pends (pends_after (running.OpeningDirectory grant bound) site.now
+    ensures sound { (bytes : List ℕ) → KeepsRunningSound bytes facts.now site.now site.now result }
+    ensures pends { PendsAfter (pends_after (running.OpeningDirectory grant bound) site.now
         (Some reply)) place site.now result }
     ensures asks { AsksOn (opened_after (running.OpeningDirectory grant bound) (Some reply)) place site.now result }
 {
@@ -179,7 +188,7 @@ pub(crate) fn directory_opened(
     }
 }
 
-/// The entries of both, in this order. Refused only for want of memory.
+/// Returns the entries of both, in this order. Fails only if an allocation fails.
 fn joined(got: Items<NameEntry>, more: Items<NameEntry>) -> Result<Items<NameEntry>, OutOfMemory>
     ensures { IfOk result (λ entries. entries ≡ got ++ more) }
 {
@@ -189,7 +198,7 @@ fn joined(got: Items<NameEntry>, more: Items<NameEntry>) -> Result<Items<NameEnt
     Ok(Items::new(entries))
 }
 
-/// A NAME came: further entries are asked for, unless it has none. Refused only for want of memory.
+/// Processes a NAME: further entries are asked for, unless it has none. Fails only if an allocation fails.
 fn names_came(
     awaited: u64,
     grant: u64,
@@ -205,8 +214,8 @@ fn names_came(
         site.now facts.now (Some (reply.Names names))) place bytes site.now facts.now) }
     ensures left { (bytes : List ℕ) → IfOk result (LeavesCancelled (λ own answers. site.now)
         place bytes site.now facts.now) }
-    ensures sound { (bytes : List ℕ) → IfOk result (Sounds bytes facts.now site.now site.now) }
-    ensures pends { IfOk result (Pends (pends_after (running.Listing awaited grant got bound) site.now
+    ensures sound { (bytes : List ℕ) → IfOk result (KeepsRunningSound bytes facts.now site.now site.now) }
+    ensures pends { IfOk result (PendsAfter (pends_after (running.Listing awaited grant got bound) site.now
         (Some (reply.Names names))) place site.now) }
     ensures asks { IfOk result (AsksOn (Some grant) place site.now) }
 {
@@ -218,7 +227,8 @@ fn names_came(
     Ok(list_rest(grant, entries, rest, place))
 }
 
-/// The reply to a READDIR came: after a NAME with entries further ones are asked for. Refused only for want of memory.
+/// Processes the reply to a READDIR: after a NAME with entries further ones are asked for. Fails only if an allocation
+/// fails.
 pub(crate) fn names_replied(
     awaited: u64,
     grant: u64,
@@ -234,8 +244,8 @@ pub(crate) fn names_replied(
         place bytes site.now facts.now) }
     ensures left { (bytes : List ℕ) → IfOk result (LeavesCancelled (λ own answers. site.now)
         place bytes site.now facts.now) }
-    ensures sound { (bytes : List ℕ) → IfOk result (Sounds bytes facts.now site.now site.now) }
-    ensures pends { IfOk result (Pends (pends_after (running.Listing awaited grant got bound) site.now (Some reply)) place site.now) }
+    ensures sound { (bytes : List ℕ) → IfOk result (KeepsRunningSound bytes facts.now site.now site.now) }
+    ensures pends { IfOk result (PendsAfter (pends_after (running.Listing awaited grant got bound) site.now (Some reply)) place site.now) }
     ensures asks { IfOk result (AsksOn (Some grant) place site.now) }
 {
     match reply {

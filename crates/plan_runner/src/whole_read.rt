@@ -1,14 +1,14 @@
-//! `fs_read`: a whole file by several READs under way. No slot holds what it opens.
+//! `fs_read`: a whole file by several READs in flight. No slot holds the file that it opens.
 ghost use Rattle.std.specs.Prelude.{[], ◌≡◌, ◌||◌, ℕ, List, Some, None, true, IfOk};
 ghost use Rattle.sftp_model.specs.declared.slot.Site.{Site as SiteValue};
 ghost use Rattle.plan_model.specs.declared.call.Call.TheVariants as call;
 ghost use Rattle.plan_model.specs.WindowPlans.{brings_content, to_read};
 ghost use Rattle.sftp_model.specs.Answers.{is_end_of_file};
-ghost use Rattle.plan_runner.specs.Ran.{DecidesNext, Meanwhile, ReadsWhole};
+ghost use Rattle.plan_runner.specs.Ran.{DecidesNext, ActsWhileWaiting, ReadsWhole};
 ghost use Rattle.plan_runner.specs.declared.next.Running.TheVariants as running;
-ghost use Rattle.plan_runner.specs.Begun.{Begun};
+ghost use Rattle.plan_runner.specs.Begun.{StartsAsPlanned};
 ghost use Rattle.plan_runner.specs.Runners.{after, answered_by, idle};
-ghost use Rattle.plan_runner.specs.Sound.{AsksWithin, Sound};
+ghost use Rattle.plan_runner.specs.Sound.{AsksWithin, IsRunningSound};
 ghost use Rattle.plan_runner.specs.Asking.{opened_after};
 ghost use Rattle.plan_window.specs.Windows.{AsksInRange, FitsFirst, IsSound as IsSoundWindow};
 
@@ -23,14 +23,18 @@ use sftp_model::{Error, Facts, IoKind, OpenFlags, Outcome, Reply, Site};
 use ssh_encoding::OutOfMemory;
 use std::alloc::Global;
 
-/// The flags of a file that is read alone.
+/// Returns the flags of a file that is only read.
 fn to_read() -> OpenFlags
     ensures { result ≡ to_read }
 {
     OpenFlags::from_bits_retain(SSH_FXF_READ)
 }
 
-/// Reads the file at a path, all of it, by at most `bound` READs that a DATA answers. Refused only for want of memory.
+/// Reads the file at a path, all of it, by at most `bound` READs that a DATA answers.
+///
+/// # Errors
+///
+/// `OutOfMemory` if an allocation fails.
 pub fn begin_fs_read(
     alloc: Global,
     path: &[u8],
@@ -39,7 +43,7 @@ pub fn begin_fs_read(
     site: &Site,
     facts: &Facts,
 ) -> Result<Next, OutOfMemory>
-    ensures { IfOk result (Begun (call.FsRead path.now bound) place site.now site.now facts.now) }
+    ensures { IfOk result (StartsAsPlanned (call.FsRead path.now bound) place site.now site.now facts.now) }
 {
     let path = site.directory.join(alloc, path)?;
     let request = open_request(path, to_read());
@@ -52,8 +56,8 @@ pub fn begin_fs_read(
     ))
 }
 
-/// What a whole read does where the reply to its first READ under way hasn't come: it asks for more, waits or ends. The
-/// site may be any. Refused only for want of memory.
+/// Decides the next step of a whole read if the reply to its first READ in flight has not come: it asks for more, waits
+/// or ends. The site may be any. Fails only if an allocation fails.
 fn decide(
     alloc: Global,
     grant: u64,
@@ -89,8 +93,8 @@ fn decide(
     }
 }
 
-/// A whole read goes on by its window: it awaits the reply to the first READ under way, and decides where none is.
-/// Refused only for want of memory.
+/// Continues a whole read by its window: it awaits the reply to the first READ in flight, and decides if there is none.
+/// Fails only if an allocation fails.
 pub(crate) fn read_on(
     alloc: Global,
     grant: u64,
@@ -116,7 +120,7 @@ pub(crate) fn read_on(
     }
 }
 
-/// The reply to the OPEN of a whole read came: after a HANDLE the file is read. Refused only for want of memory.
+/// Processes the reply to the OPEN of a whole read: after a HANDLE the file is read. Fails only if an allocation fails.
 pub(crate) fn read_opened(
     alloc: Global,
     grant: u64,
@@ -144,7 +148,7 @@ pub(crate) fn read_opened(
     }
 }
 
-/// Whether a reply is a DATA or the end of the file.
+/// Returns true if a reply is a DATA or the end of the file.
 fn is_absorbed(reply: &Reply) -> bool
     ensures { result ≡ (brings_content reply.now || is_end_of_file reply.now) }
 {
@@ -155,7 +159,7 @@ fn is_absorbed(reply: &Reply) -> bool
     }
 }
 
-/// The reply to the first READ under way came: a refusal ends the call. Refused only for want of memory.
+/// Processes the reply to the first READ in flight: a refusal ends the call. Fails only if an allocation fails.
 pub(crate) fn window_replied(
     alloc: Global,
     grant: u64,
@@ -183,8 +187,12 @@ pub(crate) fn window_replied(
     read_on(alloc, grant, bound, window, place, site, facts)
 }
 
-/// What a call does while the reply that it awaits is missing: a whole read may ask for more, and any other waits.
-/// Refused only for want of memory.
+/// Returns the next step of a call while the reply that it awaits is missing: a whole read may ask for more, and any
+/// other call waits.
+///
+/// # Errors
+///
+/// `OutOfMemory` if an allocation fails.
 pub fn widen(
     alloc: Global,
     running: Running,
@@ -193,9 +201,9 @@ pub fn widen(
     site: &Site,
     facts: &Facts,
 ) -> Result<Next, OutOfMemory>
-    requires sound { Sound running bytes.now site.now facts.now }
+    requires sound { IsRunningSound running bytes.now site.now facts.now }
     requires range { AsksWithin facts.now (idle running bytes.now site.now facts.now) }
-    ensures { Meanwhile running bytes.now place site.now facts.now result }
+    ensures { ActsWhileWaiting running bytes.now place site.now facts.now result }
 {
     match running {
         Running::ReadingWhole {

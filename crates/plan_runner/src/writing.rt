@@ -5,13 +5,13 @@ ghost use Rattle.sftp_model.specs.declared.slot.Site.{Site as SiteValue};
 ghost use Rattle.plan_model.specs.declared.call.Call.TheVariants as call;
 ghost use Rattle.plan_model.specs.TransferPlans.{joined_parts, part_len, rest_next, was_written};
 ghost use Rattle.plan_runner.specs.declared.next.Running.TheVariants as running;
-ghost use Rattle.plan_runner.specs.Begun.{Begun};
+ghost use Rattle.plan_runner.specs.Begun.{StartsAsPlanned};
 ghost use Rattle.plan_runner.specs.Runners.{RunsByPlan, after, keep_in};
 ghost use Rattle.plan_runner.specs.Cancelling.{LeavesCancelled, left_kept};
-ghost use Rattle.plan_runner.specs.Sound.{CanMove, HasSlot, IsKept, Sounds};
-ghost use Rattle.plan_runner.specs.Pending.{Fewer, Pends, pends_after, pends_idle};
+ghost use Rattle.plan_runner.specs.Sound.{CanMove, HasSlot, IsKept, KeepsRunningSound};
+ghost use Rattle.plan_runner.specs.Pending.{AwaitsNoMore, PendsAfter, pends_after, pends_idle};
 ghost use Rattle.plan_runner.specs.Asking.{opened_after};
-ghost use Rattle.plan_runner.specs.Ran.{AsksRest, Replied, Transfers};
+ghost use Rattle.plan_runner.specs.Ran.{AsksRest, EndsByReply, ContinuesTransfer};
 
 use crate::next::{Asked, Next, Running};
 use crate::replies::{failure, refused};
@@ -21,7 +21,7 @@ use sftp_model::{Content, Facts, FileAt, IoKind, Outcome, Reply, Site, Slot};
 use ssh_encoding::OutOfMemory;
 use std::alloc::Global;
 
-/// These bytes as a content.
+/// Returns these bytes as a content. Fails only if an allocation fails.
 pub(crate) fn content_of(alloc: Global, bytes: &[u8]) -> Result<Content, OutOfMemory>
     ensures { IfOk result (λ c. c ≡ bytes.now) }
 {
@@ -30,7 +30,11 @@ pub(crate) fn content_of(alloc: Global, bytes: &[u8]) -> Result<Content, OutOfMe
     Ok(content)
 }
 
-/// Writes the first of these bytes to the file in a slot. Refused only for want of memory.
+/// Writes the first of these bytes to the file in a slot.
+///
+/// # Errors
+///
+/// `OutOfMemory` if an allocation fails.
 pub fn begin_write(
     alloc: Global,
     slot: u8,
@@ -40,7 +44,7 @@ pub fn begin_write(
     facts: &Facts,
 ) -> Result<Next, OutOfMemory>
     requires { slot < length site.now.slots }
-    ensures { IfOk result (Begun (call.Write slot bytes.now) place site.now site.now facts.now) }
+    ensures { IfOk result (StartsAsPlanned (call.Write slot bytes.now) place site.now site.now facts.now) }
 {
     let Slot::File(file) = slot_of(site, slot) else {
         return Ok(Next::Done(Outcome::NoFile));
@@ -73,7 +77,7 @@ pub fn begin_write(
     ))
 }
 
-/// What the reply to the WRITE of one `write` gives: after a STATUS of OK the file stands after its bytes.
+/// Processes the reply to the WRITE of one `write`: after a STATUS of OK the file's offset is after its bytes.
 #[tactic(auto, using(crate::proofs::Fewer::fewer_file))]
 pub(crate) fn write_replied(
     slot: u8,
@@ -84,7 +88,7 @@ pub(crate) fn write_replied(
 ) -> Outcome
     requires within { slot < length site.old.slots }
     requires room { CanMove file len }
-    ensures { Replied (was_written slot file len site.old reply) result site.old site.new }
+    ensures { EndsByReply (was_written slot file len site.old reply) result site.old site.new }
 {
     if let Some(outcome) = failure(reply) {
         return outcome;
@@ -97,8 +101,11 @@ pub(crate) fn write_replied(
     Outcome::Count(len as u64)
 }
 
-/// Writes the bytes from `done` on to a file, which stands in a slot or in none; the site may be any. Refused only
-/// for want of memory.
+/// Writes the bytes from `done` on to a file, which is in a slot or in none; the site may be any.
+///
+/// # Errors
+///
+/// `OutOfMemory` if an allocation fails.
 pub fn write_rest(
     alloc: Global,
     slot: Option<u8>,
@@ -114,8 +121,8 @@ pub fn write_rest(
     ensures left { (site : SiteValue) → IsKept slot file site
         → IfOk result (LeavesCancelled (left_kept slot site facts.now) place bytes.now site facts.now) }
     ensures sound { (site : SiteValue) → IsKept slot file site
-        → IfOk result (Sounds bytes.now facts.now site site) }
-    ensures pends { (site : SiteValue) → IfOk result (Pends (pends_idle site) place site) }
+        → IfOk result (KeepsRunningSound bytes.now facts.now site site) }
+    ensures pends { (site : SiteValue) → IfOk result (PendsAfter (pends_idle site) place site) }
     ensures asks { AsksRest slot file place result }
 {
     let rest = &bytes[done..];
@@ -145,7 +152,11 @@ pub fn write_rest(
     ))
 }
 
-/// Writes all of these bytes to the file in a slot. Refused only for want of memory.
+/// Writes all of these bytes to the file in a slot.
+///
+/// # Errors
+///
+/// `OutOfMemory` if an allocation fails.
 pub fn begin_write_all(
     alloc: Global,
     slot: u8,
@@ -155,7 +166,7 @@ pub fn begin_write_all(
     facts: &Facts,
 ) -> Result<Next, OutOfMemory>
     requires { slot < length site.now.slots }
-    ensures { IfOk result (Begun (call.WriteAll slot bytes.now) place site.now site.now facts.now) }
+    ensures { IfOk result (StartsAsPlanned (call.WriteAll slot bytes.now) place site.now site.now facts.now) }
 {
     let Slot::File(file) = slot_of(site, slot) else {
         return Ok(Next::Done(Outcome::NoFile));
@@ -163,7 +174,11 @@ pub fn begin_write_all(
     write_rest(alloc, Some(slot), *file, 0, bytes, place, facts)
 }
 
-/// Writes the bytes of all parts, which are handed in joined, to the file in a slot. Refused only for want of memory.
+/// Writes the bytes of all parts, which are passed in joined, to the file in a slot.
+///
+/// # Errors
+///
+/// `OutOfMemory` if an allocation fails.
 pub fn begin_write_parts(
     alloc: Global,
     slot: u8,
@@ -174,12 +189,12 @@ pub fn begin_write_parts(
 ) -> Result<Next, OutOfMemory>
     requires { slot < length site.now.slots }
     ensures { (parts : List (List ℕ)) → joined_parts parts ≡ bytes.now
-        → IfOk result (Begun (call.WriteParts slot parts) place site.now site.now facts.now) }
+        → IfOk result (StartsAsPlanned (call.WriteParts slot parts) place site.now site.now facts.now) }
 {
     begin_write_all(alloc, slot, bytes, place, site, facts)
 }
 
-/// Puts a file where it is kept: into its slot, or nowhere.
+/// Sets the file in its slot, if it has one.
 fn keep(site: &mut Site, slot: Option<u8>, file: FileAt)
     requires { HasSlot slot site.old }
     ensures { site.new ≡ keep_in slot file site.old }
@@ -189,8 +204,8 @@ fn keep(site: &mut Site, slot: Option<u8>, file: FileAt)
     }
 }
 
-/// The reply to the WRITE of a part came: after a STATUS of OK the file stands after the part, and the rest is
-/// written. Refused only for want of memory; the site is as it was then.
+/// Processes the reply to the WRITE of a part: after a STATUS of OK the file's offset is after the part, and the rest
+/// is written. Fails only if an allocation fails; `site` is unchanged.
 pub(crate) fn part_replied(
     alloc: Global,
     awaited: u64,
@@ -206,7 +221,7 @@ pub(crate) fn part_replied(
     requires kept { IsKept slot file site.old }
     requires prefix { done ≤ length bytes.now }
     requires room { CanMove file (part_len facts.now (drop done bytes.now)) }
-    ensures { Transfers (after (running.Writing awaited slot file done) bytes.now site.old facts.now (Some reply))
+    ensures { ContinuesTransfer (after (running.Writing awaited slot file done) bytes.now site.old facts.now (Some reply))
         slot (opened_after (running.Writing awaited slot file done) (Some reply))
         (pends_after (running.Writing awaited slot file done) site.old (Some reply))
         bytes.now place site.old site.new facts.now result }

@@ -1,7 +1,7 @@
 pub mod PlanLaws
-pub mod StepLaws
-pub mod RowLaws
-pub mod KeepLaws
-pub mod PlainLaws
-pub mod OffsetLaws
-pub mod TallyLaws
+mod StepLaws
+mod RowLaws
+mod KeepLaws
+mod PlainLaws
+mod OffsetLaws
+mod TallyLaws

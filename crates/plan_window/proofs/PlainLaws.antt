@@ -25,10 +25,9 @@ use Rattle.std.proofs.Common.{
   suc,
   if◌then◌else◌,
 }
-use Rattle.std.specs.Prelude.{◌&&◌, ◌||◌, ◌==◌, not, map, max, min, filter, flat_map, unwrap_or, nat_le, nat_lt, cond}
+use Rattle.std.specs.Prelude.{◌&&◌, ◌||◌, ◌==◌, not, map, max, min, filter, flat_map, unwrap_or, nat_le, nat_lt, cond, IfOk, Result, Ok, Err}
 use Rattle.std.specs.List.{list_any}
 use Rattle.std.proofs.lemmas.Bool.Decides.{nat_tests}
-use Rattle.std.specs.Prelude.{IfOk, Result, Ok, Err}
 use Rattle.ssh_encoding.specs.declared.out_of_memory.OutOfMemory.{OutOfMemory}
 use Rattle.sftp_model.specs.declared.reply.Reply.{Reply}
 use Rattle.sftp_model.specs.declared.reply.Reply.TheVariants as reply
@@ -61,7 +60,7 @@ use Rattle.plan_model.specs.WindowPlans.{
   lesser,
   put_in_order,
   reach,
-  reached,
+  end_of_read,
   unless_refused,
   whole_content,
 }
@@ -113,7 +112,8 @@ end_is (x ∷ xs) = by_test (is_end_of_file x.reply) (end_is xs)
     later = filter (λ got. is_end_of_file got.1) (map reply_at xs)
 
     by_test : (b : Bool) → least (map (λ got. got.0) later) ≡ least_by end_at xs
-        → least (map (λ got. got.0) (cond b (reply_at x ∷ later) later)) ≡ least_of (if b then Some x.read.offset else None) (least_by end_at xs)
+        → least (map (λ got. got.0) (cond b (reply_at x ∷ later) later))
+        ≡ least_of (if b then Some x.read.offset else None) (least_by end_at xs)
     by_test true rest = ap (lesser x.read.offset) rest
     by_test false rest = rest
 
@@ -121,9 +121,10 @@ end_is (x ∷ xs) = by_test (is_end_of_file x.reply) (end_is xs)
 
 greatest_append : (xs ys : List ℕ) → greatest (xs ++ ys) ≡ max (greatest xs) (greatest ys)
 greatest_append [] ys = omega arith
-greatest_append (x ∷ xs) ys = let e : greatest (xs ++ ys) ≡ max (greatest xs) (greatest ys) = greatest_append xs ys in omega (arith, e)
+greatest_append (x ∷ xs) ys = let e : greatest (xs ++ ys) ≡ max (greatest xs) (greatest ys) = greatest_append xs ys in
+    omega (arith, e)
 
-reached_is : (r : ReadAt) (y : Reply) → reached (r.offset, y) ≡ reached_at (record { read = r; reply = y })
+reached_is : (r : ReadAt) (y : Reply) → end_of_read (r.offset, y) ≡ reached_at (record { read = r; reply = y })
 reached_is r (reply.Content bytes) = refl
 reached_is r (reply.Status code message language) = refl
 reached_is r (reply.Version version extensions) = refl
@@ -132,7 +133,7 @@ reached_is r (reply.Names names) = refl
 reached_is r (reply.Attrs attrs) = refl
 reached_is r (reply.Extended content) = refl
 
-answered_is : (xs : List Answered) → greatest (map reached (map reply_at xs)) ≡ greatest_by reached_at xs
+answered_is : (xs : List Answered) → greatest (map end_of_read (map reply_at xs)) ≡ greatest_by reached_at xs
 answered_is [] = refl
 answered_is (x ∷ xs) = λ i. max (reached_is x.read x.reply i) (answered_is xs i)
 
@@ -144,7 +145,8 @@ waiting_is handle (x ∷ xs) = ap (max (x.offset + x.len)) (waiting_is handle xs
 reach_is : (handle : List ℕ) (answered : List Answered) (waiting : List ReadAt)
     → reach (map reply_at answered) (map (as_request handle) waiting) ≡ reach_of answered waiting
 reach_is handle answered waiting =
-    greatest_append (map reached (map reply_at answered)) (map (λ asked. begins asked + len_asked asked.1) (map (as_request handle) waiting))
+    greatest_append (map end_of_read (map reply_at answered)) (map (λ asked. begins asked + len_asked asked.1)
+    (map (as_request handle) waiting))
     ∙ (λ i. max (answered_is answered i) (waiting_is handle waiting i))
 
 -- ---- where READs begin
@@ -155,11 +157,13 @@ waiting_begin handle [] p = refl
 waiting_begin handle (x ∷ xs) p = ap (λ (b : Bool). (x.offset == p) || b) (waiting_begin handle xs p)
 
 begin_is : (handle : List ℕ) (xs : List Answered) (waiting : List ReadAt) (p : ℕ)
-    → list_any (λ asked. begins asked == p) (map (read_request handle) xs ++ map (as_request handle) waiting) ≡ begins_at xs waiting p
+    → list_any (λ asked. begins asked == p) (map (read_request handle) xs ++ map (as_request handle) waiting)
+    ≡ begins_at xs waiting p
 begin_is handle [] waiting p = waiting_begin handle waiting p
 begin_is handle (x ∷ xs) waiting p = by_test (x.read.offset == p) (begin_is handle xs waiting p)
   where
-    by_test : (b : Bool) → list_any (λ asked. begins asked == p) (map (read_request handle) xs ++ map (as_request handle) waiting) ≡ begins_at xs waiting p
+    by_test : (b : Bool) → list_any (λ asked. begins asked == p)
+        (map (read_request handle) xs ++ map (as_request handle) waiting) ≡ begins_at xs waiting p
         → (b || list_any (λ asked. begins asked == p) (map (read_request handle) xs ++ map (as_request handle) waiting))
         ≡ ((b || list_any (λ a. a.read.offset == p) xs) || list_any (λ r. r.offset == p) waiting)
     by_test true rest = refl
@@ -173,7 +177,8 @@ inside_is (Some end) n p = refl
 
 gaps_least : (t : ℕ → Bool) (answered : List Answered) (waiting : List ReadAt) (limit : ℕ)
     → ((p : ℕ) → t p ≡ (not (begins_at answered waiting p) && nat_lt p limit))
-    → (xs : List Answered) → least (filter t (map content_end (contents (map reply_at xs)))) ≡ least_by (gap_at answered waiting limit) xs
+    → (xs : List Answered) → least (filter t (map content_end (contents (map reply_at xs))))
+    ≡ least_by (gap_at answered waiting limit) xs
 gaps_least t answered waiting limit same [] = refl
 gaps_least t answered waiting limit same (x ∷ xs) = by_reply x.reply (gaps_least t answered waiting limit same xs)
   where
@@ -192,7 +197,8 @@ gaps_least t answered waiting limit same (x ∷ xs) = by_reply x.reply (gaps_lea
         ≡ least_of (gap_at answered waiting limit (record { read = x.read; reply = y }))
         (least_by (gap_at answered waiting limit) xs)
     by_reply (reply.Content bytes) rest =
-        ap (λ (b : Bool). least (cond b ((x.read.offset + length bytes) ∷ later) later)) (same (x.read.offset + length bytes))
+        ap (λ (b : Bool). least (cond b ((x.read.offset + length bytes) ∷ later) later))
+        (same (x.read.offset + length bytes))
         ∙ by_tests (x.read.offset + length bytes) (begins_at answered waiting (x.read.offset + length bytes))
         (nat_lt (x.read.offset + length bytes) limit) (least_by (gap_at answered waiting limit) xs) rest
     by_reply (reply.Status code message language) rest = rest
@@ -204,30 +210,37 @@ gaps_least t answered waiting limit same (x ∷ xs) = by_reply x.reply (gaps_lea
 
 gap_is : (handle : List ℕ) (w : Window) → least (gaps (reads_of handle w) (replies_of w) (under_way handle w))
     ≡ gap_of w.answered w.waiting (least_by end_at w.answered)
-gap_is handle w = gaps_least test w.answered w.waiting (unwrap_or (least_by end_at w.answered) (reach_of w.answered w.waiting)) same w.answered
+gap_is handle w = gaps_least test w.answered w.waiting (unwrap_or (least_by end_at w.answered)
+    (reach_of w.answered w.waiting)) same w.answered
   where
     test : ℕ → Bool
     test p = not (list_any (λ asked. begins asked == p) (reads_of handle w))
         && is_inside (least_end (replies_of w)) (reach (replies_of w) (under_way handle w)) p
 
-    same : (p : ℕ) → test p ≡ (not (begins_at w.answered w.waiting p) && nat_lt p (unwrap_or (least_by end_at w.answered) (reach_of w.answered w.waiting)))
+    same : (p : ℕ) → test p ≡ (not (begins_at w.answered w.waiting p)
+        && nat_lt p (unwrap_or (least_by end_at w.answered) (reach_of w.answered w.waiting)))
     same p =
-        (λ i. not (begin_is handle w.answered w.waiting p i) && is_inside (end_is w.answered i) (reach_is handle w.answered w.waiting i) p)
-        ∙ ap (λ (b : Bool). not (begins_at w.answered w.waiting p) && b) (inside_is (least_by end_at w.answered) (reach_of w.answered w.waiting) p)
+        (λ i. not (begin_is handle w.answered w.waiting p i) && is_inside (end_is w.answered i)
+        (reach_is handle w.answered w.waiting i) p)
+        ∙ ap (λ (b : Bool). not (begins_at w.answered w.waiting p) && b)
+        (inside_is (least_by end_at w.answered) (reach_of w.answered w.waiting) p)
 
 -- ---- from a gap to the next READ
 
-above_is : (p n : ℕ) (ns : List ℕ) (o : Option ℕ) → least (filter (λ m. nat_lt p m) ns) ≡ o → least (filter (λ m. nat_lt p m) (n ∷ ns)) ≡ least_of (above p n) o
+above_is : (p n : ℕ) (ns : List ℕ) (o : Option ℕ) → least (filter (λ m. nat_lt p m) ns) ≡ o
+    → least (filter (λ m. nat_lt p m) (n ∷ ns)) ≡ least_of (above p n) o
 above_is p n ns o rest = by_test (nat_lt p n)
   where
-    by_test : (b : Bool) → least (cond b (n ∷ filter (λ m. nat_lt p m) ns) (filter (λ m. nat_lt p m) ns)) ≡ least_of (if b then Some n else None) o
+    by_test : (b : Bool) → least (cond b (n ∷ filter (λ m. nat_lt p m) ns) (filter (λ m. nat_lt p m) ns))
+        ≡ least_of (if b then Some n else None) o
     by_test true = ap (lesser n) rest
     by_test false = rest
 
 waiting_next : (handle : List ℕ) (p : ℕ) (xs : List ReadAt) →
     least (filter (λ m. nat_lt p m) (map begins (map (as_request handle) xs))) ≡ least_by (waiting_above p) xs
 waiting_next handle p [] = refl
-waiting_next handle p (x ∷ xs) = above_is p x.offset (map begins (map (as_request handle) xs)) (least_by (waiting_above p) xs) (waiting_next handle p xs)
+waiting_next handle p (x ∷ xs) = above_is p x.offset (map begins (map (as_request handle) xs))
+    (least_by (waiting_above p) xs) (waiting_next handle p xs)
 
 next_is : (handle : List ℕ) (p : ℕ) (xs : List Answered) (waiting : List ReadAt)
     → least (filter (λ m. nat_lt p m) (map begins (map (read_request handle) xs ++ map (as_request handle) waiting)))
@@ -258,7 +271,8 @@ count_is (x ∷ xs) = by_reply x.reply (count_is xs)
     by_reply (reply.Attrs attrs) rest = omega (arith, rest)
     by_reply (reply.Extended content) rest = omega (arith, rest)
 
-parts_are : (end : ℕ) (xs : List Answered) → in_order (filter (λ got. nat_lt got.0 end) (contents (map reply_at xs))) ≡ parts_of end xs
+parts_are : (end : ℕ) (xs : List Answered) → in_order (filter (λ got. nat_lt got.0 end) (contents (map reply_at xs)))
+    ≡ parts_of end xs
 parts_are end [] = refl
 parts_are end (x ∷ xs) = by_reply x.reply (parts_are end xs)
   where
@@ -300,12 +314,14 @@ more_is : (handle : List ℕ) (w : Window) (site : Site) (facts : Facts) (gap en
     → ask_more handle (reads_of handle w) (replies_of w) (under_way handle w) site facts gap end
     ≡ move_by handle site (ask_next w facts gap end)
 more_is handle w site facts (Some p) end = ap (λ (n : ℕ). move_by handle site (step.Ask p n)) (len_is handle w p)
-more_is handle w site facts None None = ap (λ (n : ℕ). move_by handle site (step.Ask n facts.read_len)) (reach_is handle w.answered w.waiting)
+more_is handle w site facts None None = ap (λ (n : ℕ). move_by handle site (step.Ask n facts.read_len))
+    (reach_is handle w.answered w.waiting)
 more_is handle w site facts None (Some end) = first_is handle site w.waiting
 
 on_is : (handle : List ℕ) (bound : ℕ) (w : Window) (site : Site) (facts : Facts) (gap end : Option ℕ)
     → least (gaps (reads_of handle w) (replies_of w) (under_way handle w)) ≡ gap → least_end (replies_of w) ≡ end
-    → go_on handle (Some bound) (reads_of handle w) (replies_of w) (under_way handle w) site facts ≡ move_by handle site (go_further bound w facts gap end)
+    → go_on handle (Some bound) (reads_of handle w) (replies_of w) (under_way handle w) site facts
+    ≡ move_by handle site (go_further bound w facts gap end)
 on_is handle bound w site facts gap end gap_at end_at =
     (λ i. if nat_le bound (count_is w.answered i) then Done outcome.GivenUp site
     else if nat_lt (map_len handle w.waiting i) facts.read_window then
@@ -321,21 +337,26 @@ on_is handle bound w site facts gap end gap_at end_at =
     by_tests false true = more_is handle w site facts gap end
     by_tests false false = first_is handle site w.waiting
 
-ends_is : (handle : List ℕ) (w : Window) (site : Site) (missing : List ℕ) (end : Option ℕ) (go : Move) (other : WindowMove) → go ≡ move_by handle site other
-    → ends_or missing (replies_of w) (under_way handle w) site end go ≡ move_by handle site (whole_or (least missing) w end other)
+ends_is : (handle : List ℕ) (w : Window) (site : Site) (missing : List ℕ) (end : Option ℕ) (go : Move)
+    (other : WindowMove) → go ≡ move_by handle site other
+    → ends_or missing (replies_of w) (under_way handle w) site end go
+    ≡ move_by handle site (whole_or (least missing) w end other)
 ends_is handle w site [] None go other same = by_waiting w.waiting
   where
-    by_waiting : (waiting : List ReadAt) → ends_or [] (replies_of w) (map (as_request handle) waiting) site None go ≡ move_by handle site other
+    by_waiting : (waiting : List ReadAt) → ends_or [] (replies_of w) (map (as_request handle) waiting) site None go
+        ≡ move_by handle site other
     by_waiting [] = same
     by_waiting (r ∷ rest) = same
 ends_is handle w site [] (Some end) go other same = by_waiting w.waiting
   where
-    by_waiting : (waiting : List ReadAt) → ends_or [] (replies_of w) (map (as_request handle) waiting) site (Some end) go
+    by_waiting : (waiting : List ReadAt) → ends_or [] (replies_of w) (map (as_request handle) waiting) site (Some end)
+        go
         ≡ move_by handle site (if length waiting == 0 then step.Whole (whole_content end (replies_of w)) else other)
     by_waiting [] = refl
     by_waiting (r ∷ rest) =
         let some : (length (r ∷ rest) == 0) ≡ false = grind (arith, nat_tests) in
-        same ∙ ap (λ (b : Bool). move_by handle site (if b then step.Whole (whole_content end (replies_of w)) else other)) (sym some)
+        same ∙ ap (λ (b : Bool). move_by handle site (if b then step.Whole (whole_content end (replies_of w)) else
+        other)) (sym some)
 ends_is handle w site (p ∷ ps) end go other same = by_rest (least ps)
   where
     by_rest : (o : Option ℕ) → go ≡ move_by handle site (whole_or (lesser p o) w end other)
@@ -353,7 +374,8 @@ plain_is handle bound w site facts good =
     ∙ ends_is handle w site (gaps (reads_of handle w) (replies_of w) (under_way handle w)) (least_end (replies_of w))
     (go_on handle (Some bound) (reads_of handle w) (replies_of w) (under_way handle w) site facts)
     (go_further bound w facts gap end) (on_is handle bound w site facts gap end (gap_is handle w) (end_is w.answered))
-    ∙ (λ i. move_by handle site (whole_or (gap_is handle w i) w (end_is w.answered i) (go_further bound w facts gap end)))
+    ∙ (λ i. move_by handle site (whole_or (gap_is handle w i) w (end_is w.answered i)
+    (go_further bound w facts gap end)))
   where
     end : Option ℕ
     end = least_by end_at w.answered
@@ -363,13 +385,15 @@ plain_is handle bound w site facts good =
 
 -- ---- what is asked is in range
 
-asks_within : (handle : List ℕ) (site : Site) (facts : Facts) (m : WindowMove) → ReadsWithin facts (move_by handle site m) → AsksWithin facts m
+asks_within : (handle : List ℕ) (site : Site) (facts : Facts) (m : WindowMove)
+    → ReadsWithin facts (move_by handle site m) → AsksWithin facts m
 asks_within handle site facts (step.Ask offset len) fits = fits
 asks_within handle site facts (step.Wait place) fits = tt
 asks_within handle site facts (step.Whole bytes) fits = tt
 asks_within handle site facts step.GivenUp fits = tt
 
-pub plain_within : (bound : ℕ) (w : Window) (facts : Facts) → IsSound w → AsksInRange bound w facts → AsksWithin facts (plain_move bound w facts)
+pub plain_within : (bound : ℕ) (w : Window) (facts : Facts) → IsSound w → AsksInRange bound w facts
+    → AsksWithin facts (plain_move bound w facts)
 plain_within bound w facts sound fits = asks_within fits.handle fits.site facts (plain_move bound w facts)
     (subst (ReadsWithin facts) (plain_is fits.handle bound w fits.site facts sound.unrefused) fits.within)
 
@@ -391,15 +415,20 @@ whole_move bound w facts end bytes ends none empty is =
     ∙ ap (λ (l : List ℕ). step.Whole l) (sym (is ∙ whole_is end w.answered)))
   where
     other : WindowMove
-    other = go_further bound w facts (gap_of w.answered w.waiting (least_by end_at w.answered)) (least_by end_at w.answered)
+    other = go_further bound w facts (gap_of w.answered w.waiting (least_by end_at w.answered))
+        (least_by end_at w.answered)
 
 pub capped : (w : Window) (facts : Facts) (end : Option ℕ) (p : ℕ) → AsksWithin facts (ask_next w facts (Some p) end)
     → min (len_to_next w.answered w.waiting p) facts.read_len ≡ len_to_next w.answered w.waiting p
-capped w facts end p within = let most : len_to_next w.answered w.waiting p ≤ facts.read_len = within.1 in omega (arith, most)
+capped w facts end p within = let most : len_to_next w.answered w.waiting p ≤ facts.read_len = within.1 in
+    omega (arith, most)
 
-pub moves_are : (bound : ℕ) (w : Window) (facts : Facts) (r : Result WindowMove OutOfMemory) → IsSound w → IfOk r (λ m. m ≡ plain_move bound w facts)
-    → IfOk r (λ m. (handle : List ℕ) (site : Site) → window_move handle (Some bound) w site facts ≡ move_by handle site m)
-moves_are bound w facts (Ok m) sound is = λ handle site. plain_is handle bound w site facts sound.unrefused ∙ ap (move_by handle site) (sym is)
+pub moves_are : (bound : ℕ) (w : Window) (facts : Facts) (r : Result WindowMove OutOfMemory) → IsSound w
+    → IfOk r (λ m. m ≡ plain_move bound w facts)
+    → IfOk r (λ m. (handle : List ℕ) (site : Site) → window_move handle (Some bound) w site facts
+    ≡ move_by handle site m)
+moves_are bound w facts (Ok m) sound is = λ handle site. plain_is handle bound w site facts sound.unrefused
+    ∙ ap (move_by handle site) (sym is)
 moves_are bound w facts (Err e) sound is = tt
 
 pub moves_in_range : (bound : ℕ) (w : Window) (facts : Facts) (r : Result WindowMove OutOfMemory) → IsSound w

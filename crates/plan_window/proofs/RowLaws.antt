@@ -14,16 +14,21 @@ pub fits_first : (w : Window) (r : ReadAt) (y : Reply) → first_of w.waiting �
 fits_first w r y is fits q at = subst (λ (x : ReadAt). FitsRead x y) (same_read r q (sym is ∙ at)) fits
 
 pub empty_in_range : (w : Window) → w ≡ empty_window → AsksInRange 2 w two
-empty_in_range w is = subst (λ (v : Window). AsksInRange 2 v two) (sym is) (record { handle = handle; site = fresh_site; within = (omega arith, omega arith) })
+empty_in_range w is = subst (λ (v : Window). AsksInRange 2 v two) (sym is)
+    (record { handle = handle; site = fresh_site; within = (omega arith, omega arith) })
 
 pub both_in_range : (w : Window) → w ≡ both → AsksInRange 2 w two
-both_in_range w is = subst (λ (v : Window). AsksInRange 2 v two) (sym is) (record { handle = handle; site = fresh_site; within = tt })
+both_in_range w is = subst (λ (v : Window). AsksInRange 2 v two) (sym is)
+    (record { handle = handle; site = fresh_site; within = tt })
 
 pub short_in_range : (w : Window) → w ≡ short → AsksInRange 2 w two
-short_in_range w is = subst (λ (v : Window). AsksInRange 2 v two) (sym is) (record { handle = handle; site = fresh_site; within = (omega arith, omega arith) })
+short_in_range w is = subst (λ (v : Window). AsksInRange 2 v two) (sym is)
+    (record { handle = handle; site = fresh_site; within = (omega arith, omega arith) })
 
 pub full_in_range : (w : Window) → w ≡ full → AsksInRange 2 w two
-full_in_range w is = subst (λ (v : Window). AsksInRange 2 v two) (sym is) (record { handle = handle; site = fresh_site; within = tt })
+full_in_range w is = subst (λ (v : Window). AsksInRange 2 v two) (sym is)
+    (record { handle = handle; site = fresh_site; within = tt })
 
 pub ended_in_range : (w : Window) → w ≡ ended → AsksInRange 2 w two
-ended_in_range w is = subst (λ (v : Window). AsksInRange 2 v two) (sym is) (record { handle = handle; site = fresh_site; within = tt })
+ended_in_range w is = subst (λ (v : Window). AsksInRange 2 v two) (sym is)
+    (record { handle = handle; site = fresh_site; within = tt })

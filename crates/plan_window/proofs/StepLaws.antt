@@ -13,7 +13,8 @@ pub least_of_more : (a b c : Option ℕ) → least_of (least_of a b) c ≡ least
 least_of_more None b c = refl
 least_of_more (Some n) None c = refl
 least_of_more (Some n) (Some m) None = refl
-least_of_more (Some n) (Some m) (Some k) = ap (λ (x : ℕ). Some x) (let e : min (min n m) k ≡ min n (min m k) = omega arith in e)
+least_of_more (Some n) (Some m) (Some k) = ap (λ (x : ℕ). Some x)
+    (let e : min (min n m) k ≡ min n (min m k) = omega arith in e)
 
 pub least_of_both : (a b : Option ℕ) → least_of a b ≡ least_of b a
 least_of_both None b = sym (least_of_none b)

@@ -39,14 +39,18 @@ use Rattle.plan_window.proofs.StepLaws.{least_of_none}
 
 -- ---- one READ more
 
-least_more : {A : Type 0} (f : A → Option ℕ) (xs : List A) (x : A) → least_of (least_by f xs) (f x) ≡ least_by f (xs ++ x ∷ [])
+least_more : {A : Type 0} (f : A → Option ℕ) (xs : List A) (x : A) → least_of (least_by f xs) (f x)
+    ≡ least_by f (xs ++ x ∷ [])
 least_more f xs x = sym (least_append f xs (x ∷ []) ∙ ap (least_of (least_by f xs)) (least_of_none (f x)))
 
-greatest_more : {A : Type 0} (f : A → ℕ) (xs : List A) (x : A) → max (greatest_by f xs) (f x) ≡ greatest_by f (xs ++ x ∷ [])
+greatest_more : {A : Type 0} (f : A → ℕ) (xs : List A) (x : A) → max (greatest_by f xs) (f x)
+    ≡ greatest_by f (xs ++ x ∷ [])
 greatest_more f [] x = omega arith
-greatest_more f (y ∷ ys) x = let e : max (greatest_by f ys) (f x) ≡ greatest_by f (ys ++ x ∷ []) = greatest_more f ys x in omega (arith, e)
+greatest_more f (y ∷ ys) x = let e : max (greatest_by f ys) (f x) ≡ greatest_by f (ys ++ x ∷ []) = greatest_more f ys x
+    in omega (arith, e)
 
-count_more : (xs : List Answered) (a : Answered) → content_count (xs ++ a ∷ []) ≡ content_count xs + (if brings_content a.reply then 1 else 0)
+count_more : (xs : List Answered) (a : Answered) → content_count (xs ++ a ∷ [])
+    ≡ content_count xs + (if brings_content a.reply then 1 else 0)
 count_more [] a = omega arith
 count_more (x ∷ xs) a = let e : content_count (xs ++ a ∷ [])
     ≡ content_count xs + (if brings_content a.reply then 1 else 0) = count_more xs a in omega (arith, e)
@@ -59,7 +63,8 @@ any_more f [] x = by_test (f x)
     by_test false = refl
 any_more f (y ∷ ys) x = by_test (f y) (any_more f ys x)
   where
-    by_test : (b : Bool) → list_any f (ys ++ x ∷ []) ≡ (list_any f ys || f x) → (b || list_any f (ys ++ x ∷ [])) ≡ ((b || list_any f ys) || f x)
+    by_test : (b : Bool) → list_any f (ys ++ x ∷ []) ≡ (list_any f ys || f x) → (b || list_any f (ys ++ x ∷ []))
+        ≡ ((b || list_any f ys) || f x)
     by_test true rest = refl
     by_test false rest = rest
 
@@ -78,7 +83,8 @@ filter_both f g h same (x ∷ xs) = ap (λ (b : Bool). cond b (x ∷ filter h xs
     both : List ℕ
     both = filter (λ p. not (g p)) rest
 
-    split : (b : Bool) → filter (λ p. not (g p)) (cond b (x ∷ rest) rest) ≡ cond b (cond (not (g x)) (x ∷ both) both) both
+    split : (b : Bool) → filter (λ p. not (g p)) (cond b (x ∷ rest) rest)
+        ≡ cond b (cond (not (g x)) (x ∷ both) both) both
     split true = refl
     split false = refl
 
@@ -98,14 +104,17 @@ free_asked answered waiting r = sym (filter_both (begins_at answered waiting) (�
     by_test true w g = refl
     by_test false w g = refl
 
-    same : (p : ℕ) → not (begins_at answered (waiting ++ r ∷ []) p) ≡ not (begins_at answered waiting p || (r.offset == p))
-    same p = ap not (ap (λ (b : Bool). list_any (λ a. a.read.offset == p) answered || b) (any_more (λ (x : ReadAt). x.offset == p) waiting r)
+    same : (p : ℕ) → not (begins_at answered (waiting ++ r ∷ []) p)
+        ≡ not (begins_at answered waiting p || (r.offset == p))
+    same p = ap not (ap (λ (b : Bool). list_any (λ a. a.read.offset == p) answered || b)
+        (any_more (λ (x : ReadAt). x.offset == p) waiting r)
         ∙ by_test (list_any (λ a. a.read.offset == p) answered) (list_any (λ r. r.offset == p) waiting) (r.offset == p))
 
 -- where the first READ under way is answered, READs begin where they began
 begin_same : (answered : List Answered) (waiting : List ReadAt) (a : Answered) (p : ℕ)
     → begins_at (answered ++ a ∷ []) waiting p ≡ begins_at answered (a.read ∷ waiting) p
-begin_same answered waiting a p = ap (λ (b : Bool). b || list_any (λ r. r.offset == p) waiting) (any_more (λ (a : Answered). a.read.offset == p) answered a)
+begin_same answered waiting a p = ap (λ (b : Bool). b || list_any (λ r. r.offset == p) waiting)
+    (any_more (λ (a : Answered). a.read.offset == p) answered a)
     ∙ by_test (list_any (λ a. a.read.offset == p) answered) (a.read.offset == p) (list_any (λ r. r.offset == p) waiting)
   where
     by_test : (a b c : Bool) → ((a || b) || c) ≡ (a || (b || c))
@@ -118,7 +127,8 @@ filter_same f g same (x ∷ xs) = λ i. cond (same x i) (x ∷ filter_same f g s
 
 free_is : (answered : List Answered) (waiting : List ReadAt) (a : Answered) (begins : List ℕ)
     → ((p : ℕ) → list_any (λ b. b == p) begins ≡ list_any (λ a. a.read.offset == p) (answered ++ a ∷ []))
-    → free_ends answered (a.read ∷ waiting) ++ free_end begins waiting (data_end a) ≡ free_ends (answered ++ a ∷ []) waiting
+    → free_ends answered (a.read ∷ waiting) ++ free_end begins waiting (data_end a)
+    ≡ free_ends (answered ++ a ∷ []) waiting
 free_is answered waiting a begins same =
     sym (λ i. parts i ++ last (data_end a) i)
     ∙ sym (filter-append free (filter_map data_end answered) (filter_map data_end (a ∷ [])))
@@ -128,11 +138,13 @@ free_is answered waiting a begins same =
     free p = not (begins_at (answered ++ a ∷ []) waiting p)
 
     parts : filter free (filter_map data_end answered) ≡ free_ends answered (a.read ∷ waiting)
-    parts = filter_same free (λ p. not (begins_at answered (a.read ∷ waiting) p)) (λ p. ap not (begin_same answered waiting a p)) (filter_map data_end answered)
+    parts = filter_same free (λ p. not (begins_at answered (a.read ∷ waiting) p))
+        (λ p. ap not (begin_same answered waiting a p)) (filter_map data_end answered)
 
     last : (o : Option ℕ) → filter free (filter_map (λ (x : Unit {0}). o) (tt ∷ [])) ≡ free_end begins waiting o
     last None = refl
-    last (Some p) = ap (λ (b : Bool). cond (not (b || list_any (λ r. r.offset == p) waiting)) (p ∷ []) []) (sym (same p))
+    last (Some p) = ap (λ (b : Bool). cond (not (b || list_any (λ r. r.offset == p) waiting)) (p ∷ []) [])
+        (sym (same p))
         ∙ by_test (list_any (λ b. b == p) begins || list_any (λ r. r.offset == p) waiting)
       where
         by_test : (b : Bool) → cond (not b) (p ∷ []) [] ≡ (if b then [] else p ∷ [])
@@ -141,7 +153,8 @@ free_is answered waiting a begins same =
 
 -- ---- all of it
 
-pub tally_asked : (t : Tally) (free : List ℕ) (answered : List Answered) (waiting : List ReadAt) (r : ReadAt) (offset : ℕ)
+pub tally_asked : (t : Tally) (free : List ℕ) (answered : List Answered) (waiting : List ReadAt) (r : ReadAt)
+    (offset : ℕ)
     → r.offset ≡ offset → IsTally t answered waiting → free ≡ filter (λ p. not (offset == p)) t.free
     → IsTally (record t { free = free }) answered (waiting ++ r ∷ [])
 tally_asked t free answered waiting r offset at is more = record {
@@ -157,7 +170,8 @@ tally_asked t free answered waiting r offset at is more = record {
 -- the tally with what the code makes of each part
 pub tally_more : (t new : Tally) (answered : List Answered) (waiting : List ReadAt) (a : Answered)
     → IsTally t answered (a.read ∷ waiting)
-    → HasOneMore t.begins a.read.offset new.begins → new.end ≡ least_of t.end (end_at a) → new.reached ≡ max t.reached (reached_at a)
+    → HasOneMore t.begins a.read.offset new.begins → new.end ≡ least_of t.end (end_at a) → new.reached
+    ≡ max t.reached (reached_at a)
     → new.contents ≡ min (t.contents + (if brings_content a.reply then 1 else 0)) (2 ^ 32 - 1)
     → new.free ≡ t.free ++ free_end new.begins waiting (data_end a) → IsTally new (answered ++ a ∷ []) waiting
 tally_more t new answered waiting a is more end reached contents free = record {
@@ -166,8 +180,10 @@ tally_more t new answered waiting a is more end reached contents free = record {
   contents = omega (arith, contents, is.contents, count_more answered a);
   ascending = more.ascending;
   begins = begins;
-  next = λ p. more.next p ∙ ap (λ (o : Option ℕ). least_of o (above p a.read.offset)) (is.next p) ∙ least_more (answered_above p) answered a;
-  free = free ∙ ap (λ (l : List ℕ). l ++ free_end new.begins waiting (data_end a)) is.free ∙ free_is answered waiting a new.begins begins;
+  next = λ p. more.next p ∙ ap (λ (o : Option ℕ). least_of o (above p a.read.offset)) (is.next p)
+      ∙ least_more (answered_above p) answered a;
+  free = free ∙ ap (λ (l : List ℕ). l ++ free_end new.begins waiting (data_end a)) is.free
+      ∙ free_is answered waiting a new.begins begins;
 }
   where
     begins : (p : ℕ) → list_any (λ b. b == p) new.begins ≡ list_any (λ a. a.read.offset == p) (answered ++ a ∷ [])
@@ -190,18 +206,21 @@ gap_is answered waiting limit (x ∷ xs) = by_reply x.reply (gap_is answered wai
 
     by_tests : (p : ℕ) (b t : Bool) (o : Option ℕ) → o ≡ least_by (below limit) rest
         → least_of (if t then (if b then None else Some p) else None) o
-        ≡ cond (not b) (least_of (if t then Some p else None) (least_by (below limit) rest)) (least_by (below limit) rest)
+        ≡ cond (not b) (least_of (if t then Some p else None) (least_by (below limit) rest))
+        (least_by (below limit) rest)
     by_tests p true true o e = e
     by_tests p true false o e = e
     by_tests p false t o e = ap (least_of (if t then Some p else None)) e
 
-    split : (p : ℕ) (b : Bool) → cond b (least_of (below limit p) (least_by (below limit) rest)) (least_by (below limit) rest)
+    split : (p : ℕ) (b : Bool) → cond b (least_of (below limit p) (least_by (below limit) rest))
+        (least_by (below limit) rest)
         ≡ least_by (below limit) (cond b (p ∷ rest) rest)
     split p true = refl
     split p false = refl
 
     by_reply : (y : Reply) → least_by (gap_at answered waiting limit) xs ≡ least_by (below limit) rest
-        → least_of (gap_at answered waiting limit (record { read = x.read; reply = y })) (least_by (gap_at answered waiting limit) xs)
+        → least_of (gap_at answered waiting limit (record { read = x.read; reply = y }))
+        (least_by (gap_at answered waiting limit) xs)
         ≡ least_by (below limit) (filter free (filter_map data_end (record { read = x.read; reply = y } ∷ xs)))
     by_reply (reply.Content bytes) e =
         let p : ℕ = x.read.offset + length bytes in

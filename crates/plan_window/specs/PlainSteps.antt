@@ -1,4 +1,4 @@
--- What a window does next, said of its READs alone: no handle and no site, one number at a time.
+-- The next move of a window, by its READs alone: without a handle and without a site, one number at a time.
 use Rattle.std.specs.Prelude.{
   ℕ,
   ◌<◌,
@@ -34,7 +34,7 @@ use Rattle.plan_window.specs.declared.next_move.WindowMove.{WindowMove}
 use Rattle.plan_window.specs.declared.next_move.WindowMove.TheVariants as step
 use Rattle.plan_window.specs.Windows.{Window, replies_of}
 
--- ---- numbers
+-- ---- Numbers
 
 abbrev pub least_of : Option ℕ → Option ℕ → Option ℕ
 least_of None o = o
@@ -48,13 +48,13 @@ abbrev pub greatest_by : {A : Type 0} → (A → ℕ) → List A → ℕ
 greatest_by f [] = 0
 greatest_by f (x ∷ xs) = max (f x) (greatest_by f xs)
 
--- ---- one READ
+-- ---- One READ
 
--- an end of the file that it told
+-- The end of the file that a READ reported.
 abbrev pub end_at : Answered → Option ℕ
 end_at a = if is_end_of_file a.reply then Some a.read.offset else None
 
--- where its bytes end, and where it begins if it got none
+-- The offset at which its bytes end, or at which it begins if it received none.
 abbrev pub reached_at : Answered → ℕ
 reached_at a = by_reply a.reply
   where
@@ -65,7 +65,7 @@ reached_at a = by_reply a.reply
 abbrev pub read_end : ReadAt → ℕ
 read_end r = r.offset + r.len
 
--- an offset above another
+-- An offset above another.
 abbrev pub above : ℕ → ℕ → Option ℕ
 above p n = if nat_lt p n then Some n else None
 
@@ -75,7 +75,7 @@ answered_above p a = above p a.read.offset
 abbrev pub waiting_above : ℕ → ReadAt → Option ℕ
 waiting_above p r = above p r.offset
 
--- ---- all of them
+-- ---- All of them
 
 abbrev pub reach_of : List Answered → List ReadAt → ℕ
 reach_of answered waiting = max (greatest_by reached_at answered) (greatest_by read_end waiting)
@@ -83,7 +83,7 @@ reach_of answered waiting = max (greatest_by reached_at answered) (greatest_by r
 abbrev pub begins_at : List Answered → List ReadAt → ℕ → Bool
 begins_at answered waiting p = list_any (λ a. a.read.offset == p) answered || list_any (λ r. r.offset == p) waiting
 
--- the end of its bytes, where that is below the limit and no READ begins there
+-- The end of its bytes, if that is below the limit and no READ begins there.
 abbrev pub gap_at : List Answered → List ReadAt → ℕ → Answered → Option ℕ
 gap_at answered waiting limit a = by_reply a.reply
   where
@@ -97,17 +97,17 @@ gap_at answered waiting limit a = by_reply a.reply
 abbrev pub gap_of : List Answered → List ReadAt → Option ℕ → Option ℕ
 gap_of answered waiting end = least_by (gap_at answered waiting (unwrap_or end (reach_of answered waiting))) answered
 
--- from an offset to the least one above it at which a READ begins
+-- The bytes from an offset to the least one above it at which a READ begins.
 abbrev pub len_to_next : List Answered → List ReadAt → ℕ → ℕ
 len_to_next answered waiting p = unwrap_or (least_of (least_by (answered_above p) answered)
     (least_by (waiting_above p) waiting)) p - p
 
--- how many a DATA answered
+-- The number of READs that a DATA answered.
 abbrev pub content_count : List Answered → ℕ
 content_count [] = 0
 content_count (a ∷ rest) = (if brings_content a.reply then 1 else 0) + content_count rest
 
--- ---- the bytes got, in order
+-- ---- The received bytes, in order
 
 abbrev pub with_part : ℕ → Answered → List (ℕ × List ℕ) → List (ℕ × List ℕ)
 with_part end a parts = by_reply a.reply
@@ -121,7 +121,7 @@ abbrev pub parts_of : ℕ → List Answered → List (ℕ × List ℕ)
 parts_of end [] = []
 parts_of end (a ∷ rest) = with_part end a (parts_of end rest)
 
--- ---- what is done next
+-- ---- The next move
 
 abbrev pub wait_first : List ReadAt → WindowMove
 wait_first [] = step.GivenUp
@@ -149,7 +149,7 @@ plain_move bound w facts =
     let gap : Option ℕ = gap_of w.answered w.waiting end in
     whole_or gap w end (go_further bound w facts gap end)
 
--- a READ that is asked keeps within the range of offsets and the session's read length
+-- A READ that is asked is within the range of offsets and the session's read length.
 abbrev pub AsksWithin : Facts → WindowMove → Type 0
 AsksWithin facts (step.Ask offset len) = (offset + len < 2 ^ 64) × (len ≤ facts.read_len)
 AsksWithin facts other = Unit {0}

@@ -1,4 +1,4 @@
--- What a window keeps of the READs that were answered, so that no move looks at all of them again.
+-- The record that a window keeps of the READs that were answered, so that no move looks at all of them again.
 use Rattle.std.specs.Prelude.{
   ℕ,
   ◌≡◌,
@@ -40,7 +40,7 @@ use Rattle.plan_window.specs.PlainSteps.{
   reached_at,
 }
 
--- where the bytes of a DATA end
+-- The offset at which the bytes of a DATA end.
 abbrev pub data_end : Answered → Option ℕ
 data_end a = by_reply a.reply
   where
@@ -48,15 +48,15 @@ data_end a = by_reply a.reply
     by_reply (reply.Content bytes) = Some (a.read.offset + length bytes)
     by_reply other = None
 
--- the ends of DATA at which no READ begins
+-- The ends of DATA at which no READ begins.
 abbrev pub free_ends : List Answered → List ReadAt → List ℕ
 free_ends answered waiting = filter (λ p. not (begins_at answered waiting p)) (filter_map data_end answered)
 
--- such an end, where it is below the limit
+-- Such an end, if it is below the limit.
 abbrev pub below : ℕ → ℕ → Option ℕ
 below limit p = if nat_lt p limit then Some p else None
 
--- it says of these READs what they say themselves; DATA are counted up to the greatest bound
+-- The tally agrees with these READs. DATA are counted up to the greatest bound.
 pub record IsTally (t : Tally) (answered : List Answered) (waiting : List ReadAt) : Type 0 where
   pub end : t.end ≡ least_by end_at answered
   pub reached : t.reached ≡ greatest_by reached_at answered
@@ -66,15 +66,15 @@ pub record IsTally (t : Tally) (answered : List Answered) (waiting : List ReadAt
   pub next : (p : ℕ) → least_by (above p) t.begins ≡ least_by (answered_above p) answered
   pub free : t.free ≡ free_ends answered waiting
 
--- ---- one READ more
+-- ---- Another READ
 
--- with one offset more, in its place
+-- The list with another offset, in its place.
 pub record HasOneMore (old : List ℕ) (n : ℕ) (more : List ℕ) : Type 0 where
   pub ascending : IsNonDecreasing more
   pub begins : (p : ℕ) → list_any (λ b. b == p) more ≡ (list_any (λ b. b == p) old || (n == p))
   pub next : (p : ℕ) → least_by (above p) more ≡ least_of (least_by (above p) old) (above p n)
 
--- the end of a DATA, where none of these READs begins there
+-- The end of a DATA, if none of these READs begins there.
 abbrev pub free_end : List ℕ → List ReadAt → Option ℕ → List ℕ
 free_end begins waiting None = []
 free_end begins waiting (Some p) =

@@ -1,4 +1,4 @@
--- Worked windows, of reads of 2 bytes with two under way and a bound of 2 DATA, and what each does next.
+-- Worked windows, of reads of 2 bytes with two in flight and a bound of 2 DATA, and their next moves.
 use Rattle.std.specs.Prelude.{ℕ, ◌≡◌, List, Some, codes, refl}
 use Rattle.sftp_model.specs.declared.reply.Reply.{Reply}
 use Rattle.sftp_model.specs.declared.reply.Reply.TheVariants as reply
@@ -25,38 +25,38 @@ brings bytes = reply.Content bytes
 abbrev next : Window → Move
 next w = window_move handle (Some 2) w fresh_site two
 
--- a READ is asked at the reach
+-- A READ is asked at the reach.
 pub begins : next empty_window ≡ Ask (request.Read handle 0 2)
 begins = refl
 
--- READs at 0 and 2, of which the first is awaited
+-- READs at 0 and 2, of which the first is awaited.
 abbrev pub both : Window
 both = asked_more (asked_more empty_window (read_of 1 0 2)) (read_of 2 2 2)
 
 pub waits : next both ≡ Wait 1
 waits = refl
 
--- one byte of two came: the other one is asked for
+-- One byte of two came: the other one is asked for.
 abbrev pub short : Window
 short = answered_more both (brings (codes "a"))
 
 pub fills : next short ≡ Ask (request.Read handle 1 1)
 fills = refl
 
--- as many DATA came as the bound allows
+-- The bound on DATA is reached.
 abbrev pub full : Window
 full = answered_more (answered_more both (brings (codes "ab"))) (brings (codes "cd"))
 
 pub gives_up : next full ≡ Done outcome.GivenUp fresh_site
 gives_up = refl
 
--- the end came before the byte that was missing
+-- The end came before the missing byte.
 abbrev pub ended : Window
 ended = answered_more (answered_more (asked_more short (read_of 3 1 1)) (status 1)) (brings (codes "b"))
 
 pub is_whole : next ended ≡ Done (outcome.Bytes (codes "ab")) fresh_site
 is_whole = refl
 
--- and were it missing, it would be awaited
+-- If the byte were missing, it would be awaited.
 pub is_not_whole : next (answered_more (asked_more short (read_of 3 1 1)) (status 1)) ≡ Wait 3
 is_not_whole = refl

@@ -1,4 +1,4 @@
-//! Where a READ under way begins, and the least of some offsets.
+//! The READs in flight that begin at an offset, and the least of some offsets.
 ghost use Rattle.std.specs.Prelude.{◌≡◌, ◌==◌};
 ghost use Rattle.std.specs.List.{list_any};
 ghost use Rattle.plan_window.specs.PlainSteps.{least_by};
@@ -7,21 +7,21 @@ ghost use Rattle.plan_window.specs.Tallies.{below};
 use crate::numbers::least_of;
 use crate::window::ReadAt;
 
-/// Whether a READ under way begins here.
+/// Returns true if a READ in flight begins here.
 pub(crate) fn waiting_begins(waiting: &[ReadAt], p: u64) -> bool
     ensures { result ≡ list_any (λ r. r.offset == p) waiting.now }
 {
     waiting.iter().any(|r| r.offset == p)
 }
 
-/// An offset that is below the limit.
+/// Returns the offset if it is below the limit.
 fn below(limit: u64, p: u64) -> Option<u64>
     ensures { result ≡ below limit p }
 {
     if p < limit { Some(p) } else { None }
 }
 
-/// The least of these offsets, where it is below the limit.
+/// Returns the least of these offsets, if it is below the limit.
 #[tactic(auto, using(crate::proofs::StepLaws::least_of_none, crate::proofs::StepLaws::least_of_more))]
 pub(crate) fn least_below(free: &[u64], limit: u64) -> Option<u64>
     ensures { result ≡ least_by (below limit) free.now }

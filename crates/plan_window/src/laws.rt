@@ -1,16 +1,16 @@
-// A law of what is left of the plan. The function does nothing: what it ensures holds of all values.
+//! A law of the rest of a plan. The function does nothing: what it ensures holds for all values.
 ghost use Rattle.std.specs.Prelude.{◌≡◌, ◌||◌, false, ℕ, List, [], ◌∷◌, ◌++◌, Option, Some, None};
 ghost use Rattle.sftp_model.specs.declared.reply.Reply.{Reply};
 ghost use Rattle.sftp_model.specs.declared.slot.Facts.{Facts};
 ghost use Rattle.sftp_model.specs.declared.slot.Site.{Site};
-ghost use Rattle.plan_model.specs.Moves.{Answers, Own, refused};
+ghost use Rattle.plan_model.specs.Moves.{Answers, Own, refusal_move};
 ghost use Rattle.sftp_model.specs.Answers.{is_end_of_file};
 ghost use Rattle.plan_model.specs.WindowPlans.{answered_prefix, brings_content, first_refusal, outside, window_next};
 ghost use Rattle.plan_window.specs.declared.window.ReadAt.{ReadAt};
 ghost use Rattle.plan_window.specs.Windows.{Window, answered_more, as_request, asked_more, empty_window, first_of, reads_of, replies_of, under_way, window_move, window_plan};
 
-/// What is left of the plan is told by the window: it goes on after the reply to the first READ that was not answered,
-/// and waits while that is missing; a READ that is asked goes under way, and one that was refused ends the call.
+/// The window determines the rest of the plan. It continues after the reply to the first READ that was not answered,
+/// and waits while that is missing. A READ that is asked becomes one in flight, and one that was refused ends the call.
 pub fn windows_tell_the_plan()
     ensures opened { (handle : List ℕ) (bound : Option ℕ) (site : Site) (facts : Facts) (later : Own)
         (answers : Answers) → window_plan handle bound empty_window site facts later answers
@@ -31,7 +31,7 @@ pub fn windows_tell_the_plan()
     ensures refusal { (handle : List ℕ) (bound : Option ℕ) (w : Window) (site : Site) (facts : Facts) (later : Own)
         (answers : Answers) (r : ReadAt) (y : Reply) → first_of w.waiting ≡ Some r → answers r.place ≡ Some y
         → first_refusal (replies_of w) ≡ None → (brings_content y || is_end_of_file y) ≡ false
-        → window_plan handle bound w site facts later answers ≡ refused y site }
+        → window_plan handle bound w site facts later answers ≡ refusal_move y site }
     ensures none { (handle : List ℕ) (bound : Option ℕ) (w : Window) (site : Site) (facts : Facts)
         (answers : Answers) → w.waiting ≡ [] → window_plan handle bound w site facts [] answers
         ≡ window_move handle bound w site facts }

@@ -1,5 +1,5 @@
-//! The READs of a whole read: which were answered, which are under way, and what the read does next by them.
-//! Nothing here sends or receives, and no call is known here.
+//! The READs of a whole read: those that were answered, those in flight, and the next move that follows from them. This
+//! crate sends and receives nothing, and knows no calls.
 #![tactic(auto)]
 
 mod begins;

@@ -1,4 +1,4 @@
-//! What a whole read does next where no further reply came.
+//! The next move of a whole read if no further reply came.
 ghost use Rattle.std.specs.Prelude.{◌≡◌, IfOk, Some, List, ℕ, min};
 ghost use Rattle.sftp_model.specs.declared.slot.Site.{Site};
 ghost use Rattle.plan_window.specs.Windows.{AsksInRange, IsMoveInRange, IsSound, move_by, window_move};
@@ -14,7 +14,9 @@ use sftp_values::ByteText;
 use ssh_encoding::OutOfMemory;
 use std::alloc::Global;
 
-/// What a whole read does next.
+/// The next move of a whole read.
+///
+/// Example: `crates/plan_window/src/tests.rt`.
 #[derive(Debug, Drop)]
 pub enum WindowMove {
     /// A READ of `len` bytes from this offset on is asked.
@@ -23,11 +25,11 @@ pub enum WindowMove {
     Wait { place: u64 },
     /// These are all bytes of the file.
     Whole(ByteText),
-    /// As many DATA came as the bound allows, and the end is not known.
+    /// The bound on DATA is reached, and the end is not known.
     GivenUp,
 }
 
-/// The first READ under way is awaited.
+/// Waits for the first READ in flight.
 fn wait_first(waiting: &[ReadAt]) -> WindowMove
     ensures { result ≡ wait_first waiting.now }
 {
@@ -38,7 +40,7 @@ fn wait_first(waiting: &[ReadAt]) -> WindowMove
 }
 
 impl Window {
-    /// The greatest offset that was reached or that a READ under way asks for.
+    /// Returns the greatest offset that was reached or that a READ in flight asks for.
     fn reach(&self) -> u64
         requires { IsSound self.now }
         ensures { result ≡ reach_of self.now.answered self.now.waiting }
@@ -48,7 +50,7 @@ impl Window {
             .max(waiting_reach(self.waiting.as_slice()))
     }
 
-    /// How many bytes there are up to the next offset at which a READ begins, and `most` where there are more.
+    /// Returns the number of bytes up to the next offset at which a READ begins, or `most` if there are more.
     fn len_to_next(&self, p: u64, most: u32) -> u32
         ensures { result ≡ min (len_to_next self.now.answered self.now.waiting p) most }
     {
@@ -57,7 +59,7 @@ impl Window {
         next.unwrap_or(p).saturating_sub(p).min(most as u64) as u32
     }
 
-    /// A READ at the gap, or else after all where no end is known.
+    /// Asks a READ at the gap, or otherwise after all if no end is known.
     fn ask_next(&self, facts: &Facts, gap: Option<u64>, end: Option<u64>) -> WindowMove
         requires sound { IsSound self.now }
         requires within { AsksWithin facts.now (ask_next self.now facts.now gap end) }
@@ -78,7 +80,7 @@ impl Window {
         }
     }
 
-    /// The bound ends it; a READ is asked where fewer are under way than the session allows.
+    /// Ends at the bound; otherwise asks a READ if fewer are in flight than the session allows.
     fn go_further(
         &self,
         bound: u32,
@@ -100,7 +102,7 @@ impl Window {
         wait_first(waiting)
     }
 
-    /// The least end of bytes at which no READ begins, below the end of the file, or else below what was reached.
+    /// Returns the least end of bytes at which no READ begins, below the end of the file, or otherwise below the reach.
     fn gap_of(&self, end: Option<u64>) -> Option<u64>
         requires { IsSound self.now }
         ensures { result ≡ gap_of self.now.answered self.now.waiting end }
@@ -112,7 +114,7 @@ impl Window {
         least_below(self.tally.free.as_slice(), limit)
     }
 
-    /// What is done next, by the READs alone. Refused only for want of memory.
+    /// Returns the next move, by the READs alone. Fails only if an allocation fails.
     fn plain_move(
         &self,
         alloc: Global,
@@ -134,8 +136,12 @@ impl Window {
         Ok(self.go_further(bound, facts, gap, end))
     }
 
-    /// What a whole read does next that may be answered by at most `bound` DATA, where the reply to the first READ under
-    /// way has not come. Refused only for want of memory.
+    /// Returns the next move of a whole read that at most `bound` DATA may answer, if the reply to the first READ in
+    /// flight has not come.
+    ///
+    /// # Errors
+    ///
+    /// `OutOfMemory` if an allocation fails.
     pub fn next_move(
         &self,
         alloc: Global,

@@ -1,4 +1,4 @@
-//! The numbers of a window's READs: the ends that were told, the offsets that were reached and asked for.
+//! The numbers of a window's READs: the ends that were reported, and the offsets that were reached and asked for.
 ghost use Rattle.std.specs.Prelude.{◌≡◌};
 ghost use Rattle.sftp_model.specs.Answers.{is_end_of_file};
 ghost use Rattle.plan_model.specs.WindowPlans.{brings_content};
@@ -10,7 +10,7 @@ use crate::window::{Answered, ReadAt};
 use sftp_model::Reply;
 use sftp_model::numbers::SSH_FX_EOF;
 
-/// The lesser of two offsets, where there are any.
+/// Returns the lesser of two offsets, if there are any.
 pub(crate) fn least_of(a: Option<u64>, b: Option<u64>) -> Option<u64>
     ensures { result ≡ least_of a b }
 {
@@ -21,7 +21,7 @@ pub(crate) fn least_of(a: Option<u64>, b: Option<u64>) -> Option<u64>
     }
 }
 
-/// Whether a reply is the end of the file.
+/// Returns true if a reply is the end of the file.
 fn is_end(reply: &Reply) -> bool
     ensures { result ≡ is_end_of_file reply.now }
 {
@@ -31,7 +31,7 @@ fn is_end(reply: &Reply) -> bool
     }
 }
 
-/// The end of the file that this READ told.
+/// Returns the end of the file that this READ reported.
 pub(crate) fn end_at(answered: &Answered) -> Option<u64>
     ensures { result ≡ end_at answered.now }
 {
@@ -42,7 +42,7 @@ pub(crate) fn end_at(answered: &Answered) -> Option<u64>
     }
 }
 
-/// Where the bytes of a DATA end.
+/// Returns the offset at which the bytes of a DATA end.
 pub(crate) fn data_end(answered: &Answered) -> Option<u64>
     requires range { IsInRange answered.now.read }
     requires fits { FitsRead answered.now.read answered.now.reply }
@@ -54,7 +54,7 @@ pub(crate) fn data_end(answered: &Answered) -> Option<u64>
     }
 }
 
-/// Where the bytes of this READ end, and where it begins if it got none.
+/// Returns the offset at which the bytes of this READ end, or at which it begins if it received none.
 pub(crate) fn reached_at(answered: &Answered) -> u64
     requires range { IsInRange answered.now.read }
     requires fits { FitsRead answered.now.read answered.now.reply }
@@ -63,7 +63,7 @@ pub(crate) fn reached_at(answered: &Answered) -> u64
     data_end(answered).unwrap_or(answered.read.offset)
 }
 
-/// The greatest offset up to which a READ under way asks.
+/// Returns the greatest offset up to which a READ in flight asks.
 pub(crate) fn waiting_reach(waiting: &[ReadAt]) -> u64
     requires { AreInRange waiting.now }
     ensures { result ≡ greatest_by read_end waiting.now }
@@ -81,14 +81,14 @@ pub(crate) fn waiting_reach(waiting: &[ReadAt]) -> u64
     }
 }
 
-/// An offset that is above another one.
+/// Returns the offset if it is above another one.
 fn above(p: u64, offset: u64) -> Option<u64>
     ensures { result ≡ above p offset }
 {
     if p < offset { Some(offset) } else { None }
 }
 
-/// The least offset above this one at which a READ under way begins.
+/// Returns the least offset above this one at which a READ in flight begins.
 #[tactic(auto, using(crate::proofs::StepLaws::least_of_none, crate::proofs::StepLaws::least_of_more))]
 pub(crate) fn waiting_above(waiting: &[ReadAt], p: u64) -> Option<u64>
     ensures { result ≡ least_by (waiting_above p) waiting.now }
@@ -106,7 +106,7 @@ pub(crate) fn waiting_above(waiting: &[ReadAt], p: u64) -> Option<u64>
     }
 }
 
-/// Whether a reply is a DATA.
+/// Returns true if a reply is a DATA.
 pub(crate) fn is_content(reply: &Reply) -> bool
     ensures { result ≡ brings_content reply.now }
 {

@@ -1,4 +1,4 @@
-//! What a window keeps of the READs that were answered.
+//! The record that a window keeps of the READs that were answered.
 ghost use Rattle.std.specs.Prelude.{◌≡◌, ◌∷◌, ◌++◌, [], List, IfOk};
 ghost use Rattle.std.specs.List.Sorted.{IsNonDecreasing};
 ghost use Rattle.plan_window.specs.declared.window.Answered.{Answered as Read};
@@ -14,22 +14,24 @@ use sftp_values::Items;
 use ssh_encoding::OutOfMemory;
 use std::alloc::Global;
 
-/// What is kept of the READs that were answered.
+/// The record of the READs that were answered.
+///
+/// Used in `crates/plan_window/src/window.rt`.
 #[derive(Debug, Drop)]
 pub struct Tally {
-    /// The least end of the file that was told.
+    /// The least end of the file that was reported.
     pub end: Option<u64>,
     /// The greatest offset that was reached.
     pub reached: u64,
-    /// How many DATA came, and `u32::MAX` where more came.
+    /// The number of DATA that came, or `u32::MAX` if more came.
     pub contents: u32,
-    /// Where the READs begin, ascending.
+    /// The offsets of the READs, ascending.
     pub begins: Items<u64>,
     /// The ends of DATA at which none of the READs begins.
     pub free: Items<u64>,
 }
 
-/// These ends with that of a DATA, where none of these READs begins there. Refused only for want of memory.
+/// Adds the end of a DATA to these ends, if none of these READs begins there. Fails only if an allocation fails.
 fn with_end(
     free: Items<u64>,
     begins: &[u64],
@@ -51,7 +53,7 @@ fn with_end(
 }
 
 impl Tally {
-    /// Of no READ.
+    /// Creates the tally of no READ.
     pub(crate) fn new(alloc: Global) -> Tally
         ensures { IsTally result [] [] }
     {
@@ -64,7 +66,7 @@ impl Tally {
         }
     }
 
-    /// With a READ more under way, which begins here.
+    /// Adds another READ in flight, which begins here.
     pub(crate) fn asked(self, offset: u64) -> Tally
         ensures { (answered : List Read) (waiting : List ReadAt) (r : ReadAt) → r.offset ≡ offset
             → IsTally self answered waiting → IsTally result answered (waiting ++ r ∷ []) }
@@ -87,7 +89,7 @@ impl Tally {
         }
     }
 
-    /// With the reply to the first READ under way; these are the others. Refused only for want of memory.
+    /// Adds the reply to the first READ in flight; these are the others. Fails only if an allocation fails.
     pub(crate) fn answered(
         self,
         answer: &Answered,

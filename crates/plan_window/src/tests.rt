@@ -1,4 +1,4 @@
-// The worked windows, and what each does next.
+//! Tests of the worked windows and of their next moves.
 ghost use Rattle.std.specs.Prelude.{◌≡◌, IfOk, Some};
 ghost use Rattle.sftp_model.specs.declared.reply.Reply.TheVariants as replies;
 ghost use Rattle.plan_window.specs.Windows.{AsksInRange, FitsRead, IsSound, answered_more, first_of};
@@ -14,7 +14,7 @@ use ssh_encoding::OutOfMemory;
 use std::alloc::Global;
 use std::test::Fail;
 
-/// Reads of 2 bytes, two under way.
+/// Returns facts with reads of 2 bytes, two in flight.
 fn facts() -> Facts
     ensures { result ≡ two }
 {
@@ -33,7 +33,7 @@ fn read(place: u64, offset: u64, len: u32) -> ReadAt
     ReadAt { place, offset, len }
 }
 
-/// READs at 0 and 2.
+/// Returns the window with READs at 0 and 2.
 fn both(alloc: Global) -> Result<Window, OutOfMemory>
     ensures is { IfOk result (λ w. w ≡ both) }
     ensures sound { IfOk result IsSound }
@@ -43,7 +43,7 @@ fn both(alloc: Global) -> Result<Window, OutOfMemory>
         .asked(read(2, 2, 2))
 }
 
-/// After these bytes.
+/// Returns the window after these bytes.
 #[tactic(auto, using(crate::proofs::RowLaws::fits_first))]
 fn brought(alloc: Global, w: Window, first: ReadAt, bytes: &[u8]) -> Result<Window, OutOfMemory>
     requires sound { IsSound w }
@@ -55,7 +55,7 @@ fn brought(alloc: Global, w: Window, first: ReadAt, bytes: &[u8]) -> Result<Wind
     w.replied(Reply::Content(Bytes::copy_from_slice(alloc, bytes)?))
 }
 
-/// After one byte.
+/// Returns the window after one byte.
 fn short(alloc: Global) -> Result<Window, OutOfMemory>
     ensures is { IfOk result (λ w. w ≡ short) }
     ensures sound { IfOk result IsSound }
@@ -63,7 +63,7 @@ fn short(alloc: Global) -> Result<Window, OutOfMemory>
     brought(alloc, both(alloc)?, read(1, 0, 2), b"a")
 }
 
-/// After four bytes.
+/// Returns the window after four bytes.
 fn full(alloc: Global) -> Result<Window, OutOfMemory>
     ensures is { IfOk result (λ w. w ≡ full) }
     ensures sound { IfOk result IsSound }
@@ -72,7 +72,7 @@ fn full(alloc: Global) -> Result<Window, OutOfMemory>
     brought(alloc, first, read(2, 2, 2), b"cd")
 }
 
-/// After the end of the file, before a byte that was missing.
+/// Returns the window after the end of the file, before a missing byte.
 #[tactic(auto, using(crate::proofs::RowLaws::fits_first))]
 fn ended(alloc: Global) -> Result<Window, OutOfMemory>
     ensures is { IfOk result (λ w. w ≡ ended) }
@@ -88,7 +88,7 @@ fn ended(alloc: Global) -> Result<Window, OutOfMemory>
     brought(alloc, missing, read(3, 1, 1), b"b")
 }
 
-/// What is done next, in short.
+/// The next move, in short form.
 #[derive(Clone, Copy, Debug, PartialEq, Eq)]
 enum Told<'a> {
     Asks(u64, u32),

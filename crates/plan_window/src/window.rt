@@ -9,7 +9,9 @@ use ssh_encoding::OutOfMemory;
 use std::alloc::Global;
 use std::marker::Model;
 
-/// A READ: the place of its request, where it begins and how many bytes it asks for.
+/// A READ: the place of its request, its offset and the number of bytes that it asks for.
+///
+/// Example: `crates/plan_window/src/tests.rt`.
 #[derive(Clone, Copy, Debug, PartialEq, Eq)]
 pub struct ReadAt {
     pub place: u64,
@@ -18,14 +20,18 @@ pub struct ReadAt {
 }
 
 /// A READ that was answered, and its reply.
+///
+/// Used in `crates/plan_window/src/content.rt`.
 #[derive(Debug, Drop)]
 pub struct Answered {
     pub read: ReadAt,
     pub reply: Reply,
 }
 
-/// The READs of a whole read: those that were answered before any that was not, and the others. A move looks at those
-/// under way alone: what it needs of the others is kept beside them.
+/// The READs of a whole read: those that were answered before any that was not, and the others. A move looks only at
+/// those in flight: what it needs of the others is kept beside them.
+///
+/// Example: `crates/test_plan/src/whole_reads.rt`.
 #[derive(Debug, Drop)]
 pub struct Window {
     pub(crate) answered: Items<Answered>,
@@ -45,7 +51,7 @@ impl Model for Window {
 }
 
 impl Window {
-    /// A window without a READ.
+    /// Creates a window without a READ.
     pub fn new(alloc: Global) -> Window
         ensures is { result ≡ empty_window }
         ensures sound { IsSound result }
@@ -57,28 +63,32 @@ impl Window {
         }
     }
 
-    /// The READs that were answered, each with its reply.
+    /// Returns the READs that were answered, each with its reply.
     pub fn answered(&self) -> &[Answered]
         ensures { result.now ≡ self.now.answered }
     {
         self.answered.as_slice()
     }
 
-    /// The READs under way.
+    /// Returns the READs in flight.
     pub fn waiting(&self) -> &[ReadAt]
         ensures { result.now ≡ self.now.waiting }
     {
         self.waiting.as_slice()
     }
 
-    /// The first READ that was not answered.
+    /// Returns the first READ that was not answered.
     pub fn first(&self) -> Option<ReadAt>
         ensures { result ≡ first_of self.now.waiting }
     {
         self.waiting.as_slice().first().copied()
     }
 
-    /// With a READ more under way. Refused only for want of memory.
+    /// Returns the window with another READ in flight.
+    ///
+    /// # Errors
+    ///
+    /// `OutOfMemory` if an allocation fails.
     pub fn asked(self, read: ReadAt) -> Result<Window, OutOfMemory>
         requires sound { IsSound self }
         requires range { IsInRange read }
@@ -99,8 +109,11 @@ impl Window {
         })
     }
 
-    /// After the reply to the first READ that was not answered: a DATA, or the end of the file. Refused only for want
-    /// of memory.
+    /// Returns the window after the reply to the first READ that was not answered: a DATA, or the end of the file.
+    ///
+    /// # Errors
+    ///
+    /// `OutOfMemory` if an allocation fails.
     pub fn replied(self, reply: Reply) -> Result<Window, OutOfMemory>
         requires sound { IsSound self }
         requires some { first_of self.waiting ≢ None }

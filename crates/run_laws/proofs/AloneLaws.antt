@@ -43,8 +43,8 @@ use Rattle.sftp_model.specs.declared.slot.FileAt.{FileAt}
 use Rattle.sftp_model.specs.declared.slot.Site.{Site}
 use Rattle.sftp_model.specs.declared.slot.Slot.TheVariants.{Buffered}
 use Rattle.machine_model.specs.Changes.{ClosesHandle, IsWellFormed}
-use Rattle.machine_model.specs.FileTree.{FileTree, bytes_of, opened_at, put}
-use Rattle.machine_model.specs.Pairs.{Has}
+use Rattle.machine_model.specs.FileTree.{FileTree, bytes_of, opened_at, written_at}
+use Rattle.machine_model.specs.Pairs.{HasEntry}
 use Rattle.machine_model.specs.declared.opened.Opened.TheVariants as opened
 use Rattle.plan_model.specs.declared.call.Call.TheVariants as call
 use Rattle.plan_model.specs.Moves.{Own, handle_of}
@@ -52,7 +52,7 @@ use Rattle.session_model.specs.declared.entry.Entry.{Entry}
 use Rattle.session_model.specs.declared.turn.Turn.{Turn}
 use Rattle.session_model.specs.Calls.{Setting}
 use Rattle.session_model.specs.Grants.{is_asked_by}
-use Rattle.session_model.specs.Readings.{AskedRequest, answer, asked, asked_at, is_by, own, sent}
+use Rattle.session_model.specs.Readings.{AskedRequest, answer, count_submitted, asked_at, is_by, own, count_sent}
 use Rattle.session_model.specs.Journals.{IsJournal}
 use Rattle.session_model.specs.Runs.{IsRun}
 use Rattle.session_model.proofs.CallsSoFar.{reply_may}
@@ -88,7 +88,8 @@ steps_before : (p : ℕ) (xs ys : List Step) → ((place : ℕ) → HasRequest (
     → ((place : ℕ) → HasRequest (asked_in ys) place → p ≤ place) → filter (λ (s : Step). nat_lt s.place p) (xs ++ ys)
     ≡ xs
 steps_before p [] [] low high = refl
-steps_before p [] (y ∷ ys) low high = rw (le-ltb y.place p (high y.place (inl refl))) (steps_before p [] ys low (λ place has. high place (inr has)))
+steps_before p [] (y ∷ ys) low high = rw (le-ltb y.place p (high y.place (inl refl)))
+    (steps_before p [] ys low (λ place has. high place (inr has)))
 steps_before p (x ∷ xs) ys low high = rw (lt-ltb x.place p (low x.place (inl refl)))
     (ap (λ (l : List Step). x ∷ l) (steps_before p xs ys (λ place has. low place (inr has)) high))
 
@@ -97,7 +98,8 @@ pub record Around (config : ServerConfig) (first : FileTree) (whole xs : List St
   pub came : tree_at config first whole t.place ≡ after config first xs
   pub left : tree_at config first whole (t.place + 1) ≡ (answer_to config (after config first xs) t).1
 
-pub around : (config : ServerConfig) (first : FileTree) (past : List Entry) (n : ℕ) (whole xs steps : List Step) (t : Step)
+pub around : (config : ServerConfig) (first : FileTree) (past : List Entry) (n : ℕ) (whole xs steps : List Step)
+    (t : Step)
     → whole ≡ xs ++ t ∷ steps → AreRising (asked_in whole) → AreKnown past n (asked_in whole)
     → Around config first whole xs t
 around config first past n whole xs steps t is rising known =
@@ -122,10 +124,12 @@ around config first past n whole xs steps t is rising known =
 
     from : (place : ℕ) → HasRequest (asked_in (t ∷ steps)) place → t.place ≤ place
     from place (inl e) = (let here : t.place ≡ place = e in omega (arith, here))
-    from place (inr has) = (let lt : t.place < place = above_has t.place place (asked_in steps) rising_t.0 has in omega (arith, lt))
+    from place (inr has) = (let lt : t.place < place = above_has t.place place (asked_in steps) rising_t.0 has in
+        omega (arith, lt))
 
     above : (place : ℕ) → HasRequest (asked_in steps) place → t.place + 1 ≤ place
-    above place has = (let lt : t.place < place = above_has t.place place (asked_in steps) rising_t.0 has in omega (arith, lt))
+    above place has = (let lt : t.place < place = above_has t.place place (asked_in steps) rising_t.0 has in
+        omega (arith, lt))
 
     to : (place : ℕ) → HasRequest (asked_in (xs ++ t ∷ [])) place → place < t.place + 1
     to place has = elim (has_parts xs (t ∷ []) place has) [
@@ -143,11 +147,11 @@ writes_no_handle (request.Fsetstat handle attrs) h k w may = cc
 writes_no_handle (request.CopyData from from_offset len to to_offset) h k w may = cc
 writes_no_handle other h k w may = w
 
-seen_more : (seen : List ℕ) (xs : List Step) (p : ℕ) → Has seen p → Has (seen_after seen xs) p
+seen_more : (seen : List ℕ) (xs : List Step) (p : ℕ) → HasEntry seen p → HasEntry (seen_after seen xs) p
 seen_more seen [] p has = has
 seen_more seen (x ∷ xs) p has = seen_more (x.place ∷ seen) xs p (inr has)
 
-seen_there : (seen : List ℕ) (xs : List Step) (p : ℕ) → HasRequest (asked_in xs) p → Has (seen_after seen xs) p
+seen_there : (seen : List ℕ) (xs : List Step) (p : ℕ) → HasRequest (asked_in xs) p → HasEntry (seen_after seen xs) p
 seen_there seen [] p has = absurd has
 seen_there seen (x ∷ xs) p (inl e) = seen_more (x.place ∷ seen) xs p (inl e)
 seen_there seen (x ∷ xs) p (inr has) = seen_there (x.place ∷ seen) xs p has
@@ -158,15 +162,19 @@ Guards past lane k start h whole =
     (xs ys : List Step) (t : Step) (q : ℕ) → whole ≡ xs ++ t ∷ ys → start ≤ t.place → HasRequest (asked_in ys) q
     → is_asked_by (asked_at past q) lane k ≡ true → ClosesHandle t.request h → ⊥
 
--- A call's requests write by a handle: it is that of a grant which was made before the call, and which no other step closes meanwhile.
+-- A call's requests write by a handle: it is that of a grant which was made before the call, and which no other step
+-- closes meanwhile.
 guards_of : (s : Setting) (config : ServerConfig) (choices : List Choice) (first now : FileTree) (past : List Entry)
     (lane k : ℕ) (w : ℕ × Request) (written : Own) (h : List ℕ) (run : RunOf config choices first past now)
     → IsJournal s past
-    → own past lane k ≡ w ∷ written → w.0 < sent past → AllWriteBy past lane k h → Guards past lane k w.0 h run.steps
-guards_of s config choices first now past lane k w written h run j asks w_sent bears xs ys t q is from has mine = by_asked (asked_at past q) refl mine
+    → own past lane k ≡ w ∷ written → w.0 < count_sent past → AllWriteBy past lane k h
+    → Guards past lane k w.0 h run.steps
+guards_of s config choices first now past lane k w written h run j asks w_sent bears xs ys t q is from has mine =
+    by_asked (asked_at past q) refl mine
   where
-    all : AreAll past (sent past) [] (asked_in (xs ++ t ∷ ys))
-    all = subst (λ (l : List Step). AreAll past (sent past) [] (asked_in l)) is (subst (AreAll past (sent past) []) (sym run.asks) (all_sent past))
+    all : AreAll past (count_sent past) [] (asked_in (xs ++ t ∷ ys))
+    all = subst (λ (l : List Step). AreAll past (count_sent past) [] (asked_in l)) is
+        (subst (AreAll past (count_sent past) []) (sym run.asks) (all_sent past))
 
     kept : AreKept (answer past) (grant_at s past) (seen_after [] xs) (t ∷ ys)
     kept =
@@ -174,12 +182,14 @@ guards_of s config choices first now past lane k w written h run j asks w_sent b
         (subst (AreKept (answer past) (grant_at s past) []) is
         (grants_are_kept config (answer past) (grant_at s past) (kinds_of config first run.steps) first run.steps
         run.served (served_use_grants s config choices first past now run j)
-        (kinds_as config (answer past) (kinds_of config first run.steps) first run.steps (λ place there. refl) run.distinct run.served)))
+        (kinds_as config (answer past) (kinds_of config first run.steps) first run.steps (λ place there. refl)
+        run.distinct run.served)))
 
     by_grant : (a : AskedRequest) → asked_at past q ≡ Some a → is_by a.by lane k ≡ true → ClosesHandle t.request h → ⊥
     by_grant a at by =
         subst (λ (x : List ℕ). ClosesHandle t.request x → ⊥) (ap handle_of u.came)
-        (kept.0 u.grant (seen_there [] xs u.grant seen) (used_there (grant_at s past) u.grant q ys has (grant_of_subject s past q a h at subject_is ∙ u.is))).0
+        (kept.0 u.grant (seen_there [] xs u.grant seen) (used_there (grant_at s past) u.grant q ys has
+        (grant_of_subject s past q a h at subject_is ∙ u.is))).0
       where
         subject_is : subject a.request ≡ Some h
         subject_is = writes_subject a.request h (bears q a mine at)
@@ -193,15 +203,18 @@ guards_of s config choices first now past lane k w written h run j asks w_sent b
         not_own : (x : Option AskedRequest) → asked_at past u.grant ≡ x → is_asked_by x lane k ≡ true → ⊥
         not_own None none own_it = cc
         not_own (Some b) there own_it =
-            writes_no_handle b.request h h (bears u.grant b (ap (λ (o : Option AskedRequest). is_asked_by o lane k) there
+            writes_no_handle b.request h h (bears u.grant b (ap (λ (o : Option AskedRequest). is_asked_by o lane k)
+            there
             ∙ own_it) there) (reply_may s past u.grant (reply.Handle h) b j u.came there)
 
         before : u.grant < w.0
         before =
             elim (eqb_tells asker.0 k) [
-              | inl e ↦ absurd (not_own (asked_at past u.grant) refl (subst (λ (n : ℕ). is_asked_by (asked_at past u.grant) lane n ≡ true) e.1 asker.1))
+              | inl e ↦ absurd (not_own (asked_at past u.grant) refl
+                  (subst (λ (n : ℕ). is_asked_by (asked_at past u.grant) lane n ≡ true) e.1 asker.1))
               | inr e ↦ elim (cases_lt asker.0 k) [
-                | inl lt ↦ in_turn s past lane asker.0 k u.grant w.0 j lt asker.1 (has_call past lane k w.0 (w ∷ written) asks (inl refl))
+                | inl lt ↦ in_turn s past lane asker.0 k u.grant w.0 j lt asker.1
+                    (has_call past lane k w.0 (w ∷ written) asks (inl refl))
                 | inr le ↦ absurd (let ne : asker.0 ≢ k = e.1 in let late : q < u.grant =
                     in_turn s past lane k asker.0 q u.grant j (omega (arith, le, ne)) mine asker.1 in
                     let early : u.grant < q = u.before in omega (arith, late, early))
@@ -209,18 +222,21 @@ guards_of s config choices first now past lane k w written h run j asks w_sent b
             ]
 
         seen : HasRequest (asked_in xs) u.grant
-        seen = elim (all.complete u.grant lane asker.0 (let lt : u.grant < w.0 = before in omega (arith, lt, w_sent)) asker.1) [
-          | inl none ↦ absurd none
-          | inr there ↦ elim (has_parts xs (t ∷ ys) u.grant there) [
-            | inl low ↦ low
-            | inr (inl e) ↦ absurd (let here : t.place ≡ u.grant = e in let lt : u.grant < w.0 = before in omega (arith, here, lt, from))
-            | inr (inr more) ↦ absurd (let high : t.place < u.grant =
-                above_has t.place u.grant (asked_in ys) (rising_parts xs (t ∷ ys) all.rising).1.0 more in
-                let lt : u.grant < w.0 = before in omega (arith, high, lt, from))
-          ]
-        ]
+        seen = elim (all.complete u.grant lane asker.0 (let lt : u.grant < w.0 = before in omega (arith, lt, w_sent))
+            asker.1) [
+              | inl none ↦ absurd none
+              | inr there ↦ elim (has_parts xs (t ∷ ys) u.grant there) [
+                | inl low ↦ low
+                | inr (inl e) ↦ absurd (let here : t.place ≡ u.grant = e in let lt : u.grant < w.0 = before in
+                    omega (arith, here, lt, from))
+                | inr (inr more) ↦ absurd (let high : t.place < u.grant =
+                    above_has t.place u.grant (asked_in ys) (rising_parts xs (t ∷ ys) all.rising).1.0 more in
+                    let lt : u.grant < w.0 = before in omega (arith, high, lt, from))
+              ]
+            ]
 
-    by_asked : (x : Option AskedRequest) → asked_at past q ≡ x → is_asked_by x lane k ≡ true → ClosesHandle t.request h → ⊥
+    by_asked : (x : Option AskedRequest) → asked_at past q ≡ x → is_asked_by x lane k ≡ true → ClosesHandle t.request h
+        → ⊥
     by_asked None none own_it = absurd cc
     by_asked (Some a) at own_it = by_grant a at own_it
 
@@ -228,10 +244,12 @@ guards_of s config choices first now past lane k w written h run j asks w_sent b
 
 -- the request at a place leaves the bytes of the file
 abbrev LeavesBytes : ServerConfig → FileTree → List Step → ℕ → ℕ → Type 0
-LeavesBytes config first steps file place = bytes_of (tree_at config first steps (place + 1)) file ≡ bytes_of (tree_at config first steps place) file
+LeavesBytes config first steps file place = bytes_of (tree_at config first steps (place + 1)) file
+    ≡ bytes_of (tree_at config first steps place) file
 
 -- steps of which the first ones, up to a place, are the call's requests and such as leave the file
-record AreAlone (config : ServerConfig) (file : ℕ) (h : List ℕ) (end : ℕ) (later : Own) (tree : FileTree) (steps : List Step) : Type 0 where
+record AreAlone (config : ServerConfig) (file : ℕ) (h : List ℕ) (end : ℕ) (later : Own) (tree : FileTree)
+    (steps : List Step) : Type 0 where
   between : List Step
   rest : List Step
   is : steps ≡ between ++ rest
@@ -246,7 +264,8 @@ alone_by : (config : ServerConfig) (first : FileTree) (past : List Entry) (n m l
     → ((place : ℕ) → HasRequest later place → HasRequest (asked_in steps) place)
     → ((place : ℕ) → HasRequest (asked_in steps) place → is_asked_by (asked_at past place) lane k ≡ true
     → HasRequest later place)
-    → ((a : ℕ × Request) (more : Own) → later ≡ a ∷ more → place_behind a more ≡ end) → (later ≡ [] → (place : ℕ) → HasRequest (asked_in steps) place → end ≤ place)
+    → ((a : ℕ × Request) (more : Own) → later ≡ a ∷ more → place_behind a more ≡ end)
+    → (later ≡ [] → (place : ℕ) → HasRequest (asked_in steps) place → end ≤ place)
     → ((place : ℕ) → HasRequest (asked_in steps) place → place < end → is_asked_by (asked_at past place) lane k ≡ false
     → LeavesBytes config first whole file place)
     → Guards past lane k start h whole → ((place : ℕ) → HasRequest (asked_in steps) place → start ≤ place)
@@ -274,10 +293,12 @@ alone_by config first past n m lane k file start end h whole xs (t ∷ steps) (a
             | inr there ↦ there
           ])
           (λ b more same. ap (λ (l : Own). place_behind a l) (sym same) ∙ ends a later refl)
-          (λ none place has. let last : a.0 + 1 ≡ end = ap (λ (l : Own). place_behind a l) (sym none) ∙ ends a later refl in
+          (λ none place has. let last : a.0 + 1 ≡ end = ap (λ (l : Own). place_behind a l) (sym none)
+          ∙ ends a later refl in
           let lt : t.place < place = above_has t.place place (asked_in steps) rising_t.0 has in let one : t.place
           ≡ a.0 = here.1 in omega (arith, last, lt, one))
-          (λ place has lt out. others place (inr has) lt out) guards (λ place has. from place (inr has)) (λ place has. mine place (inr has)) in
+          (λ place has lt out. others place (inr has) lt out) guards (λ place has. from place (inr has))
+          (λ place has. mine place (inr has)) in
           record {
             between = t ∷ more.between;
             rest = more.rest;
@@ -299,7 +320,8 @@ alone_by config first past n m lane k file start end h whole xs (t ∷ steps) (a
           (let clash : a ∷ later ≡ [] = none in cc)) (λ place has lt out. others place (inr has) lt out) guards
           (λ place has. from place (inr has)) mine in
           let leaves : LeavesBytes config first whole file t.place = others t.place (inl refl) (before_end apart.1)
-          (false_from_ne_true (is_asked_by (asked_at past t.place) lane k) (λ own_it. not_mine apart.1 (sub t.place (inl refl) own_it))) in
+          (false_from_ne_true (is_asked_by (asked_at past t.place) lane k)
+          (λ own_it. not_mine apart.1 (sub t.place (inl refl) own_it))) in
           let trees : Around config first whole xs t = around config first past n whole xs steps t is rising known in
           record {
             between = t ∷ more.between;
@@ -307,7 +329,8 @@ alone_by config first past n m lane k file start end h whole xs (t ∷ steps) (a
             is = ap (λ (l : List Step). t ∷ l) more.is;
             stand = inr (
               subst (λ (x : FileTree). bytes_of (answer_to config x t).1 file ≡ bytes_of x file) (sym at)
-                  (ap (λ (x : FileTree). bytes_of x file) (sym trees.left) ∙ (leaves ∙ ap (λ (x : FileTree). bytes_of x file) trees.came)),
+                  (ap (λ (x : FileTree). bytes_of x file) (sym trees.left)
+                  ∙ (leaves ∙ ap (λ (x : FileTree). bytes_of x file) trees.came)),
               guards xs steps t a.0 is (from t.place (inl refl)) (next apart.1) (mine a.0 (inl refl)),
               more.stand,
             );
@@ -352,7 +375,8 @@ alone_by config first past n m lane k file start end h whole xs (t ∷ steps) (a
 
 -- ---- the two calls
 
--- Bytes that a call of a lane wrote to a buffered file and a flush sent are in the file, in a whole run that a file machine serves.
+-- Bytes that a call of a lane wrote to a buffered file and a flush sent are in the file, in a whole run that a file
+-- machine serves.
 pub run_flushed : (s : Setting) (config : ServerConfig) (choices : List Choice) (first now : FileTree)
     (turns : List Turn) (past : List Entry) (lane k slot : ℕ) (file : FileAt) (buffer : Buffer) (bytes : List ℕ)
     (flush_site : Site) (flush_facts : Facts)
@@ -369,17 +393,18 @@ run_flushed s config choices first now turns past lane k slot file buffer bytes 
     ∙ (flushed_writes config (answer past) slot file buffer bytes site flush_site facts flush_facts (own past lane k)
     flush_own handle t.held began alone.between (steps_well_formed config first c.front well_formed) is_open t.way
     served
-    (subst (λ (l : Own). StandAlone config t.held.file handle l began alone.between) (sym t.asks) alone.stand) some there written same flush
-    ∙ ap (λ (x : FileTree). put (bytes_of x t.held.file) file.offset bytes) (sym at_first))
+    (subst (λ (l : Own). StandAlone config t.held.file handle l began alone.between) (sym t.asks) alone.stand) some
+    there written same flush
+    ∙ ap (λ (x : FileTree). written_at (bytes_of x t.held.file) file.offset bytes) (sym at_first))
   where
     w : ℕ × Request
     w = t.w
 
-    all : AreAll past (sent past) [] (asked_in run.steps)
-    all = subst (AreAll past (sent past) []) (sym run.asks) (all_sent past)
+    all : AreAll past (count_sent past) [] (asked_in run.steps)
+    all = subst (AreAll past (count_sent past) []) (sym run.asks) (all_sent past)
 
     c : IsCut past w.0 run.steps
-    c = cut past (sent past) w.0 run.steps all.known all.rising
+    c = cut past (count_sent past) w.0 run.steps all.known all.rising
 
     began : FileTree
     began = after config first c.front
@@ -390,11 +415,11 @@ run_flushed s config choices first now turns past lane k slot file buffer bytes 
     own_rising : AreRising (w ∷ t.written)
     own_rising = subst AreRising t.asks (own_listed past lane k).0
 
-    own_known : AreKnown past (asked past) (w ∷ t.written)
-    own_known = subst (AreKnown past (asked past)) t.asks (own_listed past lane k).1
+    own_known : AreKnown past (count_submitted past) (w ∷ t.written)
+    own_known = subst (AreKnown past (count_submitted past)) t.asks (own_listed past lane k).1
 
-    below : AreBelow (sent past) (w ∷ t.written)
-    below = subst (AreBelow (sent past)) t.asks (whole_run_sent s turns past lane k whole_run)
+    below : AreBelow (count_sent past) (w ∷ t.written)
+    below = subst (AreBelow (count_sent past)) t.asks (whole_run_sent s turns past lane k whole_run)
 
     from : (place : ℕ) → HasRequest (w ∷ t.written) place → w.0 ≤ place
     from place (inl e) = (let here : w.0 ≡ place = e in omega (arith, here))
@@ -402,13 +427,14 @@ run_flushed s config choices first now turns past lane k slot file buffer bytes 
 
     within : (place : ℕ) → HasRequest (w ∷ t.written) place → HasRequest (asked_in c.back) place
     within place has =
-        elim (all.complete place lane k (below_has (sent past) place (w ∷ t.written) below has) (mine place has)) [
+        elim (all.complete place lane k (below_has (count_sent past) place (w ∷ t.written) below has) (mine place has)) [
           | inl seen ↦ absurd seen
-          | inr there ↦ elim (has_parts c.front c.back place (subst (λ (l : List Step). HasRequest (asked_in l) place) c.is there)) [
-            | inl low ↦ absurd (let lt : place < w.0 = known_has past w.0 place (asked_in c.front) c.low low in
-                let le : w.0 ≤ place = from place has in omega (arith, lt, le))
-            | inr more ↦ more
-          ]
+          | inr there ↦ elim (has_parts c.front c.back place (subst (λ (l : List Step). HasRequest (asked_in l) place)
+              c.is there)) [
+                | inl low ↦ absurd (let lt : place < w.0 = known_has past w.0 place (asked_in c.front) c.low low in
+                    let le : w.0 ≤ place = from place has in omega (arith, lt, le))
+                | inr more ↦ more
+              ]
         ]
 
     others : (place : ℕ) → HasRequest (asked_in c.back) place → place < place_behind w t.written
@@ -416,17 +442,20 @@ run_flushed s config choices first now turns past lane k slot file buffer bytes 
     others place has lt out =
         elim (eqb_tells w.0 place) [
           | inl e ↦ absurd (both_ways (is_asked_by (asked_at past place) lane k) out (mine place (inl e.1)))
-          | inr e ↦ t.others place (let le : w.0 ≤ place = c.high place has in let ne : w.0 ≢ place = e.1 in omega (arith, le, ne)) lt out
+          | inr e ↦ t.others place (let le : w.0 ≤ place = c.high place has in let ne : w.0 ≢ place = e.1 in
+              omega (arith, le, ne)) lt out
         ]
 
     alone : AreAlone config t.held.file handle (place_behind w t.written) (w ∷ t.written) began c.back
     alone =
-        alone_by config first past (sent past) (asked past) lane k t.held.file w.0 (place_behind w t.written) handle run.steps
+        alone_by config first past (count_sent past) (count_submitted past) lane k t.held.file w.0
+        (place_behind w t.written) handle run.steps
         c.front c.back (w ∷ t.written) began all.rising all.known c.is refl own_rising own_known
-        (bear_all past (asked past) lane k handle (w ∷ t.written) own_known mine bears) within
+        (bear_all past (count_submitted past) lane k handle (w ∷ t.written) own_known mine bears) within
         (λ place has own_it. call_has past lane k place (w ∷ t.written) t.asks own_it)
         (λ a more e. sym (λ i. behind_of (e i))) (λ none. absurd (let clash : w ∷ t.written ≡ [] = none in cc)) others
-        (guards_of s config choices first now past lane k w t.written handle run (runs_are_journals s turns past whole_run) t.asks below.0 bears) c.high mine
+        (guards_of s config choices first now past lane k w t.written handle run
+        (runs_are_journals s turns past whole_run) t.asks below.0 bears) c.high mine
       where
         behind_of : Own → ℕ
         behind_of [] = 0

@@ -38,8 +38,8 @@ use Rattle.session_model.specs.declared.entry.Entry.{Entry}
 use Rattle.session_model.specs.Calls.{Setting}
 use Rattle.session_model.specs.Grants.{is_asked_by}
 use Rattle.session_model.specs.Journals.{IsJournal}
-use Rattle.session_model.specs.Readings.{AskedRequest, answer, asked, asked_at, own}
-use Rattle.run_laws.specs.Bearing.{used}
+use Rattle.session_model.specs.Readings.{AskedRequest, answer, count_submitted, asked_at, own}
+use Rattle.run_laws.specs.Bearing.{grant_used_at}
 use Rattle.run_laws.specs.CallsAmong.{asked_by}
 use Rattle.run_laws.specs.GrantUses.{AreAmong, IsCallOn, PassesBy}
 use Rattle.run_laws.specs.Steps.{Step, asked_in}
@@ -59,46 +59,58 @@ pub record Brings (past : List Entry) (lane n : ℕ) (first : ℕ × Request) (l
 
 -- the call's further requests use it, the others what they used
 abbrev pub with_own : List Entry → ℕ → ℕ → ℕ → (ℕ → Option ℕ) → ℕ → Option ℕ
-with_own past lane n first grant_of place = if is_asked_by (asked_at past place) lane n && not (place == first) then Some first else grant_of place
+with_own past lane n first grant_of place = if is_asked_by (asked_at past place) lane n && not (place == first) then
+    Some first else grant_of place
 
 pub later_above : (past : List Entry) (lane n place : ℕ) (first : ℕ × Request) (later : Own) → own past lane n
     ≡ first ∷ later → HasRequest later place → first.0 < place
 later_above past lane n place first later is has =
-    let rising : AreRising (first ∷ later) = subst AreRising is (own_listed past lane n).0 in above_has first.0 place later rising.0 has
+    let rising : AreRising (first ∷ later) = subst AreRising is (own_listed past lane n).0 in
+    above_has first.0 place later rising.0 has
 
 later_is : (past : List Entry) (lane n place : ℕ) (first : ℕ × Request) (later : Own) → own past lane n ≡ first ∷ later
     → is_asked_by (asked_at past place) lane n ≡ true → place ≢ first.0 → HasRequest later place
-later_is past lane n place first later is mine apart = elim (call_has past lane n place (first ∷ later) is mine) [ inl e ↦ absurd (apart (sym e)) | inr h ↦ h ]
+later_is past lane n place first later is mine apart = elim (call_has past lane n place (first ∷ later) is mine)
+    [ inl e ↦ absurd (apart (sym e)) | inr h ↦ h ]
 
 -- what stands before a call's first request is none of its own
 pub not_begun : (past : List Entry) (lane n place : ℕ) (first : ℕ × Request) (later : Own) → own past lane n
     ≡ first ∷ later → place < first.0 → is_asked_by (asked_at past place) lane n ≡ false
 not_begun past lane n place first later is lt =
-    false_from_ne_true (is_asked_by (asked_at past place) lane n) (λ mine. by_has (call_has past lane n place (first ∷ later) is mine))
+    false_from_ne_true (is_asked_by (asked_at past place) lane n)
+    (λ mine. by_has (call_has past lane n place (first ∷ later) is mine))
   where
     by_has : HasRequest (first ∷ later) place → ⊥
     by_has (inl e) = (let here : first.0 ≡ place = e in omega (arith, lt, here))
-    by_has (inr h) = (let above : first.0 < place = later_above past lane n place first later is h in omega (arith, lt, above))
+    by_has (inr h) = (let above : first.0 < place = later_above past lane n place first later is h in
+        omega (arith, lt, above))
 
 -- nor is what stands behind it and isn't one of its further ones
 pub not_own : (past : List Entry) (lane n place : ℕ) (first : ℕ × Request) (later : Own) → own past lane n
     ≡ first ∷ later → first.0 < place → (HasRequest later place → ⊥) → is_asked_by (asked_at past place) lane n ≡ false
 not_own past lane n place first later is above out =
-    false_from_ne_true (is_asked_by (asked_at past place) lane n) (λ mine. by_has (call_has past lane n place (first ∷ later) is mine))
+    false_from_ne_true (is_asked_by (asked_at past place) lane n)
+    (λ mine. by_has (call_has past lane n place (first ∷ later) is mine))
   where
     by_has : HasRequest (first ∷ later) place → ⊥
     by_has (inl e) = (let here : first.0 ≡ place = e in omega (arith, above, here))
     by_has (inr h) = out h
 
 not_first : (place first : ℕ) → not (place == first) ≡ true → place ≢ first
-not_first place first e = elim (eqb_tells place first) [ inl t ↦ absurd (let clash : false ≡ true = rw t.0 at e in cc) | inr t ↦ t.1 ]
+not_first place first e = elim (eqb_tells place first) [
+  | inl t ↦ absurd (let clash : false ≡ true = rw t.0 at e in cc)
+  | inr t ↦ t.1
+]
 
 pub own_with : (past : List Entry) (lane n place : ℕ) (first : ℕ × Request) (later : Own) (grant_of : ℕ → Option ℕ)
     → own past lane n ≡ first ∷ later → HasRequest later place → with_own past lane n first.0 grant_of place
     ≡ Some first.0
 own_with past lane n place first later grant_of is has =
     let lt : first.0 < place = later_above past lane n place first later is has in
-    rw (has_call past lane n place (first ∷ later) is (inr has), ne_eqb place first.0 (λ same. absurd (omega (arith, lt, same)))) refl
+    rw (
+      has_call past lane n place (first ∷ later) is (inr has),
+      ne_eqb place first.0 (λ same. absurd (omega (arith, lt, same))),
+    ) refl
 
 pub other_with : (past : List Entry) (lane n place first : ℕ) (grant_of : ℕ → Option ℕ)
     → is_asked_by (asked_at past place) lane n ≡ false → with_own past lane n first grant_of place ≡ grant_of place
@@ -109,7 +121,8 @@ pub with_own_well : (s : Setting) (past : List Entry) (lane n : ℕ) (first : �
     → UseWell s past (with_own past lane n first.0 grant_of)
 with_own_well s past lane n first later grant_of j b well = record { may = may; closes = closes }
   where
-    own_may : (place g : ℕ) → is_asked_by (asked_at past place) lane n ≡ true → place ≢ first.0 → first.0 ≡ g → MayBeUsed s past place g
+    own_may : (place g : ℕ) → is_asked_by (asked_at past place) lane n ≡ true → place ≢ first.0 → first.0 ≡ g
+        → MayBeUsed s past place g
     own_may place g mine apart same =
         let has : HasRequest later place = later_is past lane n place first later b.own_is mine apart in
         let brought = b.granted place has in
@@ -124,7 +137,8 @@ with_own_well s past lane n first later grant_of j b well = record { may = may; 
           unclosed = open_own s past lane n place first later j b.own_is mine;
         })
 
-    may : (place g : ℕ) → place < asked past → with_own past lane n first.0 grant_of place ≡ Some g → MayBeUsed s past place g
+    may : (place g : ℕ) → place < count_submitted past → with_own past lane n first.0 grant_of place ≡ Some g
+        → MayBeUsed s past place g
     may place g below e = by_test (is_asked_by (asked_at past place) lane n && not (place == first.0)) refl e
       where
         by_test : (t : Bool) → (is_asked_by (asked_at past place) lane n && not (place == first.0)) ≡ t
@@ -134,58 +148,72 @@ with_own_well s past lane n first later grant_of j b well = record { may = may; 
         by_test false is e = well.may place g below e
 
     closes : (place : ℕ) (a : AskedRequest) (h : List ℕ) → asked_at past place ≡ Some a → a.request ≡ request.Close h
-        → with_own past lane n first.0 grant_of place ≡ used s past place h
+        → with_own past lane n first.0 grant_of place ≡ grant_used_at s past place h
     closes place a h at close = by_test (is_asked_by (asked_at past place) lane n && not (place == first.0)) refl
       where
         by_test : (t : Bool) → (is_asked_by (asked_at past place) lane n && not (place == first.0)) ≡ t
-            → (if t then Some first.0 else grant_of place) ≡ used s past place h
+            → (if t then Some first.0 else grant_of place) ≡ grant_used_at s past place h
         by_test true is =
             let both = and_parts (is_asked_by (asked_at past place) lane n) (not (place == first.0)) is in
-            absurd (not_first place first.0 both.1 (close_is_first s past lane n place a h first later j b.own_is both.0 at close))
+            absurd (not_first place first.0 both.1 (close_is_first s past lane n place a h first later j b.own_is both.0
+            at close))
         by_test false is = well.closes place a h at close
 
 -- ---- requests among others
 
--- Steps from a place on, in which the rest of a call's requests stand, each using the grant; what is none of the call's passes by.
+-- Steps from a place on, in which the rest of a call's requests stand, each using the grant; what is none of the call's
+-- passes by.
 pub among_by : (past : List Entry) (hi m lo from : ℕ) (answers : Answers) (grant_of : ℕ → Option ℕ)
     (elsewhere : ℕ → Bool) (name : Name) (grant : ℕ) (all : Own) (steps : List Step) (later : Own)
-    → from ≤ lo → AllAbove lo (asked_in steps) → AreRising (asked_in steps) → AreKnown past hi (asked_in steps) → AreRising later → AreKnown past m later
+    → from ≤ lo → AllAbove lo (asked_in steps) → AreRising (asked_in steps) → AreKnown past hi (asked_in steps)
+    → AreRising later → AreKnown past m later
     → ((place : ℕ) → HasRequest later place → HasRequest (asked_in steps) place)
     → ((place : ℕ) → lo < place → HasRequest all place → HasRequest later place)
     → ((place : ℕ) → HasRequest later place → grant_of place ≡ Some grant)
     → ((t : Step) → IsAt past (asked_by t) → from < t.place → t.place < hi → (HasRequest all t.place → ⊥)
     → PassesBy answers grant_of elsewhere name t) → AreAmong answers grant_of elsewhere name grant later steps
-among_by past hi m lo from answers grant_of elsewhere name grant all [] [] le above rising known rising' known' within sub own_use others = tt
+among_by past hi m lo from answers grant_of elsewhere name grant all [] [] le above rising known rising' known' within
+    sub own_use others = tt
 among_by past hi m lo from answers grant_of elsewhere name grant all [] (a ∷ later) le above rising known rising' known'
     within sub own_use others = absurd (within a.0 (inl refl))
-among_by past hi m lo from answers grant_of elsewhere name grant all (s ∷ steps) [] le above rising known rising' known' within sub own_use others = (
-  others s known.0.1 (let lt : lo < s.place = above.0 in omega (arith, le, lt)) known.0.0 (λ h. sub s.place above.0 h),
-  among_by past hi m s.place from answers grant_of elsewhere name grant all steps []
-      (let lt : lo < s.place = above.0 in omega (arith, le, lt)) rising.0 rising.1 known.1 tt tt (λ place h. absurd h)
-      (λ place lt h. sub place (let low : lo < s.place = above.0 in omega (arith, low, lt)) h) own_use others,
-)
-among_by past hi m lo from answers grant_of elsewhere name grant all (s ∷ steps) (a ∷ later) le above rising known rising' known' within sub own_use others =
+among_by past hi m lo from answers grant_of elsewhere name grant all (s ∷ steps) [] le above rising known rising' known'
+    within sub own_use others = (
+      others s known.0.1 (let lt : lo < s.place = above.0 in omega (arith, le, lt)) known.0.0 (λ h. sub s.place above.0 h),
+      among_by past hi m s.place from answers grant_of elsewhere name grant all steps []
+          (let lt : lo < s.place = above.0 in omega (arith, le, lt)) rising.0 rising.1 known.1 tt tt (λ place h. absurd h)
+          (λ place lt h. sub place (let low : lo < s.place = above.0 in omega (arith, low, lt)) h) own_use others,
+    )
+among_by past hi m lo from answers grant_of elsewhere name grant all (s ∷ steps) (a ∷ later) le above rising known
+    rising' known' within sub own_use others =
     elim (eqb_tells s.place a.0) [
       | inl t ↦ inl (
         t.1,
         one_at past (asked_by s) a known.0.1 known'.0.1 t.1,
         ap grant_of t.1 ∙ own_use a.0 (inl refl),
-        among_by past hi m s.place from answers grant_of elsewhere name grant all steps later here rising.0 rising.1 known.1 rising'.1 known'.1
+        among_by past hi m s.place from answers grant_of elsewhere name grant all steps later here rising.0 rising.1
+            known.1 rising'.1 known'.1
             (λ place h. elim (within place (inr h)) [
               | inl e ↦ absurd (let lt : a.0 < place = above_has a.0 place later rising'.0 h in let same : s.place
                   ≡ place = e in let one : s.place ≡ a.0 = t.1 in omega (arith, lt, same, one))
               | inr more ↦ more
             ])
             (λ place lt h. elim (sub place (let low : lo < s.place = above.0 in omega (arith, low, lt)) h) [
-              | inl e ↦ absurd (let same : a.0 ≡ place = e in let one : s.place ≡ a.0 = t.1 in omega (arith, lt, same, one))
+              | inl e ↦ absurd (let same : a.0 ≡ place = e in let one : s.place ≡ a.0 = t.1 in
+                  omega (arith, lt, same, one))
               | inr more ↦ more
             ])
             (λ place h. own_use place (inr h)) others,
       )
       | inr t ↦ inr (
-        others s known.0.1 (let lt : lo < s.place = above.0 in omega (arith, le, lt)) known.0.0 (λ h. not_mine t.1 (sub s.place above.0 h)),
-        among_by past hi m s.place from answers grant_of elsewhere name grant all steps (a ∷ later) here rising.0 rising.1 known.1 rising' known'
-            (λ place h. elim (within place h) [ inl e ↦ absurd (not_mine t.1 (subst (λ (p : ℕ). HasRequest (a ∷ later) p) (sym e) h)) | inr more ↦ more ])
+        others s known.0.1 (let lt : lo < s.place = above.0 in omega (arith, le, lt)) known.0.0
+            (λ h. not_mine t.1 (sub s.place above.0 h)),
+        among_by past hi m s.place from answers grant_of elsewhere name grant all steps (a ∷ later) here rising.0
+            rising.1 known.1 rising' known'
+            (λ place h. elim (within place h) [
+              | inl e ↦ absurd (not_mine t.1
+                  (subst (λ (p : ℕ). HasRequest (a ∷ later) p) (sym e) h))
+              | inr more ↦ more
+            ])
             (λ place lt h. sub place (let low : lo < s.place = above.0 in omega (arith, low, lt)) h) own_use others,
       )
     ]
@@ -199,7 +227,8 @@ among_by past hi m lo from answers grant_of elsewhere name grant all (s ∷ step
         let lt : a.0 < s.place = above_has a.0 s.place later rising'.0 h in
         elim (within a.0 (inl refl)) [
           | inl e ↦ apart e
-          | inr more ↦ (let low : s.place < a.0 = above_has s.place a.0 (asked_in steps) rising.0 more in omega (arith, lt, low))
+          | inr more ↦ (let low : s.place < a.0 = above_has s.place a.0 (asked_in steps) rising.0 more in
+              omega (arith, lt, low))
         ]
 
 -- ---- one call
@@ -223,17 +252,21 @@ low_known past n (x ∷ xs) ys y rising known = (
 
 pub call_on : (past : List Entry) (n hi : ℕ) (grant_of : ℕ → Option ℕ) (elsewhere : ℕ → Bool) (name : Name) (lane c : ℕ)
     (first : ℕ × Request) (later : Own) (xs steps ys : List Step) (s : Step)
-    → AreAll past n [] (asked_in (xs ++ s ∷ (steps ++ ys))) → own past lane c ≡ first ∷ later → asked_by s ≡ first → hi ≤ n → AreKnown past hi (asked_in steps)
+    → AreAll past n [] (asked_in (xs ++ s ∷ (steps ++ ys))) → own past lane c ≡ first ∷ later → asked_by s ≡ first
+    → hi ≤ n → AreKnown past hi (asked_in steps)
     → ((place : ℕ) → HasRequest later place → place < hi) → ((place : ℕ) → HasRequest (asked_in ys) place → hi ≤ place)
     → ((place : ℕ) → HasRequest later place → grant_of place ≡ Some first.0)
     → ((t : Step) → IsAt past (asked_by t) → first.0 < t.place → t.place < hi → (HasRequest later t.place → ⊥)
     → PassesBy (answer past) grant_of elsewhere name t)
     → IsCallOn (answer past) grant_of elsewhere name later s steps
-call_on past n hi grant_of elsewhere name lane c first later xs steps ys s all is asks le known below behind own_use others =
+call_on past n hi grant_of elsewhere name lane c first later xs steps ys s all is asks le known below behind own_use
+    others =
     record {
-      among = among_by past hi (asked past) s.place first.0 (answer past) grant_of elsewhere name s.place later steps
+      among = among_by past hi (count_submitted past) s.place first.0 (answer past) grant_of elsewhere name s.place
+          later steps
           later (let one : s.place ≡ first.0 = at_first in omega (arith, one))
-          (above_parts s.place steps ys rising.0).0 (rising_parts steps ys rising.1).0 known own_rising.1 own_known.1 within (λ place lt h. h)
+          (above_parts s.place steps ys rising.0).0 (rising_parts steps ys rising.1).0 known own_rising.1 own_known.1
+          within (λ place lt h. h)
           (λ place h. own_use place h ∙ ap (λ (p : ℕ). Some p) (sym at_first)) others;
     }
   where
@@ -246,8 +279,8 @@ call_on past n hi grant_of elsewhere name lane c first later xs steps ys s all i
     own_rising : AreRising (first ∷ later)
     own_rising = subst AreRising is (own_listed past lane c).0
 
-    own_known : AreKnown past (asked past) (first ∷ later)
-    own_known = subst (AreKnown past (asked past)) is (own_listed past lane c).1
+    own_known : AreKnown past (count_submitted past) (first ∷ later)
+    own_known = subst (AreKnown past (count_submitted past)) is (own_listed past lane c).1
 
     within : (place : ℕ) → HasRequest later place → HasRequest (asked_in steps) place
     within place h =

@@ -46,17 +46,17 @@ use Rattle.session_model.specs.declared.turn.Turn.{Turn}
 use Rattle.session_model.specs.Calls.{Setting}
 use Rattle.session_model.specs.Grants.{is_asked_by}
 use Rattle.session_model.specs.Journals.{IsJournal}
-use Rattle.session_model.specs.Readings.{answer, asked, asked_at, own, sent}
+use Rattle.session_model.specs.Readings.{answer, count_submitted, asked_at, own, count_sent}
 use Rattle.session_model.specs.Runs.{IsRun}
-use Rattle.session_model.specs.Served.{Serves}
+use Rattle.session_model.specs.Served.{ServesJournal}
 use Rattle.session_model.proofs.OverLaws.{runs_are_journals}
 use Rattle.session_model.proofs.RequestLaws.{sent_asked}
 use Rattle.run_laws.specs.Bearing.{grant_at}
 use Rattle.run_laws.specs.CallsAmong.{GivesUnless, HasEnded, asked_by}
-use Rattle.run_laws.specs.DeferredWrites.{AreWrites, AreWritten, place_behind, carried, places}
+use Rattle.run_laws.specs.DeferredWrites.{AreWrites, AreWritten, place_behind, carried_bytes, places}
 use Rattle.run_laws.specs.GrantUses.{IsCallOn, IsRunOn, PassesBy}
 use Rattle.run_laws.specs.InJournals.{AreBelow, PassesAt, is_elsewhere, is_of_call}
-use Rattle.run_laws.specs.Steps.{AreAllowed, Choose, FeignsNoEnd, Step, asked_in}
+use Rattle.run_laws.specs.Steps.{AreAllowed, ChooseOnly, FeignsNoEnd, Step, asked_in}
 use Rattle.run_laws.proofs.AmongLaws.{Brings, among_by, call_on, low_known, not_begun, not_own, other_with, own_with, with_own, with_own_well}
 use Rattle.run_laws.proofs.AnewLaws.{anew_writes}
 use Rattle.run_laws.proofs.AnewRuns.{LaneOpened, with_call}
@@ -72,12 +72,12 @@ use Rattle.run_laws.proofs.ServedSteps.{HasRequest}
 use Rattle.run_laws.proofs.UseLaws.{UseWell, above_has}
 use Rattle.run_laws.proofs.WholeRunSent.{whole_run_sent}
 
--- A lane to whom a name is opened it to be written anew, wrote to what it opened by a later call, and read the name as a whole by a further one;
--- what its other calls between the first and the last of these ask passes the name by.
+-- A lane to whom a name is opened it to be written anew, wrote to what it opened by a later call, and read the name as
+-- a whole by a further one; what its other calls between the first and the last of these ask passes the name by.
 pub anew_back : (allowed : Choice → Type 0) (s : Setting) (config : ServerConfig) (choices : List Choice)
     (first now : FileTree) (turns : List Turn) (past : List Entry) (name : Name) (lane opener writer reader : ℕ)
     (w r : ℕ × Request) (written read : Own) (path : List ℕ) (bound : ℕ) (site : Site) (facts : Facts) (ended : Outcome)
-    → ((c : Choice) → allowed c → FeignsNoEnd c) → IsRun s turns past → Serves config choices first past now
+    → ((c : Choice) → allowed c → FeignsNoEnd c) → IsRun s turns past → ServesJournal config choices first past now
     → AreAllowed allowed choices → IsWellFormed first → (t : LaneOpened s past name lane opener writer w written)
     → writer < reader → own past lane reader ≡ r ∷ read
     → ((place call : ℕ) → opener < call → call < reader → call ≢ writer → is_of_call past (lane, call) place ≡ true
@@ -86,10 +86,11 @@ pub anew_back : (allowed : Choice → Type 0) (s : Setting) (config : ServerConf
     → UseWell s past (with_call past lane writer w.0 (grant_at s past))
     → components (from_directory site path) ≡ name → 1 ≤ facts.read_len
     → HasEnded (call.FsRead path bound) site facts (r ∷ read) (answer past) ended
-    → GivesUnless allowed ended (carried written)
+    → GivesUnless allowed ended (carried_bytes written)
 anew_back allowed s config choices first now turns past name lane opener writer reader w r written read path bound site
     facts ended honest whole_run serves among well_formed t later reads others writes said uses denotes one did =
-    by_laid (front allowed config choices first past now n serves among (behind_within (sent past) r read until_sent))
+    by_laid (front allowed config choices first past now n serves among
+    (behind_within (count_sent past) r read until_sent))
   where
     n : ℕ
     n = place_behind r read
@@ -97,8 +98,8 @@ anew_back allowed s config choices first now turns past name lane opener writer 
     j : IsJournal s past
     j = runs_are_journals s turns past whole_run
 
-    until_sent : AreBelow (sent past) (r ∷ read)
-    until_sent = subst (AreBelow (sent past)) reads (whole_run_sent s turns past lane reader whole_run)
+    until_sent : AreBelow (count_sent past) (r ∷ read)
+    until_sent = subst (AreBelow (count_sent past)) reads (whole_run_sent s turns past lane reader whole_run)
 
     until : AreBelow n (r ∷ read)
     until = all_behind r read (subst AreRising reads (own_listed past lane reader).0)
@@ -123,8 +124,8 @@ anew_back allowed s config choices first now turns past name lane opener writer 
     below : (place : ℕ) → is_asked_by (asked_at past place) lane writer ≡ true → place < r.0
     below place mine = in_turn s past lane writer reader place r.0 j later mine reader_asked
 
-    known : AreKnown past (asked past) written
-    known = subst (AreKnown past (asked past)) t.asks (own_listed past lane writer).1
+    known : AreKnown past (count_submitted past) written
+    known = subst (AreKnown past (count_submitted past)) t.asks (own_listed past lane writer).1
 
     grant_of : ℕ → Option ℕ
     grant_of = with_own past lane reader r.0 (with_call past lane writer w.0 (grant_at s past))
@@ -132,7 +133,8 @@ anew_back allowed s config choices first now turns past name lane opener writer 
     brings : Brings past lane reader r read
     brings = record {
       own_is = reads;
-      granted = granted_by (call.FsRead path bound) site facts r read (answer past) ended (read_opens path bound site facts r) did;
+      granted = granted_by (call.FsRead path bound) site facts r read (answer past) ended
+          (read_opens path bound site facts r) did;
     }
 
     well : UseWell s past grant_of
@@ -152,7 +154,8 @@ anew_back allowed s config choices first now turns past name lane opener writer 
               | inl x ↦ absurd (both_ways (is_asked_by (asked_at past place) lane reader) out'
                   (subst (λ (k : ℕ). is_asked_by (asked_at past place) lane k ≡ true) x.1 mine))
               | inr x ↦ elim (cases_lt c opener) [
-                | inl low ↦ absurd (let early : place < w.0 = in_turn s past lane c opener place w.0 j low mine opener_asked in omega (arith, early, high))
+                | inl low ↦ absurd (let early : place < w.0 = in_turn s past lane c opener place w.0 j low mine
+                    opener_asked in omega (arith, early, high))
                 | inr from ↦ elim (cases_lt reader c) [
                   | inl behind_it ↦ absurd (not_after s past lane reader c place r read j reads lt mine behind_it)
                   | inr to ↦ others place c (let ne : c ≢ opener = u.1 in omega (arith, ne, from))
@@ -168,7 +171,8 @@ anew_back allowed s config choices first now turns past name lane opener writer 
         by_has (inr h) = h
 
     passes : (x : Step) → IsAt past (asked_by x) → w.0 < x.place → x.place < n
-        → is_asked_by (asked_at past x.place) lane writer ≡ false → is_asked_by (asked_at past x.place) lane reader ≡ false
+        → is_asked_by (asked_at past x.place) lane writer ≡ false → is_asked_by (asked_at past x.place) lane reader
+        ≡ false
         → PassesBy (answer past) grant_of (is_elsewhere past name) name x
     passes x at high lt out out' =
         passes_by s past name grant_of x j at
@@ -195,13 +199,16 @@ anew_back allowed s config choices first now turns past name lane opener writer 
     -- the two calls in a run of these steps
     ends_so : (before between rest : List Step) (w_step r_step : Step)
         → IsFront allowed config past n first (before ++ ((w_step ∷ between) ++ r_step ∷ rest)) → asked_by w_step ≡ w
-        → asked_by r_step ≡ r → GivesUnless allowed ended (carried written)
+        → asked_by r_step ≡ r → GivesUnless allowed ended (carried_bytes written)
     ends_so before between rest w_step r_step f is_w is_r =
-        reads_after allowed config (answer past) grant_of (is_elsewhere past name) name first before between rest w_step r_step path
-        (carried written) bound site facts written read ended honest chosen well_formed run on_write
-        (λ tree sound stands. anew_writes config (answer past) name t.path t.handle written tree w_step between sound asks_w t.denotes
+        reads_after allowed config (answer past) grant_of (is_elsewhere past name) name first before between rest w_step
+        r_step path
+        (carried_bytes written) bound site facts written read ended honest chosen well_formed run on_write
+        (λ tree sound stands. anew_writes config (answer past) name t.path t.handle written tree w_step between sound
+        asks_w t.denotes
         (ap (answer past) at_w ∙ t.came) stands writes said) denotes one on_read
-        (subst (λ (p : ℕ × Request). HasEnded (call.FsRead path bound) site facts (p ∷ read) (answer past) ended) (sym is_r) did)
+        (subst (λ (p : ℕ × Request). HasEnded (call.FsRead path bound) site facts (p ∷ read) (answer past) ended)
+        (sym is_r) did)
       where
         whole : List Step
         whole = before ++ ((w_step ∷ between) ++ r_step ∷ rest)
@@ -234,31 +241,36 @@ anew_back allowed s config choices first now turns past name lane opener writer 
         low = subst (λ (k : ℕ). AreKnown past k (asked_in (w_step ∷ between))) at_r
             (low_known past n (w_step ∷ between) rest r_step rising parts.0)
 
-        chosen : Choose allowed (r_step ∷ rest)
+        chosen : ChooseOnly allowed (r_step ∷ rest)
         chosen = (chosen_parts allowed (w_step ∷ between) (r_step ∷ rest)
             (chosen_parts allowed before ((w_step ∷ between) ++ r_step ∷ rest) f.chosen).1).1
 
         run : IsRunOn config (answer past) grant_of (is_elsewhere past name) name first whole
-        run = run_on s config past name n grant_of first whole j (let le : sent past ≤ asked past = sent_asked past in
-            let was : n ≤ sent past = behind_within (sent past) r read until_sent in omega (arith, le, was)) well f.all f.served
+        run = run_on s config past name n grant_of first whole j
+            (let le : count_sent past ≤ count_submitted past = sent_asked past in
+            let was : n ≤ count_sent past = behind_within (count_sent past) r read until_sent in omega (arith, le, was))
+            well f.all f.served
             (lane_comes s past name lane n j t.lanes)
 
         in_between : (place : ℕ) → HasRequest written place → HasRequest (asked_in between) place
         in_between place h =
-            let mine : is_asked_by (asked_at past place) lane writer ≡ true = has_call past lane writer place written t.asks h in
+            let mine : is_asked_by (asked_at past place) lane writer ≡ true =
+            has_call past lane writer place written t.asks h in
             let high : w.0 < place = above place mine in
             let lt : place < r.0 = below place mine in
             elim (f.all.complete place lane writer (omega (arith, lt, last)) mine) [
               | inl seen ↦ absurd seen
               | inr has ↦ elim (has_parts before ((w_step ∷ between) ++ r_step ∷ rest) place has) [
-                | inl before_w ↦ absurd (let early : place < w_step.place = known_has past w_step.place place (asked_in before)
+                | inl before_w ↦ absurd (let early : place < w_step.place =
+                    known_has past w_step.place place (asked_in before)
                     (low_known past n before (between ++ r_step ∷ rest) w_step f.all.rising fronts.0) before_w in
                     omega (arith, early, high, at_w))
                 | inr more ↦ elim (has_parts (w_step ∷ between) (r_step ∷ rest) place more) [
                   | inl (inl e) ↦ absurd (let same : w_step.place ≡ place = e in omega (arith, same, high, at_w))
                   | inl (inr there) ↦ there
                   | inr (inl e) ↦ absurd (let same : r_step.place ≡ place = e in omega (arith, same, lt, at_r))
-                  | inr (inr beyond) ↦ absurd (let late : r_step.place < place = above_has r_step.place place (asked_in rest) rising_r.0 beyond in
+                  | inr (inr beyond) ↦ absurd (let late : r_step.place < place =
+                      above_has r_step.place place (asked_in rest) rising_r.0 beyond in
                       omega (arith, late, lt, at_r))
                 ]
               ]
@@ -267,13 +279,17 @@ anew_back allowed s config choices first now turns past name lane opener writer 
         on_write : IsCallOn (answer past) grant_of (is_elsewhere past name) name written w_step between
         on_write =
             record {
-              among = among_by past r.0 (asked past) w_step.place w.0 (answer past) grant_of (is_elsewhere past name) name
+              among = among_by past r.0 (count_submitted past) w_step.place w.0 (answer past) grant_of
+                  (is_elsewhere past name) name
                   w_step.place written between written (omega (arith, at_w)) rising_w.0 rising_w.1 low.1
                   (subst AreRising t.asks (own_listed past lane writer).0) known in_between (λ place lt h. h)
-                  (λ place h. let mine : is_asked_by (asked_at past place) lane writer ≡ true = has_call past lane writer place written t.asks h in
-                  other_with past lane reader place r.0 (with_call past lane writer w.0 (grant_at s past)) (not_read place (below place mine))
+                  (λ place h. let mine : is_asked_by (asked_at past place) lane writer ≡ true =
+                  has_call past lane writer place written t.asks h in
+                  other_with past lane reader place r.0 (with_call past lane writer w.0 (grant_at s past))
+                  (not_read place (below place mine))
                   ∙ (rw mine refl ∙ ap (λ (p : ℕ). Some p) (sym at_w)))
-                  (λ x at high lt out. passes x at high (omega (arith, lt, last)) (out_of x.place out) (not_read x.place lt));
+                  (λ x at high lt out. passes x at high (omega (arith, lt, last)) (out_of x.place out)
+                  (not_read x.place lt));
             }
 
         again : whole ≡ (before ++ (w_step ∷ between)) ++ r_step ∷ (rest ++ [])
@@ -285,20 +301,23 @@ anew_back allowed s config choices first now turns past name lane opener writer 
             call_on past n n grant_of (is_elsewhere past name) name lane reader r read (before ++ (w_step ∷ between))
             rest [] r_step (subst (λ (l : List Step). AreAll past n [] (asked_in l)) again f.all) reads is_r
             (omega arith) parts.1.1 (λ place h. below_has n place read until.1 h) (λ place h. absurd h)
-            (λ place h. own_with past lane reader place r read (with_call past lane writer w.0 (grant_at s past)) reads h)
+            (λ place h. own_with past lane reader place r read (with_call past lane writer w.0 (grant_at s past)) reads
+            h)
             (λ x at high lt out. passes x at (omega (arith, apart, high)) lt (not_written x.place (omega (arith, high)))
             (not_own past lane reader x.place r read reads high out))
 
     by_rest : (before tail : List Step) (w_step : Step) → IsFront allowed config past n first (before ++ w_step ∷ tail)
-        → asked_by w_step ≡ w → IsLaid r tail → GivesUnless allowed ended (carried written)
+        → asked_by w_step ≡ w → IsLaid r tail → GivesUnless allowed ended (carried_bytes written)
     by_rest before tail w_step f is_w l =
         ends_so before l.before l.rest w_step l.step (front_as allowed config past n first (before ++ w_step ∷ tail)
         (before ++ ((w_step ∷ l.before) ++ l.step ∷ l.rest)) (ap (λ (x : List Step). before ++ w_step ∷ x) l.is) f)
         is_w l.asks
 
-    by_laid : (steps : List Step) × IsFront allowed config past n first steps → GivesUnless allowed ended (carried written)
+    by_laid : (steps : List Step) × IsFront allowed config past n first steps
+        → GivesUnless allowed ended (carried_bytes written)
     by_laid (steps, f) =
-        let l : IsLaid w steps = lay_call allowed config past n lane opener first w [] steps f t.opens (omega (arith, apart, last)) in
+        let l : IsLaid w steps = lay_call allowed config past n lane opener first w [] steps f t.opens
+        (omega (arith, apart, last)) in
         let g : IsFront allowed config past n first (l.before ++ l.step ∷ l.rest) =
         front_as allowed config past n first steps (l.before ++ l.step ∷ l.rest) l.is f in
         by_rest l.before l.rest l.step g l.asks (lay_rest allowed config past n lane reader first r read l.before

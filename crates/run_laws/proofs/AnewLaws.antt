@@ -12,8 +12,8 @@ use Rattle.machine_model.specs.HandleRequests.{Answer, after_open}
 use Rattle.plan_model.specs.FilePlans.{open_request}
 use Rattle.plan_model.specs.Moves.{Answers, Own, handle_of}
 use Rattle.plan_model.specs.WholePlans.{to_replace}
-use Rattle.run_laws.specs.CallsAmong.{IsOpenTo, Stand, StandsOnName, ToWrite}
-use Rattle.run_laws.specs.DeferredWrites.{AreWrites, AreWritten, carried, content_in, places}
+use Rattle.run_laws.specs.CallsAmong.{IsOpenTo, AreAmongSteps, StandsOnName, ToWrite}
+use Rattle.run_laws.specs.DeferredWrites.{AreWrites, AreWritten, carried_bytes, content_in, places}
 use Rattle.run_laws.specs.GrantUses.{IsCallOn, IsRunOn}
 use Rattle.run_laws.specs.Steps.{AreServed, HasBytes, Step, after, answer_to}
 use Rattle.run_laws.proofs.MoveWords.{code_of}
@@ -26,8 +26,8 @@ use Rattle.run_laws.proofs.WriteLaws.{open_bytes, put_end, step_open, step_write
 stand_writes : (config : ServerConfig) (answers : Answers) (name : Name) (h : List ℕ) (steps : List Step) (own : Own)
     (tree : FileTree) (bytes : List ℕ) → IsWellFormed tree → IsOpenTo ToWrite tree name h bytes
     → AreServed config answers tree steps
-    → Stand config name h own tree steps → AreWrites h (length bytes) own → AreWritten answers (places own)
-    → HasBytes (after config tree steps) name (bytes ++ carried own)
+    → AreAmongSteps config name h own tree steps → AreWrites h (length bytes) own → AreWritten answers (places own)
+    → HasBytes (after config tree steps) name (bytes ++ carried_bytes own)
 stand_writes config answers name h steps [] tree bytes well_formed has served stand asks said =
     steps_bytes config name (bytes ++ []) tree steps well_formed stand
     (subst (λ (w : List ℕ). HasBytes tree name w) (sym (append-nil bytes))
@@ -44,8 +44,10 @@ stand_writes config answers name h (s ∷ steps) (asked ∷ later) tree bytes we
           subst (λ (w : List ℕ). IsOpenTo ToWrite (answer_to config tree s).1 name h w) (put_end bytes part)
           (step_writes config tree name h bytes part (length bytes) s well_formed has is
           (ok_unrefused config tree s said.0.0 said.0.1.0 answer) (sym (ap code_of answer))) in
-          let further : length bytes + length part ≡ length (bytes ++ part) = let l = length-append bytes part in omega (arith, l) in
-          subst (λ (w : List ℕ). HasBytes (after config (answer_to config tree s).1 steps) name w) (append_assoc bytes part (carried later))
+          let further : length bytes + length part ≡ length (bytes ++ part) = let l = length-append bytes part in
+          omega (arith, l) in
+          subst (λ (w : List ℕ). HasBytes (after config (answer_to config tree s).1 steps) name w)
+          (append_assoc bytes part (carried_bytes later))
           (stand_writes config answers name h steps later (answer_to config tree s).1 (bytes ++ part)
           (step_well_formed config tree s well_formed) now served.2 own.2
           (subst (λ (k : ℕ). AreWrites h k later) further asks.1) said.1))
@@ -62,9 +64,10 @@ pub anew_writes : (config : ServerConfig) (answers : Answers) (name : Name) (pat
     ≡ open_request to_replace path → components path ≡ name
     → answers first.place ≡ Some (reply.Handle h) → StandsOnName config answers name later tree first steps
     → AreWrites h 0 later → AreWritten answers (places later)
-    → HasBytes (after config tree (first ∷ steps)) name (carried later)
+    → HasBytes (after config tree (first ∷ steps)) name (carried_bytes later)
 anew_writes config answers name path h later tree first steps well_formed asks denotes came stands writes said =
-    let answer : reply.Handle h ≡ (answer_to config tree first).0 = reply_is (answers first.place) _ _ came stands.served.1 in
+    let answer : reply.Handle h ≡ (answer_to config tree first).0 =
+    reply_is (answers first.place) _ _ came stands.served.1 in
     let is : answer_to config tree first ≡ after_open tree first.handle to_replace.0 (components path)
     (node_at tree (components path)) = step_opens config tree first to_replace path asks
     (handle_unrefused config tree first h answer) in
@@ -73,8 +76,10 @@ anew_writes config answers name path h later tree first steps well_formed asks d
     (subst (λ (w : Answer). IsOpenTo ToWrite w.1 (components path) h []) (sym is)
     (opens_to_write tree first.handle (components path) (node_at tree (components path)) h well_formed refl
     stands.served.0.1 (sym (answer ∙ ap (λ (w : Answer). w.0) is)))) in
-    stand_writes config answers name h steps later (answer_to config tree first).1 [] (step_well_formed config tree first well_formed) held stands.served.2
-    (subst (λ (w : List ℕ). Stand config name w later (answer_to config tree first).1 steps) (ap handle_of came) stands.stands) writes said
+    stand_writes config answers name h steps later (answer_to config tree first).1 []
+    (step_well_formed config tree first well_formed) held stands.served.2
+    (subst (λ (w : List ℕ). AreAmongSteps config name w later (answer_to config tree first).1 steps) (ap handle_of came)
+    stands.stands) writes said
 
 -- and so in a whole run
 pub anew_stays : (config : ServerConfig) (answers : Answers) (grant_of : ℕ → Option ℕ) (elsewhere : ℕ → Bool)
@@ -83,8 +88,11 @@ pub anew_stays : (config : ServerConfig) (answers : Answers) (grant_of : ℕ →
     → IsCallOn answers grant_of elsewhere name later w rest → w.request ≡ open_request to_replace path
     → components path ≡ name
     → answers w.place ≡ Some (reply.Handle h) → AreWrites h 0 later → AreWritten answers (places later)
-    → HasBytes (after config tree (before ++ w ∷ rest)) name (carried later)
-anew_stays config answers grant_of elsewhere name tree before rest w path h later well_formed run is asks denotes came writes said =
-    subst (λ (left : FileTree). HasBytes left name (carried later)) (sym (after_two config tree before (w ∷ rest)))
-    (anew_writes config answers name path h later (after config tree before) w rest (steps_well_formed config tree before well_formed) asks denotes came
+    → HasBytes (after config tree (before ++ w ∷ rest)) name (carried_bytes later)
+anew_stays config answers grant_of elsewhere name tree before rest w path h later well_formed run is asks denotes came
+    writes said =
+    subst (λ (left : FileTree). HasBytes left name (carried_bytes later))
+    (sym (after_two config tree before (w ∷ rest)))
+    (anew_writes config answers name path h later (after config tree before) w rest
+    (steps_well_formed config tree before well_formed) asks denotes came
     (call_stands config answers grant_of elsewhere name tree before rest w later well_formed run is) writes said)

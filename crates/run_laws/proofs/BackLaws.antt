@@ -28,8 +28,8 @@ use Rattle.session_model.specs.declared.entry.Entry.{Entry}
 use Rattle.session_model.specs.Calls.{Setting}
 use Rattle.session_model.specs.Grants.{is_asked_by}
 use Rattle.session_model.specs.Journals.{IsJournal}
-use Rattle.session_model.specs.Readings.{answer, asked, asked_at, sent}
-use Rattle.session_model.specs.Served.{Serves}
+use Rattle.session_model.specs.Readings.{answer, count_submitted, asked_at, count_sent}
+use Rattle.session_model.specs.Served.{ServesJournal}
 use Rattle.session_model.proofs.RequestLaws.{sent_asked}
 use Rattle.run_laws.specs.Bearing.{grant_at}
 use Rattle.run_laws.specs.CallsAmong.{GivesContent, GivesUnless, HasEnded, asked_by}
@@ -58,8 +58,10 @@ pub opened_first : (place : ℕ) (o : Option Reply) (site : Site) (go : List ℕ
     → once_answered place o (λ x. on_handle x site go) ≡ Ask r → (h : List ℕ) × (o ≡ Some (reply.Handle h))
 opened_first place None site go r e = absurd (let both : false ≡ true = ap is_ask e in cc)
 opened_first place (Some (reply.Handle handle)) site go r e = (handle, refl)
-opened_first place (Some (reply.Version version extensions)) site go r e = absurd (let both : false ≡ true = ap is_ask e in cc)
-opened_first place (Some (reply.Status code message language)) site go r e = absurd (let both : false ≡ true = ap is_ask e in cc)
+opened_first place (Some (reply.Version version extensions)) site go r e =
+    absurd (let both : false ≡ true = ap is_ask e in cc)
+opened_first place (Some (reply.Status code message language)) site go r e =
+    absurd (let both : false ≡ true = ap is_ask e in cc)
 opened_first place (Some (reply.Content content)) site go r e = absurd (let both : false ≡ true = ap is_ask e in cc)
 opened_first place (Some (reply.Names names)) site go r e = absurd (let both : false ≡ true = ap is_ask e in cc)
 opened_first place (Some (reply.Attrs attrs)) site go r e = absurd (let both : false ≡ true = ap is_ask e in cc)
@@ -86,21 +88,25 @@ granted_by c site facts first later answers ended opens e place has = by_past e.
               in (o.0, e.stay first.0 (reply.Handle o.0) (stays first.0 (reply.Handle o.0) o.1)))
         ]
 
-pub write_opens : (path bytes : List ℕ) (site : Site) (facts : Facts) (first : ℕ × Request) → OpensFirst (call.FsWrite path bytes) site facts first
+pub write_opens : (path bytes : List ℕ) (site : Site) (facts : Facts) (first : ℕ × Request)
+    → OpensFirst (call.FsWrite path bytes) site facts first
 write_opens path bytes site facts first l answers r e = opened_first first.0 (answers first.0) site
     (λ handle. rest_next nowhere (opened_file to_replace first.0) bytes site facts l answers) r e
 
-pub read_opens : (path : List ℕ) (bound : ℕ) (site : Site) (facts : Facts) (first : ℕ × Request) → OpensFirst (call.FsRead path bound) site facts first
+pub read_opens : (path : List ℕ) (bound : ℕ) (site : Site) (facts : Facts) (first : ℕ × Request)
+    → OpensFirst (call.FsRead path bound) site facts first
 read_opens path bound site facts first l answers r e =
-    opened_first first.0 (answers first.0) site (λ handle. window_next handle (Some bound) l (answered_prefix l answers) (outside l answers) site facts) r e
+    opened_first first.0 (answers first.0) site (λ handle. window_next handle (Some bound) l (answered_prefix l answers)
+    (outside l answers) site facts) r e
 
 -- ---- a read after a write
 
 pub back_unless : (allowed : Choice → Type 0) (s : Setting) (config : ServerConfig) (choices : List Choice)
     (first now : FileTree) (past : List Entry) (name : Name) (n : ℕ) (one other : ℕ × ℕ) (w r : ℕ × Request)
     (written read : Own)
-    (write_path read_path bytes : List ℕ) (bound : ℕ) (write_site read_site : Site) (write_facts read_facts : Facts) (ended : Outcome)
-    → ((c : Choice) → allowed c → FeignsNoEnd c) → IsJournal s past → Serves config choices first past now
+    (write_path read_path bytes : List ℕ) (bound : ℕ) (write_site read_site : Site) (write_facts read_facts : Facts)
+    (ended : Outcome)
+    → ((c : Choice) → allowed c → FeignsNoEnd c) → IsJournal s past → ServesJournal config choices first past now
     → AreAllowed allowed choices → IsWellFormed first → InTurn s past name n one w written other r read
     → components (from_directory write_site write_path) ≡ name
     → HasEnded (call.FsWrite write_path bytes) write_site write_facts (w ∷ written) (answer past) outcome.Done
@@ -167,10 +173,12 @@ back_unless allowed s config choices first now past name n one other w r written
     ends_so before between rest w_step r_step f is_w is_r =
         let whole : List Step = before ++ ((w_step ∷ between) ++ r_step ∷ rest) in
         let r_at : r_step.place ≡ r.0 = ap (λ (p : ℕ × Request). p.0) is_r in
-        let rising : AreRising (asked_in ((w_step ∷ between) ++ r_step ∷ rest)) = (rising_parts before ((w_step ∷ between) ++ r_step ∷ rest) f.all.rising).1 in
+        let rising : AreRising (asked_in ((w_step ∷ between) ++ r_step ∷ rest)) =
+        (rising_parts before ((w_step ∷ between) ++ r_step ∷ rest) f.all.rising).1 in
         let known : AreKnown past n (asked_in ((w_step ∷ between) ++ r_step ∷ rest)) =
         (known_parts past n before ((w_step ∷ between) ++ r_step ∷ rest) f.all.known).1 in
-        let rising_r : AreRising (asked_in (r_step ∷ rest)) = (rising_parts (w_step ∷ between) (r_step ∷ rest) rising).1 in
+        let rising_r : AreRising (asked_in (r_step ∷ rest)) = (rising_parts (w_step ∷ between) (r_step ∷ rest) rising).1
+        in
         let parts = known_parts past n (w_step ∷ between) (r_step ∷ rest) known in
         let low : AreKnown past r.0 (asked_in (w_step ∷ between)) =
         subst (λ (k : ℕ). AreKnown past k (asked_in (w_step ∷ between))) r_at
@@ -178,7 +186,8 @@ back_unless allowed s config choices first now past name n one other w r written
         let chosen = (chosen_parts allowed (w_step ∷ between) (r_step ∷ rest)
         (chosen_parts allowed before ((w_step ∷ between) ++ r_step ∷ rest) f.chosen).1).1 in
         let run : IsRunOn config (answer past) grant_of (is_elsewhere past name) name first whole =
-        run_on s config past name n grant_of first whole j (let le : sent past ≤ asked past = sent_asked past in
+        run_on s config past name n grant_of first whole j (let le : count_sent past ≤ count_submitted past =
+        sent_asked past in
         let was = t.were_sent in omega (arith, le, was)) well f.all f.served t.by_opens
         in
         let on_write : IsCallOn (answer past) grant_of (is_elsewhere past name) name written w_step between =
@@ -189,7 +198,8 @@ back_unless allowed s config choices first now past name n one other w r written
         (λ place h. other_with past other.0 other.1 place r.0 write_grants
         (not_read place (below_has r.0 place written t.before.1 h))
         ∙ own_with past one.0 one.1 place w written (grant_at s past) t.asks h)
-        (λ x at above lt out. passes x at above (omega (arith, lt, last)) (not_own past one.0 one.1 x.place w written t.asks above out) (not_read x.place lt))
+        (λ x at above lt out. passes x at above (omega (arith, lt, last))
+        (not_own past one.0 one.1 x.place w written t.asks above out) (not_read x.place lt))
         in
         let again : whole ≡ (before ++ (w_step ∷ between)) ++ r_step ∷ (rest ++ []) =
         sym (append_assoc before (w_step ∷ between) (r_step ∷ rest))
@@ -208,7 +218,8 @@ back_unless allowed s config choices first now past name n one other w r written
         honest chosen well_formed run denotes on_write
         (subst (λ (p : ℕ × Request). HasEnded (call.FsWrite write_path bytes) write_site write_facts (p ∷ written)
         (answer past) outcome.Done) (sym is_w) wrote) denotes' one_at_least on_read
-        (subst (λ (p : ℕ × Request). HasEnded (call.FsRead read_path bound) read_site read_facts (p ∷ read) (answer past) ended) (sym is_r) did)
+        (subst (λ (p : ℕ × Request). HasEnded (call.FsRead read_path bound) read_site read_facts (p ∷ read)
+        (answer past) ended) (sym is_r) did)
       where
         from_r : (r_step : Step) (rest : List Step) → r_step.place ≡ r.0 → AreRising (asked_in (r_step ∷ rest))
             → (place : ℕ) → HasRequest (asked_in (r_step ∷ rest)) place → r.0 ≤ place
@@ -225,7 +236,8 @@ back_unless allowed s config choices first now past name n one other w r written
 
     by_laid : (steps : List Step) × IsFront allowed config past n first steps → GivesUnless allowed ended bytes
     by_laid (steps, f) =
-        let l : IsLaid w steps = lay_call allowed config past n one.0 one.1 first w written steps f t.asks (omega (arith, apart, last)) in
+        let l : IsLaid w steps = lay_call allowed config past n one.0 one.1 first w written steps f t.asks
+        (omega (arith, apart, last)) in
         let g : IsFront allowed config past n first (l.before ++ l.step ∷ l.rest) =
         front_as allowed config past n first steps (l.before ++ l.step ∷ l.rest) l.is f in
         by_rest l.before l.rest l.step g l.asks (lay_rest allowed config past n other.0 other.1 first r read l.before
@@ -244,12 +256,15 @@ gives_all ended bytes (inr by) = absurd (by.refuses by.is)
 
 pub back : (s : Setting) (config : ServerConfig) (choices : List Choice) (first now : FileTree) (past : List Entry)
     (name : Name) (n : ℕ) (one other : ℕ × ℕ) (w r : ℕ × Request) (written read : Own)
-    (write_path read_path bytes : List ℕ) (bound : ℕ) (write_site read_site : Site) (write_facts read_facts : Facts) (ended : Outcome)
-    → IsJournal s past → Serves config choices first past now → RefuseNone choices → IsWellFormed first → InTurn s past name n one w written other r read
+    (write_path read_path bytes : List ℕ) (bound : ℕ) (write_site read_site : Site) (write_facts read_facts : Facts)
+    (ended : Outcome)
+    → IsJournal s past → ServesJournal config choices first past now → RefuseNone choices → IsWellFormed first
+    → InTurn s past name n one w written other r read
     → components (from_directory write_site write_path) ≡ name
     → HasEnded (call.FsWrite write_path bytes) write_site write_facts (w ∷ written) (answer past) outcome.Done
     → components (from_directory read_site read_path) ≡ name → 1 ≤ read_facts.read_len
-    → HasEnded (call.FsRead read_path bound) read_site read_facts (r ∷ read) (answer past) ended → GivesContent ended bytes
+    → HasEnded (call.FsRead read_path bound) read_site read_facts (r ∷ read) (answer past) ended
+    → GivesContent ended bytes
 back s config choices first now past name n one other w r written read write_path read_path bytes bound write_site
     read_site write_facts read_facts ended j serves none well_formed t denotes wrote denotes' one_at_least did =
     gives_all ended bytes

@@ -1,4 +1,5 @@
--- A buffered write that is done asked WRITEs that carry all its bytes, and once a flush is done each was answered by a STATUS 0.
+-- A buffered write that is done asked WRITEs that carry all its bytes, and once a flush is done each was answered by a
+-- STATUS 0.
 use Rattle.std.proofs.Common.{
   ◌≡◌,
   ℕ,
@@ -50,7 +51,7 @@ use Rattle.sftp_model.specs.declared.slot.Slot.{Slot}
 use Rattle.sftp_model.specs.declared.slot.Slot.TheVariants.{Buffered}
 use Rattle.sftp_model.specs.Slots.{grant_of, slot_at, with_slot}
 use Rattle.machine_model.specs.Changes.{IsWellFormed}
-use Rattle.machine_model.specs.FileTree.{FileTree, bytes_of, opened_at, put}
+use Rattle.machine_model.specs.FileTree.{FileTree, bytes_of, opened_at, written_at}
 use Rattle.machine_model.specs.declared.opened.Held.{Held}
 use Rattle.machine_model.specs.declared.opened.Opened.TheVariants as opened
 use Rattle.plan_model.proofs.SlotLaws.{set_there}
@@ -69,10 +70,10 @@ use Rattle.plan_model.specs.BufferPlans.{
   written_slot,
 }
 use Rattle.plan_model.specs.declared.call.Call.TheVariants as call
-use Rattle.plan_model.specs.Moves.{Answers, Own, further, handle_of, on_buffered, on_status, once_answered, refused, refuses}
-use Rattle.plan_model.specs.OwnRequests.{Extends}
+use Rattle.plan_model.specs.Moves.{Answers, Own, further, handle_of, on_buffered, on_status, once_answered, refusal_move, refuse_locally}
+use Rattle.plan_model.specs.OwnRequests.{ExtendsAnswers}
 use Rattle.run_laws.specs.CallsAmong.{HasEnded, ToWrite}
-use Rattle.run_laws.specs.DeferredWrites.{AreWrites, AreWritten, StandAlone, carried, content_in, places}
+use Rattle.run_laws.specs.DeferredWrites.{AreWrites, AreWritten, StandAlone, carried_bytes, content_in, places}
 use Rattle.run_laws.specs.GrantUses.{WritesBy}
 use Rattle.run_laws.specs.Steps.{Step, answer_to, after, AreServed}
 use Rattle.run_laws.proofs.BufferStays.{AsksLike, FollowLike, StaysLike, asked_in_order_like, buf_write_all_like, follow_like_as, follow_like_still}
@@ -98,12 +99,19 @@ record Taken (o : Option Reply) : Type 0 where
   language : List ℕ
   is : o ≡ Some (reply.Status SSH_FX_OK message language)
 
-taken : (place : ℕ) (o : Option Reply) (site : Site) (go : Move) → is_good (once_answered place o (λ r. on_status r site go)) ≡ true → Taken o
+taken : (place : ℕ) (o : Option Reply) (site : Site) (go : Move)
+    → is_good (once_answered place o (λ r. on_status r site go)) ≡ true → Taken o
 taken place None site go e = absurd cc
 taken place (Some (reply.Status code message language)) site go e =
     elim (eqb_tells code 0) [
-      | inl t ↦ record { message = message; language = language; is = ap (λ (w : ℕ). Some (reply.Status w message language)) t.1 }
-      | inr t ↦ absurd (let both : is_good (refused (reply.Status code message language) site) ≡ true = rw (t.0) at e in cc)
+      | inl t ↦ record {
+        message = message;
+        language = language;
+        is =
+            ap (λ (w : ℕ). Some (reply.Status w message language)) t.1;
+      }
+      | inr t ↦ absurd (let both : is_good (refusal_move (reply.Status code message language) site) ≡ true =
+          rw (t.0) at e in cc)
     ]
 taken place (Some (reply.Version version extensions)) site go e = absurd cc
 taken place (Some (reply.Handle handle)) site go e = absurd cc
@@ -113,12 +121,14 @@ taken place (Some (reply.Attrs attrs)) site go e = absurd cc
 taken place (Some (reply.Extended content)) site go e = absurd cc
 
 -- what the slot holds after a status was taken out, or none had to be
-record Freed (slot : ℕ) (file : FileAt) (buffer : Buffer) (site : Site) (facts : Facts) (answers : Answers) : Type 0 where
-  freed : Buffer
-  left : Site
-  there : slot_at left slot ≡ Buffered file freed
-  goes : (go : Buffer → Site → Move) → with_capacity slot file buffer site facts answers go ≡ go freed left
-  written : (more : List ℕ) → AreWritten answers (places_of freed.deferred ++ more) → AreWritten answers (places_of buffer.deferred ++ more)
+record Freed (slot : ℕ) (file : FileAt) (buffer : Buffer) (site : Site) (facts : Facts) (answers : Answers) : Type 0
+  where
+    freed : Buffer
+    left : Site
+    there : slot_at left slot ≡ Buffered file freed
+    goes : (go : Buffer → Site → Move) → with_capacity slot file buffer site facts answers go ≡ go freed left
+    written : (more : List ℕ) → AreWritten answers (places_of freed.deferred ++ more)
+        → AreWritten answers (places_of buffer.deferred ++ more)
 
 set_slot : (slot : ℕ) (site : Site) (file : FileAt) (buffer : Buffer) (x : Slot) → slot_at site slot
     ≡ Buffered file buffer → slot_at (with_slot site slot x) slot ≡ x
@@ -128,7 +138,8 @@ set_slot slot site file buffer x e = set_there site.slots slot file.grant x (ap 
 out_of : (slot : ℕ) (file : FileAt) (buffer : Buffer) (site : Site) (facts : Facts) (answers : Answers)
     (writes : List (ℕ × ℕ)) (go : Buffer → Site → Move) → slot_at site slot ≡ Buffered file buffer
     → is_full facts buffer ≡ true
-    → buffer.deferred ≡ writes → is_good (taken_out slot file buffer site answers writes go) ≡ true → Freed slot file buffer site facts answers
+    → buffer.deferred ≡ writes → is_good (taken_out slot file buffer site answers writes go) ≡ true
+    → Freed slot file buffer site facts answers
 out_of slot file buffer site facts answers [] go stands full is e =
     record {
       freed = buffer;
@@ -148,7 +159,8 @@ out_of slot file buffer site facts answers (write ∷ writes) go stands full is 
       goes = λ f. rw full
           (ap (λ (w : List (ℕ × ℕ)). taken_out slot file buffer site answers w f) is
           ∙ ap (λ (w : Option Reply). once_answered write.0 w (λ r. on_status r left (f freed left))) was.is);
-      written = λ more w. subst (λ (v : List (ℕ × ℕ)). AreWritten answers (places_of v ++ more)) (sym is) ((was.message, (was.language, was.is)), w);
+      written = λ more w. subst (λ (v : List (ℕ × ℕ)). AreWritten answers (places_of v ++ more)) (sym is)
+          ((was.message, (was.language, was.is)), w);
     }
 
 freed_on : (slot : ℕ) (file : FileAt) (buffer : Buffer) (site : Site) (facts : Facts) (answers : Answers)
@@ -160,7 +172,14 @@ freed_on slot file buffer site facts answers go stands e = by_test (is_full fact
         taken_out slot file buffer site answers buffer.deferred go else go buffer site) ≡ true
         → Freed slot file buffer site facts answers
     by_test true full e = out_of slot file buffer site facts answers buffer.deferred go stands full refl e
-    by_test false full e = record { freed = buffer; left = site; there = stands; goes = λ f. rw full refl; written = λ more w. w }
+    by_test false full e = record {
+      freed = buffer;
+      left = site;
+      there = stands;
+      goes = λ f. rw full refl;
+      written =
+          λ more w. w;
+    }
 
 -- ---- a buffered write
 
@@ -168,45 +187,59 @@ freed_on slot file buffer site facts answers go stands e = by_test (is_full fact
 abbrev part_of : Facts → List ℕ → Buffer → List ℕ
 part_of facts bytes buffer = take (deferrable_len facts bytes buffer) bytes
 
-part_length : (facts : Facts) (bytes : List ℕ) (buffer : Buffer) → length (part_of facts bytes buffer) ≡ deferrable_len facts bytes buffer
+part_length : (facts : Facts) (bytes : List ℕ) (buffer : Buffer) → length (part_of facts bytes buffer)
+    ≡ deferrable_len facts bytes buffer
 part_length facts bytes buffer = let l : length (part_of facts bytes buffer)
     ≡ min (deferrable_len facts bytes buffer) (length bytes) = length-take (deferrable_len facts bytes buffer) bytes in
     omega (arith, l)
 
 -- the call asks its next part, or has none
-record AsksPart (slot : ℕ) (bytes : List ℕ) (file : FileAt) (buffer : Buffer) (site : Site) (facts : Facts) (answers : Answers) (r : Request) : Type 0 where
+record AsksPart (slot : ℕ) (bytes : List ℕ) (file : FileAt) (buffer : Buffer) (site : Site) (facts : Facts)
+    (answers : Answers) (r : Request) : Type 0 where
   on : Freed slot file buffer site facts answers
   asks : r ≡ request.Write (handle_of (answers file.grant)) file.offset (part_of facts bytes on.freed)
 
 asks_part : (slot : ℕ) (bytes : List ℕ) (file : FileAt) (buffer : Buffer) (site : Site) (facts : Facts)
     (answers : Answers) (r : Request) → slot_at site slot ≡ Buffered file buffer
-    → buffered_rest slot bytes file buffer site facts [] answers ≡ Ask r → AsksPart slot bytes file buffer site facts answers r
+    → buffered_rest slot bytes file buffer site facts [] answers ≡ Ask r
+    → AsksPart slot bytes file buffer site facts answers r
 asks_part slot bytes file buffer site facts answers r stands e = by_tests (length bytes == 0) (not file.writable) e
   where
-    by_tests : (a b : Bool) → (if a then Done outcome.Done site else if b then refuses kind.NotWritable site else
+    by_tests : (a b : Bool) → (if a then Done outcome.Done site else if b then refuse_locally kind.NotWritable site else
         with_capacity slot file buffer site facts answers (ask_deferred file bytes facts answers)) ≡ Ask r
         → AsksPart slot bytes file buffer site facts answers r
     by_tests true b e = absurd (let both : false ≡ true = ap is_ask e in cc)
     by_tests false true e = absurd (let both : false ≡ true = ap is_ask e in cc)
     by_tests false false e =
-        (let on = freed_on slot file buffer site facts answers (ask_deferred file bytes facts answers) stands (ap is_good e) in
-        record { on = on; asks = write_is file (part_of facts bytes on.freed) on.left answers r (sym (on.goes (ask_deferred file bytes facts answers)) ∙ e) })
+        (let on = freed_on slot file buffer site facts answers (ask_deferred file bytes facts answers) stands
+        (ap is_good e) in
+        record {
+          on = on;
+          asks = write_is file (part_of facts bytes on.freed) on.left answers r
+              (sym (on.goes (ask_deferred file bytes facts answers)) ∙ e);
+        })
 
 none_left : (slot : ℕ) (bytes : List ℕ) (file : FileAt) (buffer : Buffer) (site end : Site) (facts : Facts)
     (answers : Answers) → slot_at site slot ≡ Buffered file buffer
     → buffered_rest slot bytes file buffer site facts [] answers ≡ Done outcome.Done end → (bytes ≡ []) × (end ≡ site)
 none_left slot bytes file buffer site end facts answers stands e = elim (eqb_tells (length bytes) 0) [
-  | inl t ↦ (nil_from_length bytes t.1, (let is : Done outcome.Done site ≡ Done outcome.Done end = rw (t.0) at e in ap (site_of end) (sym is)))
+  | inl t ↦ (
+    nil_from_length bytes t.1,
+    (let is : Done outcome.Done site ≡ Done outcome.Done end = rw (t.0) at e in
+        ap (site_of end) (sym is)),
+  )
   | inr t ↦ absurd (not_done (not file.writable) (rw (t.0) at e))
 ]
   where
-    not_done : (b : Bool) → (if b then refuses kind.NotWritable site else
+    not_done : (b : Bool) → (if b then refuse_locally kind.NotWritable site else
         with_capacity slot file buffer site facts answers (ask_deferred file bytes facts answers))
         ≡ Done outcome.Done end → ⊥
     not_done true e = (let both : false ≡ true = ap (λ (w : Move). is_all_done (outcome_of w)) e in cc)
     not_done false e =
-        (let on = freed_on slot file buffer site facts answers (ask_deferred file bytes facts answers) stands (ap is_good e) in
-        write_not_done file (part_of facts bytes on.freed) on.left answers end (sym (on.goes (ask_deferred file bytes facts answers)) ∙ e))
+        (let on = freed_on slot file buffer site facts answers (ask_deferred file bytes facts answers) stands
+        (ap is_good e) in
+        write_not_done file (part_of facts bytes on.freed) on.left answers end
+        (sym (on.goes (ask_deferred file bytes facts answers)) ∙ e))
 
 -- a request that is asked but for its handle is the WRITE that the plan asks
 record LikeWrite (offset : ℕ) (part : List ℕ) (r : Request) : Type 0 where
@@ -226,7 +259,8 @@ like_write : (r : Request) (x : Move) (handle : List ℕ) (offset : ℕ) (part :
     ≡ Ask (request.Write handle offset part) → LikeWrite offset part r
 like_write (request.Write mine at content) x handle offset part (other, e) is =
     let same : Ask (request.Write other at content) ≡ Ask (request.Write handle offset part) = sym e ∙ is in
-    let written : request.Write other at content ≡ request.Write handle offset part = ap (asked_of (request.Write handle offset part)) same in
+    let written : request.Write other at content ≡ request.Write handle offset part =
+    ap (asked_of (request.Write handle offset part)) same in
     record { handle = mine; is = ap (λ (w : Request). request.Write mine (offset_in w) (content_in w)) written }
 like_write (request.Close mine) x handle offset part e is =
     record {
@@ -247,12 +281,13 @@ WriteBy h [] = Unit {0}
 WriteBy h (asked ∷ later) = WritesBy asked.1 h × WriteBy h later
 
 -- what a call that is done asked and left
-record IsWritten (slot : ℕ) (h : List ℕ) (answers : Answers) (own : Own) (deferred : List (ℕ × ℕ)) (offset : ℕ) (bytes : List ℕ) (end : Site) : Type 0 where
+record IsWritten (slot : ℕ) (h : List ℕ) (answers : Answers) (own : Own) (deferred : List (ℕ × ℕ)) (offset : ℕ)
+    (bytes : List ℕ) (end : Site) : Type 0 where
   file : FileAt
   buffer : Buffer
   there : slot_at end slot ≡ Buffered file buffer
   asks : AreWrites h offset own
-  all : carried own ≡ bytes
+  all : carried_bytes own ≡ bytes
   written : AreWritten answers (places_of buffer.deferred) → AreWritten answers (places_of deferred ++ places own)
 
 buffer_writes : (slot : ℕ) (h : List ℕ) (facts : Facts) (answers : Answers) (own : Own) (bytes : List ℕ) (file : FileAt)
@@ -279,7 +314,8 @@ buffer_writes slot h facts answers (asked ∷ later) bytes file buffer site end 
     let like = like_write asked.1 (buffered_rest slot bytes file buffer site facts [] answers)
     (handle_of (answers file.grant)) file.offset part follow.0 (q.1 ∙ ap (λ (w : Request). Ask w) first.asks) in
     let by_h : like.handle ≡ h = subst (λ (w : Request). WritesBy w h) like.is bear.0 in
-    let is : asked.1 ≡ request.Write h file.offset part = like.is ∙ ap (λ (w : List ℕ). request.Write w file.offset part) by_h in
+    let is : asked.1 ≡ request.Write h file.offset part = like.is
+    ∙ ap (λ (w : List ℕ). request.Write w file.offset part) by_h in
     let same : content_in asked.1 ≡ part = ap content_in is in
     let moved : FileAt = further file n in
     let buffer_now : Buffer = after_write on.freed asked.0 n in
@@ -287,7 +323,8 @@ buffer_writes slot h facts answers (asked ∷ later) bytes file buffer site end 
     let next : Own → Move = λ own. buffered_rest slot (drop n bytes) moved buffer_now site_now facts own answers in
     let more = buffer_writes slot h facts answers later (drop n bytes) moved buffer_now site_now end
     (set_slot slot on.left file on.freed (written_slot file on.freed asked.0 n) on.there)
-    (follow_like_as (λ own. buffered_rest slot bytes file buffer site facts (asked ∷ own) answers) next later (λ own. on.goes _) follow.1) bear.1
+    (follow_like_as (λ own. buffered_rest slot bytes file buffer site facts (asked ∷ own) answers) next later
+    (λ own. on.goes _) follow.1) bear.1
     (sym (on.goes _) ∙ e) in
     let at : file.offset + n ≡ file.offset + length (content_in asked.1) = let l = part_length facts bytes on.freed in
     let m : length (content_in asked.1) ≡ length part = ap length same in omega (arith, l, m) in
@@ -295,8 +332,12 @@ buffer_writes slot h facts answers (asked ∷ later) bytes file buffer site end 
       file = more.file;
       buffer = more.buffer;
       there = more.there;
-      asks = (is ∙ ap (λ (w : List ℕ). request.Write h file.offset w) (sym same), subst (λ (k : ℕ). AreWrites h k later) at more.asks);
-      all = ap (λ (w : List ℕ). w ++ carried later) same ∙ (ap (λ (w : List ℕ). part ++ w) more.all ∙ take-append-drop n bytes);
+      asks = (
+        is ∙ ap (λ (w : List ℕ). request.Write h file.offset w) (sym same),
+        subst (λ (k : ℕ). AreWrites h k later) at more.asks,
+      );
+      all = ap (λ (w : List ℕ). w ++ carried_bytes later) same ∙
+          (ap (λ (w : List ℕ). part ++ w) more.all ∙ take-append-drop n bytes);
       written = λ w. on.written (asked.0 ∷ places later)
           (subst (AreWritten answers)
           (ap (λ (v : List ℕ). v ++ places later) (map-append (λ d. d.0) on.freed.deferred ((asked.0, n) ∷ []))
@@ -321,19 +362,23 @@ flush_writes slot file buffer site end answers (write ∷ writes) e =
 
 flushed : (slot : ℕ) (file : FileAt) (buffer : Buffer) (site end : Site) (facts : Facts) (own : Own) (answers : Answers)
     → slot_at site slot ≡ Buffered file buffer
-    → buf_flush_next slot site facts own answers ≡ Done outcome.Done end → AreWritten answers (places_of buffer.deferred)
-flushed slot file buffer site end facts own answers stands e = by_test (not file.writable) (sym (ap (λ (w : Slot). on_buffered w site go) stands) ∙ e)
+    → buf_flush_next slot site facts own answers ≡ Done outcome.Done end
+    → AreWritten answers (places_of buffer.deferred)
+flushed slot file buffer site end facts own answers stands e =
+    by_test (not file.writable) (sym (ap (λ (w : Slot). on_buffered w site go) stands) ∙ e)
   where
     go : FileAt → Buffer → Move
-    go f b = if not f.writable then refuses kind.NotWritable site else flush_next slot f b site answers b.deferred
+    go f b = if not f.writable then refuse_locally kind.NotWritable site else
+        flush_next slot f b site answers b.deferred
 
-    by_test : (b : Bool) → (if b then refuses kind.NotWritable site else
+    by_test : (b : Bool) → (if b then refuse_locally kind.NotWritable site else
         flush_next slot file buffer site answers buffer.deferred) ≡ Done outcome.Done end
         → AreWritten answers (places_of buffer.deferred)
     by_test true e = absurd (let both : false ≡ true = ap (λ (w : Move). is_all_done (outcome_of w)) e in cc)
     by_test false e = flush_writes slot file buffer site end answers buffer.deferred e
 
-written_now : (before now : Answers) (at : List ℕ) → Extends before now → AreWritten before at → AreWritten now at
+written_now : (before now : Answers) (at : List ℕ) → ExtendsAnswers before now → AreWritten before at
+    → AreWritten now at
 written_now before now [] stays w = tt
 written_now before now (place ∷ later) stays w = (
   (
@@ -353,17 +398,19 @@ bear : (config : ServerConfig) (file : ℕ) (h : List ℕ) (steps : List Step) (
 bear config file h [] [] tree stand = tt
 bear config file h (s ∷ steps) [] tree stand = tt
 bear config file h [] (asked ∷ later) tree stand = absurd stand
-bear config file h (s ∷ steps) (asked ∷ later) tree (inl own) = (own.2, bear config file h steps later (answer_to config tree s).1 own.3)
-bear config file h (s ∷ steps) (asked ∷ later) tree (inr other) = bear config file h steps (asked ∷ later) (answer_to config tree s).1 other.2
+bear config file h (s ∷ steps) (asked ∷ later) tree (inl own) =
+    (own.2, bear config file h steps later (answer_to config tree s).1 own.3)
+bear config file h (s ∷ steps) (asked ∷ later) tree (inr other) =
+    bear config file h steps (asked ∷ later) (answer_to config tree s).1 other.2
 
 -- what a call asked that is done, and flushed
 pub record AreFlushed (h : List ℕ) (offset : ℕ) (bytes : List ℕ) (answers : Answers) (own : Own) : Type 0 where
   pub asks : AreWrites h offset own
-  pub all : carried own ≡ bytes
+  pub all : carried_bytes own ≡ bytes
   pub said : AreWritten answers (places own)
 
--- A call writes bytes to a buffered file, by requests that write by a handle, and is done; a flush of what it left is done. The requests
--- carry the bytes, part after part, and each was answered by a STATUS 0.
+-- A call writes bytes to a buffered file, by requests that write by a handle, and is done; a flush of what it left is
+-- done. The requests carry the bytes, part after part, and each was answered by a STATUS 0.
 pub flushed_asks : (answers : Answers) (slot : ℕ) (file : FileAt) (buffer : Buffer) (bytes : List ℕ)
     (site flush_site : Site) (facts flush_facts : Facts) (own flush_own : Own) (h : List ℕ) → WriteBy h own
     → slot_at site slot ≡ Buffered file buffer
@@ -371,7 +418,8 @@ pub flushed_asks : (answers : Answers) (slot : ℕ) (file : FileAt) (buffer : Bu
     ≡ slot_at written.left slot → HasEnded (call.BufFlush slot) flush_site flush_facts flush_own answers
     outcome.Done
     → AreFlushed h file.offset bytes answers own
-flushed_asks answers slot file buffer bytes site flush_site facts flush_facts own flush_own h bears stands written same flush =
+flushed_asks answers slot file buffer bytes site flush_site facts flush_facts own flush_own h bears stands written same
+    flush =
     let like = buf_write_all_like slot bytes site facts written.by answers written.stay in
     let follow_all : FollowLike (λ later. buf_write_all_next slot bytes site facts later answers) own =
     follow_like_still (λ later. buf_write_all_next slot bytes site facts later written.by)
@@ -380,11 +428,14 @@ flushed_asks answers slot file buffer bytes site flush_site facts flush_facts ow
     (asked_in_order_like (buf_write_all_next slot bytes site facts) written.requests written.by
     (buf_write_all_like slot bytes site facts) written.so_far.asked))
     in
-    let on_slot : (later : Own) → buf_write_all_next slot bytes site facts later answers ≡ buffered_rest slot bytes file buffer site facts later answers =
-    λ later. ap (λ (w : Slot). on_buffered w site (λ f b. buffered_rest slot bytes f b site facts later answers)) stands in
+    let on_slot : (later : Own) → buf_write_all_next slot bytes site facts later answers
+    ≡ buffered_rest slot bytes file buffer site facts later answers =
+    λ later. ap (λ (w : Slot). on_buffered w site (λ f b. buffered_rest slot bytes f b site facts later answers)) stands
+    in
     let done : buf_write_all_next slot bytes site facts own answers ≡ Done outcome.Done written.left =
     still (buf_write_all_next slot bytes site facts own written.by) written.ends (like own) in
-    let on_it : buffered_rest slot bytes file buffer site facts own answers ≡ Done outcome.Done written.left = sym (on_slot own) ∙ done in
+    let on_it : buffered_rest slot bytes file buffer site facts own answers ≡ Done outcome.Done written.left =
+    sym (on_slot own) ∙ done in
     let w = buffer_writes slot h facts answers own bytes file buffer site written.left stands
     (follow_like_as (λ later. buf_write_all_next slot bytes site facts later answers)
     (λ later. buffered_rest slot bytes file buffer site facts later answers) own on_slot follow_all)
@@ -409,9 +460,9 @@ flushed_asks answers slot file buffer bytes site flush_site facts flush_facts ow
     rest_of [] w = w
     rest_of (place ∷ at) w = rest_of at w.1
 
--- A call writes bytes, of which there are some, to a buffered file, and is done; a flush of what it left is done. Where no
--- other request changes the file from the first of its WRITEs to the last, the file holds after the last what it held before
--- the first, with the bytes at the offset; zeros fill a gap.
+-- A call writes bytes, of which there are some, to a buffered file, and is done; a flush of what it left is done. Where
+-- no other request changes the file from the first of its WRITEs to the last, the file holds after the last what it
+-- held before the first, with the bytes at the offset; zeros fill a gap.
 pub flushed_writes : (config : ServerConfig) (answers : Answers) (slot : ℕ) (file : FileAt) (buffer : Buffer)
     (bytes : List ℕ) (site flush_site : Site) (facts flush_facts : Facts) (own flush_own : Own) (h : List ℕ)
     (held : Held)
@@ -421,15 +472,15 @@ pub flushed_writes : (config : ServerConfig) (answers : Answers) (slot : ℕ) (f
     → (written : HasEnded (call.BufWriteAll slot bytes) site facts own answers outcome.Done)
     → slot_at flush_site slot ≡ slot_at written.left slot
     → HasEnded (call.BufFlush slot) flush_site flush_facts flush_own answers outcome.Done
-    → bytes_of (after config tree steps) held.file ≡ put (bytes_of tree held.file) file.offset bytes
+    → bytes_of (after config tree steps) held.file ≡ written_at (bytes_of tree held.file) file.offset bytes
 flushed_writes config answers slot file buffer bytes site flush_site facts flush_facts own flush_own h held tree steps
     well_formed open_is way served stand some stands written same flush =
     let f = flushed_asks answers slot file buffer bytes site flush_site facts flush_facts own flush_own h
     (bear config held.file h steps own tree stand) stands written same flush in by_own own f.asks f.all f.said stand
   where
-    by_own : (mine : Own) → AreWrites h file.offset mine → carried mine ≡ bytes → AreWritten answers (places mine)
+    by_own : (mine : Own) → AreWrites h file.offset mine → carried_bytes mine ≡ bytes → AreWritten answers (places mine)
         → StandAlone config held.file h mine tree steps
-        → bytes_of (after config tree steps) held.file ≡ put (bytes_of tree held.file) file.offset bytes
+        → bytes_of (after config tree steps) held.file ≡ written_at (bytes_of tree held.file) file.offset bytes
     by_own [] asks all each stand = absurd (let l : 0 ≡ length bytes = ap length all in omega (arith, l, some))
     by_own (first ∷ later) asks all each stand = deferred_writes config answers h held file.offset steps first later
-        tree well_formed open_is way served stand asks each ∙ ap (put (bytes_of tree held.file) file.offset) all
+        tree well_formed open_is way served stand asks each ∙ ap (written_at (bytes_of tree held.file) file.offset) all

@@ -1,5 +1,5 @@
--- The plan of a buffered write makes the same move once more replies were taken, unless it waits; but for the handle that its
--- WRITE bears, which is that of a grant.
+-- The plan of a buffered write makes the same move once more replies were taken, unless it waits; but for the handle
+-- that its WRITE bears, which is that of a grant.
 use Rattle.std.proofs.Common.{
   ◌≡◌,
   ℕ,
@@ -51,8 +51,8 @@ use Rattle.plan_model.specs.BufferPlans.{
   with_deferred,
   written_slot,
 }
-use Rattle.plan_model.specs.Moves.{Answers, Own, Plan, ask_write, further, handle_of, on_buffered, on_status, once_answered, overflows, refused, refuses}
-use Rattle.plan_model.specs.OwnRequests.{AreAsked, Extends, oldest_first}
+use Rattle.plan_model.specs.Moves.{Answers, Own, Plan, ask_write, further, handle_of, on_buffered, on_status, once_answered, overflows, refusal_move, refuse_locally}
+use Rattle.plan_model.specs.OwnRequests.{AreAsked, ExtendsAnswers, oldest_first}
 use Rattle.run_laws.proofs.MoveWords.{is_wait}
 
 -- ---- moves that are the same but for the handle of a WRITE
@@ -80,9 +80,11 @@ StaysLike x y = is_wait x ≡ false → Like x y
 
 like_on : (r : Request) (x y : Move) → AsksLike r x → StaysLike x y → AsksLike r y
 like_on (request.Write handle offset content) x y (other, e) stays =
-    let like : Like (Ask (request.Write other offset content)) y = subst (λ (w : Move). Like w y) e (stays (ap is_wait e)) in
+    let like : Like (Ask (request.Write other offset content)) y =
+    subst (λ (w : Move). Like w y) e (stays (ap is_wait e)) in
     like
-like_on (request.Close handle) x y e stays = (let like : Like (Ask (request.Close handle)) y = subst (λ (w : Move). Like w y) e (stays (ap is_wait e)) in like)
+like_on (request.Close handle) x y e stays = (let like : Like (Ask (request.Close handle)) y =
+    subst (λ (w : Move). Like w y) e (stays (ap is_wait e)) in like)
 like_on other x y e stays = subst (λ (w : Move). Like w y) e (stays (ap is_wait e))
 
 -- ---- requests in their order
@@ -92,16 +94,19 @@ FollowLike plan [] = Unit {0}
 FollowLike plan (asked ∷ later) = AsksLike asked.1 (plan []) × FollowLike (λ own. plan (asked ∷ own)) later
 
 abbrev pub PlanStaysLike : Plan → Type 0
-PlanStaysLike plan = (before now : Answers) → Extends before now → (own : Own) → StaysLike (plan own before) (plan own now)
+PlanStaysLike plan = (before now : Answers) → ExtendsAnswers before now → (own : Own)
+    → StaysLike (plan own before) (plan own now)
 
-pub follow_like_as : (f g : Own → Move) (own : Own) → ((later : Own) → f later ≡ g later) → FollowLike f own → FollowLike g own
+pub follow_like_as : (f g : Own → Move) (own : Own) → ((later : Own) → f later ≡ g later) → FollowLike f own
+    → FollowLike g own
 follow_like_as f g [] e follow = tt
 follow_like_as f g (asked ∷ later) e follow = (
   subst (AsksLike asked.1) (e []) follow.0,
   follow_like_as (λ own. f (asked ∷ own)) (λ own. g (asked ∷ own)) later (λ own. e (asked ∷ own)) follow.1,
 )
 
-pub follow_like_still : (before now : Own → Move) (own : Own) → ((p : Own) → StaysLike (before p) (now p)) → FollowLike before own → FollowLike now own
+pub follow_like_still : (before now : Own → Move) (own : Own) → ((p : Own) → StaysLike (before p) (now p))
+    → FollowLike before own → FollowLike now own
 follow_like_still before now [] stays follow = tt
 follow_like_still before now (asked ∷ later) stays follow = (
   like_on asked.1 (before []) (now []) follow.0 (stays []),
@@ -111,7 +116,10 @@ follow_like_still before now (asked ∷ later) stays follow = (
 follow_like_more : (plan : Own → Move) (own : Own) (asked : ℕ × Request) → FollowLike plan own
     → AsksLike asked.1 (plan own) → FollowLike plan (own ++ asked ∷ [])
 follow_like_more plan [] asked follow e = (e, tt)
-follow_like_more plan (first ∷ later) asked follow e = (follow.0, follow_like_more (λ own. plan (first ∷ own)) later asked follow.1 e)
+follow_like_more plan (first ∷ later) asked follow e = (
+  follow.0,
+  follow_like_more (λ own. plan (first ∷ own)) later asked follow.1 e,
+)
 
 pub asked_in_order_like : (plan : Plan) (past : Own) (answers : Answers) → PlanStaysLike plan
     → AreAsked plan past answers → FollowLike (λ own. plan own answers) (oldest_first past)
@@ -125,30 +133,35 @@ asked_in_order_like plan (a ∷ past) answers stays (before, earlier, is, none, 
 
 -- ---- parts of plans
 
-once_like : (before now : Answers) (place : ℕ) (x y : Reply → Move) → Extends before now
+once_like : (before now : Answers) (place : ℕ) (x y : Reply → Move) → ExtendsAnswers before now
     → ((r : Reply) → StaysLike (x r) (y r)) → StaysLike (once_answered place (before place) x)
     (once_answered place (now place) y)
 once_like before now place x y more stays = by_case (before place) refl
   where
-    by_case : (o : Option Reply) → before place ≡ o → StaysLike (once_answered place o x) (once_answered place (now place) y)
+    by_case : (o : Option Reply) → before place ≡ o → StaysLike (once_answered place o x)
+        (once_answered place (now place) y)
     by_case None is = λ e. absurd (let both : true ≡ false = e in cc)
-    by_case (Some r) is = λ e. subst (λ (w : Option Reply). Like (x r) (once_answered place w y)) (sym (more place r is)) (stays r e)
+    by_case (Some r) is = λ e. subst (λ (w : Option Reply). Like (x r) (once_answered place w y))
+        (sym (more place r is)) (stays r e)
 
 if_like : (b : Bool) (x y z : Move) → StaysLike x y → StaysLike (if b then x else z) (if b then y else z)
 if_like true x y z h = h
 if_like false x y z h = λ e. like_self z
 
-status_like : (site : Site) (x y : Move) → StaysLike x y → (r : Reply) → StaysLike (on_status r site x) (on_status r site y)
-status_like site x y stays (reply.Status code message language) = if_like (code == 0) x y (refused (reply.Status code message language) site) stays
+status_like : (site : Site) (x y : Move) → StaysLike x y → (r : Reply)
+    → StaysLike (on_status r site x) (on_status r site y)
+status_like site x y stays (reply.Status code message language) =
+    if_like (code == 0) x y (refusal_move (reply.Status code message language) site) stays
 status_like site x y stays other = λ e. refl
 
-capacity_like : (before now : Answers) → Extends before now →
+capacity_like : (before now : Answers) → ExtendsAnswers before now →
     (slot : ℕ) (file : FileAt) (buffer : Buffer) (site : Site) (facts : Facts) (x y : Buffer → Site → Move)
     → ((b : Buffer) (s : Site) → StaysLike (x b s) (y b s))
     → StaysLike (with_capacity slot file buffer site facts before x) (with_capacity slot file buffer site facts now y)
 capacity_like before now more slot file buffer site facts x y stays = by_test (is_full facts buffer)
   where
-    out : (writes : List (ℕ × ℕ)) → StaysLike (taken_out slot file buffer site before writes x) (taken_out slot file buffer site now writes y)
+    out : (writes : List (ℕ × ℕ)) → StaysLike (taken_out slot file buffer site before writes x)
+        (taken_out slot file buffer site now writes y)
     out [] = stays buffer site
     out (write ∷ writes) = once_like before now write.0 _ _ more
         (status_like (with_deferred slot file buffer site writes) _ _
@@ -159,27 +172,31 @@ capacity_like before now more slot file buffer site facts x y stays = by_test (i
     by_test true = out buffer.deferred
     by_test false = stays buffer site
 
-write_like : (before now : Answers) (file : FileAt) (part : List ℕ) (site : Site) → StaysLike (ask_write file part site before) (ask_write file part site now)
+write_like : (before now : Answers) (file : FileAt) (part : List ℕ) (site : Site)
+    → StaysLike (ask_write file part site before) (ask_write file part site now)
 write_like before now file part site = by_tests (not file.writable) (overflows file.offset (length part))
   where
     by_tests : (a b : Bool)
-        → StaysLike (if a then refuses kind.NotWritable site else if b then refuses kind.OffsetOverflow site else
+        → StaysLike (if a then refuse_locally kind.NotWritable site else if b then
+        refuse_locally kind.OffsetOverflow site else
         Ask (request.Write (handle_of (before file.grant)) file.offset part))
-        (if a then refuses kind.NotWritable site else if b then refuses kind.OffsetOverflow site else
+        (if a then refuse_locally kind.NotWritable site else if b then refuse_locally kind.OffsetOverflow site else
         Ask (request.Write (handle_of (now file.grant)) file.offset part))
     by_tests true b = λ e. refl
     by_tests false true = λ e. refl
     by_tests false false = λ e. (handle_of (now file.grant), refl)
 
-rest_like : (before now : Answers) → Extends before now → (slot : ℕ) (bytes : List ℕ) (file : FileAt) (buffer : Buffer)
+rest_like : (before now : Answers) → ExtendsAnswers before now
+    → (slot : ℕ) (bytes : List ℕ) (file : FileAt) (buffer : Buffer)
     (site : Site) (facts : Facts) (own : Own)
-    → StaysLike (buffered_rest slot bytes file buffer site facts own before) (buffered_rest slot bytes file buffer site facts own now)
+    → StaysLike (buffered_rest slot bytes file buffer site facts own before)
+    (buffered_rest slot bytes file buffer site facts own now)
 rest_like before now more slot bytes file buffer site facts [] = by_tests (length bytes == 0) (not file.writable)
   where
     by_tests : (a b : Bool)
-        → StaysLike (if a then Done outcome.Done site else if b then refuses kind.NotWritable site else
+        → StaysLike (if a then Done outcome.Done site else if b then refuse_locally kind.NotWritable site else
         with_capacity slot file buffer site facts before (ask_deferred file bytes facts before))
-        (if a then Done outcome.Done site else if b then refuses kind.NotWritable site else
+        (if a then Done outcome.Done site else if b then refuse_locally kind.NotWritable site else
         with_capacity slot file buffer site facts now (ask_deferred file bytes facts now))
     by_tests true b = λ e. refl
     by_tests false true = λ e. refl
@@ -193,7 +210,8 @@ rest_like before now more slot bytes file buffer site facts (asked ∷ later) =
     (further file (deferrable_len facts bytes b)) (after_write b asked.0 (deferrable_len facts bytes b))
     (with_slot s slot (written_slot file b asked.0 (deferrable_len facts bytes b))) facts later)
 
-pub buf_write_all_like : (slot : ℕ) (bytes : List ℕ) (site : Site) (facts : Facts) → PlanStaysLike (buf_write_all_next slot bytes site facts)
+pub buf_write_all_like : (slot : ℕ) (bytes : List ℕ) (site : Site) (facts : Facts)
+    → PlanStaysLike (buf_write_all_next slot bytes site facts)
 buf_write_all_like slot bytes site facts before now more own = by_slot (slot_at site slot)
   where
     by_slot : (x : Slot) → StaysLike (on_buffered x site (λ file buffer. buffered_rest slot bytes file buffer site facts

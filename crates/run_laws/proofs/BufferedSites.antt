@@ -22,7 +22,7 @@ use Rattle.plan_model.specs.declared.call.Call.TheVariants as call
 use Rattle.session_model.specs.declared.entry.Entry.{Entry}
 use Rattle.session_model.specs.Calls.{GoesByPlan, Setting, current, site_of}
 use Rattle.session_model.specs.Journals.{IsJournal}
-use Rattle.session_model.specs.Readings.{answer, ended, own}
+use Rattle.session_model.specs.Readings.{answer, count_ended, own}
 use Rattle.session_model.proofs.CallsSoFar.{calls_so_far}
 use Rattle.run_laws.specs.RoundTrips.{outcome_at}
 use Rattle.run_laws.proofs.BetweenLaws.{LeaveSlot, slot_since}
@@ -33,37 +33,41 @@ use Rattle.run_laws.proofs.CallSites.{answer_since, given_call, journal_at, outc
 use Rattle.run_laws.proofs.OpenLaws.{open_is}
 use Rattle.run_laws.proofs.PlainRuns.{IsPlain}
 
-set_there : (slots : List Slot) (k : ℕ) (x y : Slot) → slice_index_or slots k Empty ≡ y → y ≢ Empty → slice_index_or (slice_set slots k x) k Empty ≡ x
+set_there : (slots : List Slot) (k : ℕ) (x y : Slot) → slice_index_or slots k Empty ≡ y → y ≢ Empty
+    → slice_index_or (slice_set slots k x) k Empty ≡ x
 set_there [] k x y e some = absurd (some (sym e))
 set_there (z ∷ slots) zero x y e some = refl
 set_there (z ∷ slots) (suc k) x y e some = set_there slots k x y e some
 
 -- the lane's slot has a buffered file that its call with this number opened, which stands at its start
-pub record BufferedAt (s : Setting) (past : List Entry) (lane k slot : ℕ) (flags : OpenFlags) (path : List ℕ) : Type 0 where
-  pub w : ℕ × Request
-  pub opens : own past lane k ≡ w ∷ []
-  pub asks : w.1 ≡ open_request flags path
-  pub handle : List ℕ
-  pub came : answer past w.0 ≡ Some (reply.Handle handle)
-  pub file : FileAt
-  pub buffer : Buffer
-  pub there : slot_at (site_of s past lane) slot ≡ Buffered file buffer
-  pub grant : file.grant ≡ w.0
-  pub start : file.offset ≡ 0
+pub record BufferedAt (s : Setting) (past : List Entry) (lane k slot : ℕ) (flags : OpenFlags) (path : List ℕ) : Type 0
+  where
+    pub w : ℕ × Request
+    pub opens : own past lane k ≡ w ∷ []
+    pub asks : w.1 ≡ open_request flags path
+    pub handle : List ℕ
+    pub came : answer past w.0 ≡ Some (reply.Handle handle)
+    pub file : FileAt
+    pub buffer : Buffer
+    pub there : slot_at (site_of s past lane) slot ≡ Buffered file buffer
+    pub grant : file.grant ≡ w.0
+    pub start : file.offset ≡ 0
 
 abbrev file_in : Slot → FileAt → FileAt
 file_in (File file) other = file
 file_in x other = other
 
--- Calls with these numbers open a file in a slot and buffer it, and the calls between them, and up to a third one, leave the slot.
+-- Calls with these numbers open a file in a slot and buffer it, and the calls between them, and up to a third one,
+-- leave the slot.
 pub buffered_at : (s : Setting) (past : List Entry) (lane k n m slot : ℕ) (options : OpenOptions) (path : List ℕ)
-    (len : ℕ) (c : Call) → IsJournal s past → IsPlain past → ended past lane ≡ m → k < n → n < m
+    (len : ℕ) (c : Call) → IsJournal s past → IsPlain past → count_ended past lane ≡ m → k < n → n < m
     → given_call s lane k ≡ Some (call.OpenFile slot options path) → given_call s lane n
     ≡ Some (call.Buffer slot len) → given_call s lane m ≡ Some c
     → outcome_at past lane k ≡ Some outcome.Opened → outcome_at past lane n ≡ Some outcome.Done
     → LeaveSlot s lane slot (k + 1) n → LeaveSlot s lane slot (n + 1) m
     → BufferedAt s past lane k slot (flags_of options) path
-buffered_at s past lane k n m slot options path len c j p at first_two last_two opens buffers later opened buffered leave leave' =
+buffered_at s past lane k n m slot options path len c j p at first_two last_two opens buffers later opened buffered
+    leave leave' =
     record {
       w = op.first;
       opens = own_since s past lane n k outcome.Done t1 j (omega (arith, first_two))
@@ -94,23 +98,28 @@ buffered_at s past lane k n m slot options path len c j p at first_two last_two 
     at_site = slot_since s past lane slot n m outcome.Done c t1 j p at later leave'
 
     d1 : (current s t1.before lane ≡ Some (call.Buffer slot len))
-        × (next (call.Buffer slot len) (site_of s t1.before lane) s.facts (own t1.before lane (ended t1.before lane))
+        × (next (call.Buffer slot len) (site_of s t1.before lane) s.facts
+        (own t1.before lane (count_ended t1.before lane))
         (answer t1.before) ≡ Done outcome.Done t1.site)
     d1 = plan_done s past lane n outcome.Done (call.Buffer slot len) t1 p buffers
 
     bu : Buffers slot (site_of s t1.before lane) t1.site
-    bu = buffer_leaves slot len (site_of s t1.before lane) s.facts (own t1.before lane (ended t1.before lane)) (answer t1.before) t1.site d1.1
+    bu = buffer_leaves slot len (site_of s t1.before lane) s.facts (own t1.before lane (count_ended t1.before lane))
+        (answer t1.before) t1.site d1.1
 
     t0 : EndsAt s t1.before lane k outcome.Opened
-    t0 = ends_at s t1.before lane k outcome.Opened j1 (λ e. cc) (outcome_at_end s past lane n k outcome.Done outcome.Opened t1 first_two opened)
+    t0 = ends_at s t1.before lane k outcome.Opened j1 (λ e. cc)
+        (outcome_at_end s past lane n k outcome.Done outcome.Opened t1 first_two opened)
 
     d0 : (current s t0.before lane ≡ Some (call.OpenFile slot options path))
         × (next (call.OpenFile slot options path) (site_of s t0.before lane) s.facts
-        (own t0.before lane (ended t0.before lane)) (answer t0.before) ≡ Done outcome.Opened t0.site)
+        (own t0.before lane (count_ended t0.before lane)) (answer t0.before) ≡ Done outcome.Opened t0.site)
     d0 = plan_done s t1.before lane k outcome.Opened (call.OpenFile slot options path) t0 p1 opens
 
-    op : Opens slot (flags_of options) (site_of s t0.before lane) (own t0.before lane (ended t0.before lane)) (answer t0.before) t0.site
-    op = open_leaves slot options path (site_of s t0.before lane) s.facts (own t0.before lane (ended t0.before lane)) (answer t0.before) t0.site d0.1
+    op : Opens slot (flags_of options) (site_of s t0.before lane) (own t0.before lane (count_ended t0.before lane))
+        (answer t0.before) t0.site
+    op = open_leaves slot options path (site_of s t0.before lane) s.facts
+        (own t0.before lane (count_ended t0.before lane)) (answer t0.before) t0.site d0.1
 
     at_open : slot_at (site_of s t1.before lane) slot ≡ slot_at t0.site slot
     at_open = slot_since s t1.before lane slot k n outcome.Opened (call.Buffer slot len) t0 j1 p1 t1.at buffers leave
@@ -123,7 +132,8 @@ buffered_at s past lane k n m slot options path len c j p at first_two last_two 
     same = ap (λ (x : Slot). file_in x (opened_file (flags_of options) op.first.0)) set
 
     plans : GoesByPlan s t0.before lane (call.OpenFile slot options path)
-    plans = calls_so_far s t0.before lane (call.OpenFile slot options path) (journal_at s t1.before lane k outcome.Opened t0 j1) d0.0
+    plans = calls_so_far s t0.before lane (call.OpenFile slot options path)
+        (journal_at s t1.before lane k outcome.Opened t0 j1) d0.0
 
     none_later : op.later ≡ []
     none_later = open_once slot options path (site_of s t0.before lane) s.facts plans.requests
@@ -132,6 +142,7 @@ buffered_at s past lane k n m slot options path len c j p at first_two last_two 
     one : own t0.before lane k ≡ op.first ∷ []
     one = ap (own t0.before lane) (sym t0.at) ∙ (op.asks ∙ ap (λ (l : Own). op.first ∷ l) none_later)
 
-    first : (before : Answers) × (next (call.OpenFile slot options path) (site_of s t0.before lane) s.facts [] before ≡ Ask op.first.1)
+    first : (before : Answers) × (next (call.OpenFile slot options path) (site_of s t0.before lane) s.facts [] before
+        ≡ Ask op.first.1)
     first = first_asked (next (call.OpenFile slot options path) (site_of s t0.before lane) s.facts)
         plans.requests (answer t0.before) op.first op.later plans.so_far.asked (plans.are ∙ op.asks)

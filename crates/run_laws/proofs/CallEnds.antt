@@ -45,7 +45,7 @@ use Rattle.session_model.specs.declared.event.Event.TheVariants.{End}
 use Rattle.session_model.specs.Calls.{Setting, call_at, current, lane_calls, move_at, move_of, site_of}
 use Rattle.session_model.specs.Grants.{next_due}
 use Rattle.session_model.specs.Journals.{IsJournal, IsNext, MayCome, MustClose, cancelled_end}
-use Rattle.session_model.specs.Readings.{answer, ended, last_cancel, outcomes_of, own}
+use Rattle.session_model.specs.Readings.{answer, count_ended, last_cancel, outcomes_of, own}
 use Rattle.run_laws.specs.CallsAmong.{HasEnded}
 use Rattle.run_laws.specs.Listings.{site_at}
 use Rattle.run_laws.proofs.JournalCalls.{ended_calls, site_began}
@@ -56,20 +56,21 @@ use Rattle.run_laws.proofs.OffRequests.{is_still}
 
 -- ---- lists
 
-get_last : {A : Type 0} (xs : List A) (x : A) (n : ℕ) (y : A) → slice_get (xs ++ x ∷ []) n ≡ Some y → (slice_get xs n ≡ Some y) ⊎ ((length xs ≡ n) × (x ≡ y))
+get_last : {A : Type 0} (xs : List A) (x : A) (n : ℕ) (y : A) → slice_get (xs ++ x ∷ []) n ≡ Some y
+    → (slice_get xs n ≡ Some y) ⊎ ((length xs ≡ n) × (x ≡ y))
 get_last [] x zero y e = inr (refl, some_is x y e)
 get_last [] x (suc n) y e = absurd cc
 get_last (z ∷ xs) x zero y e = inl e
 get_last (z ∷ xs) x (suc n) y e = elim (get_last xs x n y e) [ inl old ↦ inl old | inr new ↦ inr (ap suc new.0, new.1) ]
 
 -- a lane has as many outcomes as calls of it ended
-pub outcomes_count : (past : List Entry) (lane : ℕ) → length (outcomes_of past lane) ≡ ended past lane
+pub outcomes_count : (past : List Entry) (lane : ℕ) → length (outcomes_of past lane) ≡ count_ended past lane
 outcomes_count [] lane = refl
 outcomes_count (entry.Event (End l k o) ∷ past) lane = by_test (l == lane) (outcomes_count past lane)
   where
-    by_test : (b : Bool) → length (outcomes_of past lane) ≡ ended past lane
+    by_test : (b : Bool) → length (outcomes_of past lane) ≡ count_ended past lane
         → length (if b then outcomes_of past lane ++ o ∷ [] else outcomes_of past lane)
-        ≡ (if b then ended past lane + 1 else ended past lane)
+        ≡ (if b then count_ended past lane + 1 else count_ended past lane)
     by_test true same = (let l = length-append (outcomes_of past lane) (o ∷ []) in omega (arith, l, same))
     by_test false same = same
 outcomes_count (_ ∷ past) lane = outcomes_count past lane
@@ -77,7 +78,8 @@ outcomes_count (_ ∷ past) lane = outcomes_count past lane
 -- ---- one end
 
 -- an End that is none of a cancelled call comes by its plan, and no Cancel stands before it
-calm_next : (c g : Option ℕ) (P : Type 0) (Q R : ℕ → Type 0) → MatchOption c (MatchOption g P Q) R → ((n : ℕ) → Q n → ⊥) → ((n : ℕ) → R n → ⊥) → (c ≡ None) × P
+calm_next : (c g : Option ℕ) (P : Type 0) (Q R : ℕ → Type 0) → MatchOption c (MatchOption g P Q) R → ((n : ℕ) → Q n → ⊥)
+    → ((n : ℕ) → R n → ⊥) → (c ≡ None) × P
 calm_next None None P Q R h f e = (refl, h)
 calm_next None (Some n) P Q R h f e = absurd (f n h)
 calm_next (Some n) g P Q R h f e = absurd (e n h)
@@ -94,13 +96,14 @@ end_may s past lane k o ne h =
 pub record EndsAt (s : Setting) (past : List Entry) (lane k : ℕ) (o : Outcome) : Type 0 where
   pub more : List Entry
   pub before : List Entry
-  pub is : more ++ entry.Event (End lane (ended before lane) o) ∷ before ≡ past
-  pub at : ended before lane ≡ k
+  pub is : more ++ entry.Event (End lane (count_ended before lane) o) ∷ before ≡ past
+  pub at : count_ended before lane ≡ k
   pub calm : last_cancel before ≡ None
   pub site : Site
   pub moves : move_of s before lane ≡ Some (Done o site)
 
-ends_later : (s : Setting) (past : List Entry) (e : Entry) (lane k : ℕ) (o : Outcome) → EndsAt s past lane k o → EndsAt s (e ∷ past) lane k o
+ends_later : (s : Setting) (past : List Entry) (e : Entry) (lane k : ℕ) (o : Outcome) → EndsAt s past lane k o
+    → EndsAt s (e ∷ past) lane k o
 ends_later s past e lane k o t = record {
   more = e ∷ t.more;
   before = t.before;
@@ -112,7 +115,8 @@ ends_later s past e lane k o t = record {
   moves = t.moves;
 }
 
-ends_here : (s : Setting) (past : List Entry) (lane n k : ℕ) (o : Outcome) → o ≢ outcome.Cancelled → ended past lane ≡ k
+ends_here : (s : Setting) (past : List Entry) (lane n k : ℕ) (o : Outcome) → o ≢ outcome.Cancelled
+    → count_ended past lane ≡ k
     → IsNext s past (entry.Event (End lane n o)) → EndsAt s (entry.Event (End lane n o) ∷ past) lane k o
 ends_here s past lane n k o ne at next =
     let may = end_may s past lane n o ne next in
@@ -134,7 +138,7 @@ ends_at s (entry.Event (End l n p) ∷ past) lane k o j ne e =
     elim (eqb_tells l lane) [
       | inl t ↦ elim (get_last (outcomes_of past lane) p k o (rw t.0 at e)) [
         | inl old ↦ ends_later s past (entry.Event (End l n p)) lane k o (ends_at s past lane k o j.1 ne old)
-        | inr new ↦ (let at : ended past lane ≡ k = sym (outcomes_count past lane) ∙ new.0 in
+        | inr new ↦ (let at : count_ended past lane ≡ k = sym (outcomes_count past lane) ∙ new.0 in
             subst (λ (x : ℕ). EndsAt s (entry.Event (End x n p) ∷ past) lane k o) (sym t.1)
             (subst (λ (x : Outcome). EndsAt s (entry.Event (End lane n x) ∷ past) lane k o) (sym new.1)
             (ends_here s past lane n k o ne at (subst (λ (x : Outcome). IsNext s past (entry.Event (End lane n x)))
@@ -152,10 +156,11 @@ call_there None site facts own answers ended left e = absurd cc
 call_there (Some c) site facts own answers ended left e = (c, refl)
 
 -- what the lane held as the call began
-pub began_at : (s : Setting) (past : List Entry) (lane k : ℕ) (o : Outcome) (t : EndsAt s past lane k o) → site_at s past lane k ≡ site_of s t.before lane
+pub began_at : (s : Setting) (past : List Entry) (lane k : ℕ) (o : Outcome) (t : EndsAt s past lane k o)
+    → site_at s past lane k ≡ site_of s t.before lane
 began_at s past lane k o t =
     subst (λ (l : List Entry). site_at s l lane k ≡ site_of s t.before lane) t.is
-    (subst (λ (n : ℕ). site_at s (t.more ++ entry.Event (End lane (ended t.before lane) o) ∷ t.before) lane n
+    (subst (λ (n : ℕ). site_at s (t.more ++ entry.Event (End lane (count_ended t.before lane) o) ∷ t.before) lane n
     ≡ site_of s t.before lane) t.at (site_began s t.more t.before lane o))
 
 -- a call that ended, uncancelled, made its requests by its plan and ended so
@@ -170,24 +175,30 @@ pub call_ended : (s : Setting) (past : List Entry) (lane k : ℕ) (c : Call) (o 
     → EndedByPlan s past lane k c o
 call_ended s past lane k c o j is ne e =
     let t : EndsAt s past lane k o = ends_at s past lane k o j ne e in
-    let end : Entry = entry.Event (End lane (ended t.before lane) o) in
+    let end : Entry = entry.Event (End lane (count_ended t.before lane) o) in
     let whole : List Entry = t.more ++ end ∷ t.before in
     let found = call_there (current s t.before lane) (site_of s t.before lane) s.facts
-    (own t.before lane (ended t.before lane)) (answer t.before) o t.site t.moves in
-    let later : call_at s whole lane (ended t.before lane) ≡ Some found.0 = call_stays s t.more (end ∷ t.before) lane (ended t.before lane) found.0 found.1 in
+    (own t.before lane (count_ended t.before lane)) (answer t.before) o t.site t.moves in
+    let later : call_at s whole lane (count_ended t.before lane) ≡ Some found.0 =
+    call_stays s t.more (end ∷ t.before) lane (count_ended t.before lane) found.0 found.1 in
     let there : call_at s past lane k ≡ Some found.0 =
-    subst (λ (l : List Entry). call_at s l lane k ≡ Some found.0) t.is (subst (λ (x : ℕ). call_at s whole lane x ≡ Some found.0) t.at later)
+    subst (λ (l : List Entry). call_at s l lane k ≡ Some found.0) t.is
+    (subst (λ (x : ℕ). call_at s whole lane x ≡ Some found.0) t.at later)
     in
     let same : found.0 ≡ c = some_is found.0 c (sym there ∙ is) in
-    let did : HasEnded (found.0) (site_of s t.before lane) s.facts (own whole lane (ended t.before lane)) (answer whole) o =
+    let did : HasEnded (found.0) (site_of s t.before lane) s.facts (own whole lane (count_ended t.before lane))
+    (answer whole) o =
     ended_calls s t.before t.more lane found.0 o (subst (IsJournal s) (sym t.is) j) t.calm found.1
     in
     record {
       before = t.before;
       began = began_at s past lane k o t;
-      still = λ w. all_before is_still s t.more (end ∷ t.before) lane (subst (λ (l : List Entry). list_all is_still (lane_calls s l lane) ≡ true) (sym t.is) w);
+      still = λ w. all_before is_still s t.more (end ∷ t.before) lane
+          (subst (λ (l : List Entry). list_all is_still (lane_calls s l lane) ≡ true) (sym t.is) w);
       did =
           subst (λ (d : Call). HasEnded d (site_of s t.before lane) s.facts (own past lane k) (answer past) o) same
-          (subst (λ (l : List Entry). HasEnded (found.0) (site_of s t.before lane) s.facts (own l lane k) (answer l) o) t.is
-          (subst (λ (x : ℕ). HasEnded (found.0) (site_of s t.before lane) s.facts (own whole lane x) (answer whole) o) t.at did));
+          (subst (λ (l : List Entry). HasEnded (found.0) (site_of s t.before lane) s.facts (own l lane k) (answer l) o)
+          t.is
+          (subst (λ (x : ℕ). HasEnded (found.0) (site_of s t.before lane) s.facts (own whole lane x) (answer whole) o)
+          t.at did));
     }

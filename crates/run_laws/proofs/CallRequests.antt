@@ -56,14 +56,14 @@ use Rattle.session_model.specs.declared.event.Owner.TheVariants as owner
 use Rattle.session_model.specs.Calls.{GoesByPlan, Setting, call_at, current, lane_calls, move_at, move_of, site_of}
 use Rattle.session_model.specs.Grants.{is_asked_by}
 use Rattle.session_model.specs.Journals.{IsJournal}
-use Rattle.session_model.specs.Readings.{AskedRequest, answer, asked, asked_at, ended, is_by, own}
+use Rattle.session_model.specs.Readings.{AskedRequest, answer, count_submitted, asked_at, count_ended, is_by, own}
 use Rattle.session_model.proofs.CallLaws.{next_submit}
 use Rattle.session_model.proofs.CallsSoFar.{calls_so_far}
 use Rattle.session_model.proofs.RequestLaws.{asked_other}
-use Rattle.run_laws.specs.Bearing.{brought, used, used_in}
+use Rattle.run_laws.specs.Bearing.{is_handle_reply, grant_used_at, used_in}
 use Rattle.run_laws.specs.GrantUses.{WritesBy}
 use Rattle.run_laws.specs.InJournals.{PassesAt, is_of_call, is_open_of, opens_at}
-use Rattle.run_laws.specs.Sparing.{Avoids}
+use Rattle.run_laws.specs.Sparing.{AvoidsName}
 use Rattle.run_laws.proofs.OpenLaws.{open_is}
 use Rattle.run_laws.proofs.OwnLaws.{own_listed}
 use Rattle.run_laws.proofs.SentLaws.{AreKnown, IsAt}
@@ -90,7 +90,7 @@ pub record Split (past : List Entry) (place : ℕ) (a : AskedRequest) : Type 0 w
   pub more : List Entry
   pub before : List Entry
   pub is : more ++ entry.Event (Submit a.by a.id a.request) ∷ before ≡ past
-  pub at : asked before ≡ place
+  pub at : count_submitted before ≡ place
 
 split_later : (past : List Entry) (e : Entry) (place : ℕ) (a : AskedRequest) → Split past place a → Split (e ∷ past) place a
 split_later past e place a t = record { more = e ∷ t.more; before = t.before; is = ap (λ (l : List Entry). e ∷ l) t.is; at = t.at }
@@ -98,14 +98,14 @@ split_later past e place a t = record { more = e ∷ t.more; before = t.before; 
 pub split_at : (past : List Entry) (place : ℕ) (a : AskedRequest) → asked_at past place ≡ Some a → Split past place a
 split_at [] place a e = absurd cc
 split_at (entry.Event (Submit by id r) ∷ past) place a e =
-    elim (eqb_tells place (asked past)) [
+    elim (eqb_tells place (count_submitted past)) [
       | inl t ↦ (let same = some_is (record { by = by; id = id; request = r }) a (rw t.0 at e) in
           record { more = []; before = past; is = ap (λ (x : AskedRequest). entry.Event (Submit x.by x.id x.request) ∷ past) (sym same); at = sym t.1 })
       | inr t ↦ split_later past (entry.Event (Submit by id r)) place a (split_at past place a (rw t.0 at e))
     ]
 split_at (x ∷ past) place a e = split_later past x place a (split_at past place a e)
 
-pub asked_grows : (more past : List Entry) → asked past ≤ asked (more ++ past)
+pub asked_grows : (more past : List Entry) → count_submitted past ≤ count_submitted (more ++ past)
 asked_grows [] past = omega arith
 asked_grows (entry.Event (Submit by id r) ∷ more) past = let le = asked_grows more past in omega (arith, le)
 asked_grows (_ ∷ more) past = asked_grows more past
@@ -119,11 +119,11 @@ asked_stays (entry.Event (Submit by id r) ∷ more) past place a e =
 asked_stays (_ ∷ more) past place a e = asked_stays more past place a e
 
 -- and the grant whose handle one bears
-used_stays : (s : Setting) (more past : List Entry) (place g : ℕ) (h : List ℕ) → place < asked past
-    → used s past place h ≡ Some g → used s (more ++ past) place h ≡ Some g
+used_stays : (s : Setting) (more past : List Entry) (place g : ℕ) (h : List ℕ) → place < count_submitted past
+    → grant_used_at s past place h ≡ Some g → grant_used_at s (more ++ past) place h ≡ Some g
 used_stays s [] past place g h lt e = e
 used_stays s (entry.Event (Submit by id r) ∷ more) past place g h lt e =
-    let le = asked_grows more past in rw (ne_eqb place (asked (more ++ past)) (λ same. omega (arith, same, le, lt))) (used_stays s more past place g h lt e)
+    let le = asked_grows more past in rw (ne_eqb place (count_submitted (more ++ past)) (λ same. omega (arith, same, le, lt))) (used_stays s more past place g h lt e)
 used_stays s (_ ∷ more) past place g h lt e = used_stays s more past place g h lt e
 
 -- ---- what one request is
@@ -131,7 +131,7 @@ used_stays s (_ ∷ more) past place g h lt e = used_stays s more past place g h
 -- the request at a place writes by the handle of a grant that an OPEN of this path was given
 abbrev WritesAt : Setting → List Entry → ℕ → List ℕ → Request → Type 0
 WritesAt s past place path (request.Write h offset content) =
-    (g : ℕ) × ((used s past place h ≡ Some g) × ((b : AskedRequest) × ((asked_at past g ≡ Some b) × (b.request ≡ open_request to_replace path))))
+    (g : ℕ) × ((grant_used_at s past place h ≡ Some g) × ((b : AskedRequest) × ((asked_at past g ≡ Some b) × (b.request ≡ open_request to_replace path))))
 WritesAt s past place path other = ⊥
 
 -- a call that the lane may make
@@ -178,10 +178,10 @@ first_known past n requests first later known are = (subst (AreKnown past n) are
 -- a WRITE by the handle that the first request of its call was granted uses this grant
 used_first : (s : Setting) (past : List Entry) (lane k id : ℕ) (h : List ℕ) (offset : ℕ) (content : List ℕ)
     (first : ℕ × Request) (later : Own) → own past lane k ≡ first ∷ later → answer past first.0 ≡ Some (reply.Handle h)
-    → used s (entry.Event (Submit (owner.Call lane k) id (request.Write h offset content)) ∷ past) (asked past) h ≡ Some first.0
+    → grant_used_at s (entry.Event (Submit (owner.Call lane k) id (request.Write h offset content)) ∷ past) (count_submitted past) h ≡ Some first.0
 used_first s past lane k id h offset content first later are came =
-    rw (eq-eqb (asked past) (asked past) refl)
-    (ap (λ (o : Own). used_in s past lane o h) are ∙ by_test (brought (answer past first.0) h) (ap (λ x. brought x h) came ∙ (handles_tell h h).1 refl))
+    rw (eq-eqb (count_submitted past) (count_submitted past) refl)
+    (ap (λ (o : Own). used_in s past lane o h) are ∙ by_test (is_handle_reply (answer past first.0) h) (ap (λ x. is_handle_reply x h) came ∙ (handles_tell h h).1 refl))
   where
     other : Option ℕ
     other = used_in s past lane [] h
@@ -199,18 +199,18 @@ move_is (Some d) site facts own answers r e = (d, (refl, cc e))
 -- what a call of the lane asks next
 asks_next : (name : Name) (s : Setting) (past : List Entry) (lane id : ℕ) (r : Request) → IsJournal s past
     → list_all (may_hold name) (lane_calls s past lane) ≡ true
-    → move_at (current s past lane) (site_of s past lane) s.facts (own past lane (ended past lane)) (answer past)
+    → move_at (current s past lane) (site_of s past lane) s.facts (own past lane (count_ended past lane)) (answer past)
     ≡ Some (Ask r)
-    → IsAsked name s (entry.Event (Submit (owner.Call lane (ended past lane)) id r) ∷ past) lane (ended past lane) (asked past) r
+    → IsAsked name s (entry.Event (Submit (owner.Call lane (count_ended past lane)) id r) ∷ past) lane (count_ended past lane) (count_submitted past) r
 asks_next name s past lane id r j w m =
-    let d = move_is (current s past lane) (site_of s past lane) s.facts (own past lane (ended past lane)) (answer past) r m in
-    by_call d.0 d.1.0 d.1.1 (each_is (may_hold name) (lane_calls s past lane) (ended past lane) d.0 w d.1.0)
+    let d = move_is (current s past lane) (site_of s past lane) s.facts (own past lane (count_ended past lane)) (answer past) r m in
+    by_call d.0 d.1.0 d.1.1 (each_is (may_hold name) (lane_calls s past lane) (count_ended past lane) d.0 w d.1.0)
   where
     now : Request → List Entry
-    now q = entry.Event (Submit (owner.Call lane (ended past lane)) id q) ∷ past
+    now q = entry.Event (Submit (owner.Call lane (count_ended past lane)) id q) ∷ past
 
     k : ℕ
-    k = ended past lane
+    k = count_ended past lane
 
     site : Site
     site = site_of s past lane
@@ -230,13 +230,13 @@ asks_next name s past lane id r j w m =
     first_open path bytes first later is are =
         let plans : GoesByPlan s past lane (call.FsWrite path bytes) = calls_so_far s past lane (call.FsWrite path bytes) j is in
         let f = first_asked (next (call.FsWrite path bytes) site s.facts) plans.requests (answer past) first later plans.so_far.asked (plans.are ∙ are) in
-        let at : IsAt past first = first_known past (asked past) (own past lane k) first later
+        let at : IsAt past first = first_known past (count_submitted past) (own past lane k) first later
         (own_listed past lane k).1 are in (at.0, (at.1.0, at.1.1 ∙ opens to_replace path first.1 f.1))
 
     by_request : (path bytes : List ℕ) (first : ℕ × Request) (later : Own) (h : List ℕ) (q : Request)
         → current s past lane ≡ Some (call.FsWrite path bytes) → own past lane k ≡ first ∷ later → answer past first.0
         ≡ Some (reply.Handle h) → IsWriteBy h q
-        → WritesAt s (now q) (asked past) path q
+        → WritesAt s (now q) (count_submitted past) path q
     by_request path bytes first later h (request.Write handle offset content) is are came by =
         let f = first_open path bytes first later is are in (
           first.0,
@@ -248,13 +248,13 @@ asks_next name s past lane id r j w m =
     by_request path bytes first later h other is are came by = absurd by
 
     by_own_read : (path : List ℕ) (bound : ℕ) (o : Own) → next (call.FsRead path bound) site s.facts o (answer past)
-        ≡ Ask r → IsAskOf name s (now r) (asked past) (call.FsRead path bound) r
+        ≡ Ask r → IsAskOf name s (now r) (count_submitted past) (call.FsRead path bound) r
     by_own_read path bound [] e = inl (opens to_read path r e)
     by_own_read path bound (first ∷ later) e = inr (read_asks path bound site s.facts first later (answer past) r e)
 
     by_own_write : (path bytes : List ℕ) (o : Own) → current s past lane ≡ Some (call.FsWrite path bytes)
         → own past lane k ≡ o → next (call.FsWrite path bytes) site s.facts o (answer past) ≡ Ask r
-        → IsAskOf name s (now r) (asked past) (call.FsWrite path bytes) r
+        → IsAskOf name s (now r) (count_submitted past) (call.FsWrite path bytes) r
     by_own_write path bytes [] is are e = inl (opens to_replace path r e)
     by_own_write path bytes (first ∷ later) is are e =
         let x = write_asks path bytes site s.facts first later (answer past) r e in inr (by_request path bytes first later x.0 r is are x.1.0 x.1.1)
@@ -266,7 +266,7 @@ asks_next name s past lane id r j w m =
     by_own_open slot options path (first ∷ later) e = absurd (open_asks_once slot options path site s.facts first later (answer past) r e)
 
     by_call : (c : Call) → current s past lane ≡ Some c → next c site s.facts (own past lane k) (answer past) ≡ Ask r
-        → may_hold name c ≡ true → IsAsked name s (now r) lane k (asked past) r
+        → may_hold name c ≡ true → IsAsked name s (now r) lane k (count_submitted past) r
     by_call (call.FsRead path bound) is e owns = record { c = call.FsRead path bound; is = is; asks = by_own_read path bound (own past lane k) e }
     by_call (call.FsWrite path bytes) is e owns = record { c = call.FsWrite path bytes; is = is; asks = by_own_write path bytes (own past lane k) is refl e }
     by_call (call.OpenFile slot options path) is e owns = record
@@ -288,20 +288,20 @@ asks_next name s past lane id r j w m =
           e;
     }
 
-writes_stay : (s : Setting) (more past : List Entry) (place : ℕ) (path : List ℕ) (r : Request) → place < asked past
+writes_stay : (s : Setting) (more past : List Entry) (place : ℕ) (path : List ℕ) (r : Request) → place < count_submitted past
     → WritesAt s past place path r → WritesAt s (more ++ past) place path r
 writes_stay s more past place path (request.Write h offset content) lt w =
     (w.0, (used_stays s more past place w.0 h lt w.1.0, (w.1.1.0, (asked_stays more past w.0 w.1.1.0 w.1.1.1.0, w.1.1.1.1))))
 writes_stay s more past place path other lt w = absurd w
 
 asks_stay : (name : Name) (s : Setting) (more past : List Entry) (place : ℕ) (c : Call) (r : Request)
-    → place < asked past → IsAskOf name s past place c r → IsAskOf name s (more ++ past) place c r
+    → place < count_submitted past → IsAskOf name s past place c r → IsAskOf name s (more ++ past) place c r
 asks_stay name s more past place (call.FsRead path bound) r lt x = x
 asks_stay name s more past place (call.FsWrite path bytes) r lt (inl e) = inl e
 asks_stay name s more past place (call.FsWrite path bytes) r lt (inr w) = inr (writes_stay s more past place path r lt w)
 asks_stay name s more past place other r lt x = x
 
-asked_grow : (name : Name) (s : Setting) (more past : List Entry) (lane k place : ℕ) (r : Request) → place < asked past
+asked_grow : (name : Name) (s : Setting) (more past : List Entry) (lane k place : ℕ) (r : Request) → place < count_submitted past
     → IsAsked name s past lane k place r → IsAsked name s (more ++ past) lane k place r
 asked_grow name s more past lane k place r lt a = record {
   c = a.c;
@@ -327,7 +327,7 @@ asked_own name s past lane k place a j w e mine =
         → IsJournal s (more ++ entry.Event (Submit o id r) ∷ before)
         → list_all (may_hold name) (lane_calls s (more ++ entry.Event (Submit o id r) ∷ before) lane) ≡ true
         → is_by o lane k ≡ true
-        → IsAsked name s (more ++ entry.Event (Submit o id r) ∷ before) lane k (asked before) r
+        → IsAsked name s (more ++ entry.Event (Submit o id r) ∷ before) lane k (count_submitted before) r
     by_owner more before (owner.Call l n) id r j w at =
         let both = and_parts (l == lane) (n == k) at in
         let at_lane : l ≡ lane = eqb-true l lane both.0 in
@@ -338,12 +338,12 @@ asked_own name s past lane k place a j w e mine =
         let first : list_all (may_hold name) (lane_calls s before l) ≡ true =
         subst (λ (y : ℕ). list_all (may_hold name) (lane_calls s before y) ≡ true) (sym at_lane)
         (all_before (may_hold name) s more now lane w) in
-        let next_is : IsAsked name s now l n (asked before) r =
-        subst (λ (x : ℕ). IsAsked name s (entry.Event (Submit (owner.Call l x) id r) ∷ before) l x (asked before) r)
+        let next_is : IsAsked name s now l n (count_submitted before) r =
+        subst (λ (x : ℕ). IsAsked name s (entry.Event (Submit (owner.Call l x) id r) ∷ before) l x (count_submitted before) r)
         (sym may.0) (asks_next name s before l id r so_far.1 first may.1)
         in
-        asked_grow name s more now lane k (asked before) r (omega arith)
-        (subst (λ (x : ℕ). IsAsked name s now lane x (asked before) r) at_call (subst (λ (y : ℕ). IsAsked name s now y n (asked before) r) at_lane next_is))
+        asked_grow name s more now lane k (count_submitted before) r (omega arith)
+        (subst (λ (x : ℕ). IsAsked name s now lane x (count_submitted before) r) at_call (subst (λ (y : ℕ). IsAsked name s now y n (count_submitted before) r) at_lane next_is))
     by_owner more before owner.Setup id r j w at = absurd cc
     by_owner more before owner.Close id r j w at = absurd cc
 
@@ -360,10 +360,10 @@ off_asked name s past lane k place a j off e mine =
     by_lane : (before : List Entry) (l id : ℕ) (r : Request) → IsJournal s before
         → all_keep_off name [] (lane_calls s before l) ≡ true → move_of s before l ≡ Some (Ask r) → IsOff name r
     by_lane before l id r j off m =
-        let d = move_is (current s before l) (site_of s before l) s.facts (own before l (ended before l)) (answer before) r m in
-        call_off name d.0 (site_of s before l) s.facts (own before l (ended before l)) (answer before) r
-        (directory_at [] (lane_calls s before l) (ended before l)) (directory_now s before l j)
-        (off_there name [] (lane_calls s before l) (ended before l) d.0 off d.1.0) d.1.1
+        let d = move_is (current s before l) (site_of s before l) s.facts (own before l (count_ended before l)) (answer before) r m in
+        call_off name d.0 (site_of s before l) s.facts (own before l (count_ended before l)) (answer before) r
+        (directory_at [] (lane_calls s before l) (count_ended before l)) (directory_now s before l j)
+        (off_there name [] (lane_calls s before l) (count_ended before l) d.0 off d.1.0) d.1.1
 
     by_owner : (more before : List Entry) (o : Owner) (id : ℕ) (r : Request)
         → IsJournal s (more ++ entry.Event (Submit o id r) ∷ before)
@@ -383,18 +383,18 @@ off_asked name s past lane k place a j off e mine =
 
 -- ---- names that requests avoid, and pass by
 
-read_avoids : (name : Name) (r : Request) → IsRead r → Avoids name r
+read_avoids : (name : Name) (r : Request) → IsRead r → AvoidsName name r
 read_avoids name (request.Read handle offset len) x = record { denotes = λ d. d; moves = λ old to d. absurd d }
 read_avoids name other x = absurd x
 
-write_avoids : (s : Setting) (past : List Entry) (name : Name) (place : ℕ) (path : List ℕ) (r : Request) → WritesAt s past place path r → Avoids name r
+write_avoids : (s : Setting) (past : List Entry) (name : Name) (place : ℕ) (path : List ℕ) (r : Request) → WritesAt s past place path r → AvoidsName name r
 write_avoids s past name place path (request.Write handle offset content) x = record { denotes = λ d. d; moves = λ old to d. absurd d }
 write_avoids s past name place path other x = absurd x
 
-open_avoids : (name : Name) (flags : OpenFlags) (path : List ℕ) (r : Request) → r ≡ open_request flags path → is_open_of name r ≡ false → Avoids name r
+open_avoids : (name : Name) (flags : OpenFlags) (path : List ℕ) (r : Request) → r ≡ open_request flags path → is_open_of name r ≡ false → AvoidsName name r
 open_avoids name flags path r e plain =
     let apart : same_name (components path) name ≡ false = sym (ap (is_open_of name) e) ∙ plain in
-    subst (Avoids name) (sym e) (record {
+    subst (AvoidsName name) (sym e) (record {
       denotes = λ d. both_ways (same_name (components path) name) apart
           ((names_tell (components path) name).1 d.1);
       moves = λ old to d. absurd d;
@@ -402,7 +402,7 @@ open_avoids name flags path r e plain =
 
 -- a request that isn't an OPEN of the name avoids it
 pub avoids_plain : (s : Setting) (past : List Entry) (name : Name) (place : ℕ) (c : Call) (r : Request)
-    → IsAskOf name s past place c r → is_open_of name r ≡ false → Avoids name r
+    → IsAskOf name s past place c r → is_open_of name r ≡ false → AvoidsName name r
 avoids_plain s past name place (call.FsRead path bound) r (inl e) plain = open_avoids name to_read path r e plain
 avoids_plain s past name place (call.FsRead path bound) r (inr x) plain = read_avoids name r x
 avoids_plain s past name place (call.FsWrite path bytes) r (inl e) plain = open_avoids name to_replace path r e plain
@@ -427,12 +427,12 @@ own_writes name other e w = w
 
 -- what a call asks that doesn't write the name avoids it
 avoids_so : (s : Setting) (past : List Entry) (name : Name) (place : ℕ) (c : Call) (r : Request)
-    → IsAskOf name s past place c r → (MayWrite name c → ⊥) → Avoids name r
+    → IsAskOf name s past place c r → (MayWrite name c → ⊥) → AvoidsName name r
 avoids_so s past name place (call.FsRead path bound) r (inl e) spares =
-    subst (Avoids name) (sym e) (record { denotes = λ d. (let both : false ≡ true = d.0 in cc); moves = λ old to d. absurd d })
+    subst (AvoidsName name) (sym e) (record { denotes = λ d. (let both : false ≡ true = d.0 in cc); moves = λ old to d. absurd d })
 avoids_so s past name place (call.FsRead path bound) r (inr x) spares = read_avoids name r x
 avoids_so s past name place (call.FsWrite path bytes) r (inl e) spares =
-    subst (Avoids name) (sym e) (record { denotes = λ d. spares d.1; moves = λ old to d. absurd d })
+    subst (AvoidsName name) (sym e) (record { denotes = λ d. spares d.1; moves = λ old to d. absurd d })
 avoids_so s past name place (call.FsWrite path bytes) r (inr x) spares = write_avoids s past name place path r x
 avoids_so s past name place (call.OpenFile slot options path) r x spares = absurd (spares tt)
 avoids_so s past name place (call.BufWriteAll slot bytes) r x spares = absurd (spares tt)
@@ -447,7 +447,7 @@ open_writes_none flags path r h e w = subst (λ (q : Request). WritesBy q h) e w
 
 -- and writes by no handle that an OPEN of the name was granted
 writes_so : (s : Setting) (past : List Entry) (name : Name) (place : ℕ) (c : Call) (r : Request) (h : List ℕ)
-    (grant : ℕ) → IsAskOf name s past place c r → (MayWrite name c → ⊥) → WritesBy r h → used s past place h
+    (grant : ℕ) → IsAskOf name s past place c r → (MayWrite name c → ⊥) → WritesBy r h → grant_used_at s past place h
     ≡ Some grant
     → opens_at name (asked_at past grant) ≡ false
 writes_so s past name place (call.FsRead path bound) r h grant (inl e) spares w uses = absurd (open_writes_none to_read path r h e w)
@@ -457,7 +457,7 @@ writes_so s past name place (call.FsWrite path bytes) r h grant (inr x) spares w
   where
     by_request : (q : Request) → WritesAt s past place path q → WritesBy q h → opens_at name (asked_at past grant) ≡ false
     by_request (request.Write handle offset content) at same =
-        let both : Some at.0 ≡ Some grant = sym at.1.0 ∙ (ap (used s past place) same ∙ uses) in
+        let both : Some at.0 ≡ Some grant = sym at.1.0 ∙ (ap (grant_used_at s past place) same ∙ uses) in
         let there : asked_at past grant ≡ Some at.1.1.0 = subst (λ (g : ℕ). asked_at past g ≡ Some at.1.1.0) (some_is at.0 grant both) at.1.1.1.0 in
         ap (opens_at name) there ∙ (ap (is_open_of name) at.1.1.1.1
         ∙ false_from_ne_true (same_name (components path) name)
@@ -472,7 +472,7 @@ pub passes_so : (s : Setting) (past : List Entry) (name : Name) (lane k place : 
     ≡ Some a → (x : IsAsked name s past lane k place a.request) → (MayWrite name x.c → ⊥) → PassesAt s past name place
 passes_so s past name lane k place a e x spares =
     record {
-      avoids = λ b at. subst (λ (y : AskedRequest). Avoids name y.request) (same b at) (avoids_so s past name place x.c a.request x.asks spares);
+      avoids = λ b at. subst (λ (y : AskedRequest). AvoidsName name y.request) (same b at) (avoids_so s past name place x.c a.request x.asks spares);
       writes = λ b h grant at w uses. writes_so s past name place x.c a.request h grant x.asks spares
           (subst (λ (y : AskedRequest). WritesBy y.request h) (sym (same b at)) w) uses;
     }

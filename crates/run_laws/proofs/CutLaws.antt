@@ -8,7 +8,7 @@ use Rattle.plan_model.specs.Moves.{Own}
 use Rattle.session_model.specs.declared.entry.Entry.{Entry}
 use Rattle.session_model.specs.Readings.{AskedRequest, asked_at}
 use Rattle.run_laws.specs.CallsAmong.{asked_by}
-use Rattle.run_laws.specs.Steps.{Step, AreDistinct, Choose, HasPlace, asked_in}
+use Rattle.run_laws.specs.Steps.{Step, AreDistinct, ChooseOnly, HasPlace, asked_in}
 use Rattle.run_laws.proofs.SentLaws.{AllAbove, AreKnown, AreRising, IsAt}
 use Rattle.run_laws.proofs.ServedSteps.{HasRequest}
 use Rattle.run_laws.proofs.UseLaws.{above_has}
@@ -16,15 +16,18 @@ use Rattle.run_laws.proofs.UsedLaws.{some_is}
 
 -- ---- requests by their places
 
-pub known_has : (past : List Entry) (n place : ℕ) (requests : Own) → AreKnown past n requests → HasRequest requests place → place < n
+pub known_has : (past : List Entry) (n place : ℕ) (requests : Own) → AreKnown past n requests
+    → HasRequest requests place → place < n
 known_has past n place [] known has = absurd has
-known_has past n place (r ∷ requests) known (inl e) = (let lt = known.0.0 in let here : r.0 ≡ place = e in omega (arith, lt, here))
+known_has past n place (r ∷ requests) known (inl e) = (let lt = known.0.0 in let here : r.0 ≡ place = e in
+    omega (arith, lt, here))
 known_has past n place (r ∷ requests) known (inr h) = known_has past n place requests known.1 h
 
 -- one request stands at a place
 pub one_at : (past : List Entry) (x y : ℕ × Request) → IsAt past x → IsAt past y → x.0 ≡ y.0 → x.1 ≡ y.1
 one_at past x y at at' same =
-    let one : at.0 ≡ at'.0 = some_is at.0 at'.0 (sym at.1.0 ∙ ap (asked_at past) same ∙ at'.1.0) in sym at.1.1 ∙ ap (λ (a : AskedRequest). a.request) one ∙ at'.1.1
+    let one : at.0 ≡ at'.0 = some_is at.0 at'.0 (sym at.1.0 ∙ ap (asked_at past) same ∙ at'.1.0) in sym at.1.1
+    ∙ ap (λ (a : AskedRequest). a.request) one ∙ at'.1.1
 
 place_asked : (place : ℕ) (steps : List Step) → HasPlace steps place → HasRequest (asked_in steps) place
 place_asked place [] has = has
@@ -46,22 +49,28 @@ pub known_parts : (past : List Entry) (n : ℕ) (xs ys : List Step) → AreKnown
 known_parts past n [] ys known = (tt, known)
 known_parts past n (x ∷ xs) ys known = let more = known_parts past n xs ys known.1 in ((known.0, more.0), more.1)
 
-pub above_parts : (n : ℕ) (xs ys : List Step) → AllAbove n (asked_in (xs ++ ys)) → AllAbove n (asked_in xs) × AllAbove n (asked_in ys)
+pub above_parts : (n : ℕ) (xs ys : List Step) → AllAbove n (asked_in (xs ++ ys)) → AllAbove n (asked_in xs)
+    × AllAbove n (asked_in ys)
 above_parts n [] ys above = (tt, above)
 above_parts n (x ∷ xs) ys above = let more = above_parts n xs ys above.1 in ((above.0, more.0), more.1)
 
-pub rising_parts : (xs ys : List Step) → AreRising (asked_in (xs ++ ys)) → AreRising (asked_in xs) × AreRising (asked_in ys)
+pub rising_parts : (xs ys : List Step) → AreRising (asked_in (xs ++ ys)) → AreRising (asked_in xs)
+    × AreRising (asked_in ys)
 rising_parts [] ys rising = (tt, rising)
-rising_parts (x ∷ xs) ys rising = let more = rising_parts xs ys rising.1 in (((above_parts x.place xs ys rising.0).0, more.0), more.1)
+rising_parts (x ∷ xs) ys rising = let more = rising_parts xs ys rising.1 in
+    (((above_parts x.place xs ys rising.0).0, more.0), more.1)
 
-pub chosen_parts : (allowed : Choice → Type 0) (xs ys : List Step) → Choose allowed (xs ++ ys) → Choose allowed xs × Choose allowed ys
+pub chosen_parts : (allowed : Choice → Type 0) (xs ys : List Step) → ChooseOnly allowed (xs ++ ys)
+    → ChooseOnly allowed xs × ChooseOnly allowed ys
 chosen_parts allowed [] ys all = (tt, all)
 chosen_parts allowed (x ∷ xs) ys all = let more = chosen_parts allowed xs ys all.1 in ((all.0, more.0), more.1)
 
-pub has_parts : (xs ys : List Step) (place : ℕ) → HasRequest (asked_in (xs ++ ys)) place → HasRequest (asked_in xs) place ⊎ HasRequest (asked_in ys) place
+pub has_parts : (xs ys : List Step) (place : ℕ) → HasRequest (asked_in (xs ++ ys)) place
+    → HasRequest (asked_in xs) place ⊎ HasRequest (asked_in ys) place
 has_parts [] ys place has = inr has
 has_parts (x ∷ xs) ys place (inl e) = inl (inl e)
-has_parts (x ∷ xs) ys place (inr h) = elim (has_parts xs ys place h) [ inl left ↦ inl (inr left) | inr right ↦ inr right ]
+has_parts (x ∷ xs) ys place (inr h) = elim (has_parts xs ys place h)
+    [ inl left ↦ inl (inr left) | inr right ↦ inr right ]
 
 -- ---- a run that is cut at a place
 
@@ -73,7 +82,8 @@ pub record IsCut (past : List Entry) (n : ℕ) (steps : List Step) : Type 0 wher
   pub low : AreKnown past n (asked_in front)
   pub high : (place : ℕ) → HasRequest (asked_in back) place → n ≤ place
 
-pub cut : (past : List Entry) (m n : ℕ) (steps : List Step) → AreKnown past m (asked_in steps) → AreRising (asked_in steps) → IsCut past n steps
+pub cut : (past : List Entry) (m n : ℕ) (steps : List Step) → AreKnown past m (asked_in steps)
+    → AreRising (asked_in steps) → IsCut past n steps
 cut past m n [] known rising = record { front = []; back = []; is = refl; low = tt; high = λ place has. absurd has }
 cut past m n (s ∷ steps) known rising =
     elim (cases_lt s.place n) [
@@ -90,7 +100,8 @@ cut past m n (s ∷ steps) known rising =
   where
     from_here : n ≤ s.place → (place : ℕ) → (s.place ≡ place) ⊎ HasRequest (asked_in steps) place → n ≤ place
     from_here le place (inl e) = (let here : s.place ≡ place = e in omega (arith, le, here))
-    from_here le place (inr h) = (let lt : s.place < place = above_has s.place place (asked_in steps) rising.0 h in omega (arith, le, lt))
+    from_here le place (inr h) = (let lt : s.place < place = above_has s.place place (asked_in steps) rising.0 h in
+        omega (arith, le, lt))
 
 -- a run from the request at a place on: it is the first step
 pub record BeginsWith (r : ℕ × Request) (steps : List Step) : Type 0 where

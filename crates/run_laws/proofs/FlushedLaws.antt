@@ -1,4 +1,5 @@
--- A lane that opened a file anew, buffered it, wrote to it and flushed it leaves the bytes, in a run over a file machine.
+-- A lane that opened a file anew, buffered it, wrote to it and flushed it leaves the bytes, in a run over a file
+-- machine.
 use Rattle.std.proofs.Common.{append_assoc, ◌≡◌, ◌≢◌, ◌<◌, ◌+◌, ℕ, true, List, [], ◌∷◌, ◌++◌, Option, Some, None, refl, ap, sym, ◌∙◌, subst, arith}
 use Rattle.std.specs.List.{list_all}
 use Rattle.sftp_model.specs.Slots.{slot_at}
@@ -26,9 +27,9 @@ use Rattle.session_model.specs.declared.event.Event.TheVariants.{End}
 use Rattle.session_model.specs.declared.turn.Turn.{Turn}
 use Rattle.session_model.specs.Calls.{GoesByPlan, Setting, call_at, lane_calls, site_of}
 use Rattle.session_model.specs.Journals.{IsJournal}
-use Rattle.session_model.specs.Readings.{AskedRequest, answer, asked, asked_at, ended, own}
+use Rattle.session_model.specs.Readings.{AskedRequest, answer, count_submitted, asked_at, count_ended, own}
 use Rattle.session_model.specs.Runs.{IsRun}
-use Rattle.session_model.specs.Served.{Serves}
+use Rattle.session_model.specs.Served.{ServesJournal}
 use Rattle.session_model.proofs.CallsSoFar.{calls_so_far}
 use Rattle.session_model.proofs.OverLaws.{runs_are_journals}
 use Rattle.run_laws.specs.CallsAmong.{HasEnded}
@@ -50,9 +51,10 @@ use Rattle.run_laws.proofs.CallRequests.{IsAsked, MayWrite, asked_own, avoids_pl
 use Rattle.run_laws.proofs.CallSites.{answer_since, given_call, journal_at, outcome_at_end, own_since, plain_at, plan_done}
 use Rattle.plan_model.specs.CallPlans.{next}
 
--- Calls of a lane with these numbers open the name's file in a slot to be written anew, buffer it, write bytes to it and
--- flush it. All ended well, and the calls between leave the slot.
-pub record FlushedCalls (s : Setting) (past : List Entry) (name : Name) (lane : ℕ) (n : FlushNumbers) (bytes : List ℕ) : Type 0 where
+-- Calls of a lane with these numbers open the name's file in a slot to be written anew, buffer it, write bytes to it
+-- and flush it. All ended well, and the calls between leave the slot.
+pub record FlushedCalls (s : Setting) (past : List Entry) (name : Name) (lane : ℕ) (n : FlushNumbers) (bytes : List ℕ) :
+    Type 0 where
   pub slot : ℕ
   pub len : ℕ
   pub options : OpenOptions
@@ -80,7 +82,7 @@ pub ended_as : (s : Setting) (past : List Entry) (lane n : ℕ) (o : Outcome) (c
 ended_as s past lane n o c t j p is =
     let d = plan_done s past lane n o c t p is in
     let plans : GoesByPlan s t.before lane c = calls_so_far s t.before lane c (journal_at s past lane n o t j) d.0 in
-    let same : own t.before lane (ended t.before lane) ≡ own past lane n = ap (own t.before lane) t.at
+    let same : own t.before lane (count_ended t.before lane) ≡ own past lane n = ap (own t.before lane) t.at
     ∙ sym (own_since s past lane n n o t j (omega arith)) in (
       record {
         by = answer t.before;
@@ -89,7 +91,8 @@ ended_as s past lane n o c t j p is =
         are = plans.are ∙ same;
         so_far = plans.so_far;
         left = t.site;
-        ends = subst (λ (l : Own). next c (site_of s t.before lane) s.facts l (answer t.before) ≡ Done o t.site) same d.1;
+        ends = subst (λ (l : Own). next c (site_of s t.before lane) s.facts l (answer t.before) ≡ Done o t.site) same
+            d.1;
       },
       refl,
     )
@@ -98,9 +101,11 @@ ended_as s past lane n o c t j p is =
 pub record WrittenThenFlushed (s : Setting) (past : List Entry) (lane n m slot : ℕ) (bytes : List ℕ) : Type 0 where
   pub second : EndsAt s past lane m outcome.Done
   pub first : EndsAt s second.before lane n outcome.Done
-  pub wrote : HasEnded (call.BufWriteAll slot bytes) (site_of s first.before lane) s.facts (own past lane n) (answer past) outcome.Done
+  pub wrote : HasEnded (call.BufWriteAll slot bytes) (site_of s first.before lane) s.facts (own past lane n)
+      (answer past) outcome.Done
   pub same : slot_at (site_of s second.before lane) slot ≡ slot_at wrote.left slot
-  pub flush : HasEnded (call.BufFlush slot) (site_of s second.before lane) s.facts (own past lane m) (answer past) outcome.Done
+  pub flush : HasEnded (call.BufFlush slot) (site_of s second.before lane) s.facts (own past lane m) (answer past)
+      outcome.Done
 
 pub written_then_flushed : (s : Setting) (past : List Entry) (lane n m slot : ℕ) (bytes : List ℕ) → IsJournal s past
     → IsPlain past → n < m → given_call s lane n ≡ Some (call.BufWriteAll slot bytes)
@@ -137,7 +142,8 @@ written_then_flushed s past lane n m slot bytes j p later writes flushes written
     own_same : own second.before lane n ≡ own past lane n
     own_same = sym (own_since s past lane m n outcome.Done second j (omega (arith, later)))
 
-    wrote : HasEnded (call.BufWriteAll slot bytes) (site_of s first.before lane) s.facts (own past lane n) (answer past) outcome.Done
+    wrote : HasEnded (call.BufWriteAll slot bytes) (site_of s first.before lane) s.facts (own past lane n) (answer past)
+        outcome.Done
     wrote =
         record {
           by = wrote_so.0.by;
@@ -168,25 +174,30 @@ first_began s past lane n m slot bytes t =
     before = t.first.before
 
     end : Entry
-    end = entry.Event (End lane (ended before lane) outcome.Done)
+    end = entry.Event (End lane (count_ended before lane) outcome.Done)
 
     last : Entry
-    last = entry.Event (End lane (ended t.second.before lane) outcome.Done)
+    last = entry.Event (End lane (count_ended t.second.before lane) outcome.Done)
 
     whole : (t.second.more ++ last ∷ t.first.more) ++ end ∷ before ≡ past
-    whole = append_assoc t.second.more (last ∷ t.first.more) (end ∷ before) ∙ (ap (λ (l : List Entry). t.second.more ++ last ∷ l) t.first.is ∙ t.second.is)
+    whole = append_assoc t.second.more (last ∷ t.first.more) (end ∷ before)
+        ∙ (ap (λ (l : List Entry). t.second.more ++ last ∷ l) t.first.is ∙ t.second.is)
 
 -- ---- what was opened, written and flushed
 
--- The call's OPEN of the name, the requests of the call that writes, which bear its grant, and what the flush says of them.
-pub record IsFlushed (s : Setting) (past : List Entry) (name : Name) (lane : ℕ) (n : FlushNumbers) (bytes : List ℕ) : Type 0 where
+-- The call's OPEN of the name, the requests of the call that writes, which bear its grant, and what the flush says of
+-- them.
+pub record IsFlushed (s : Setting) (past : List Entry) (name : Name) (lane : ℕ) (n : FlushNumbers) (bytes : List ℕ) :
+    Type 0 where
   pub w : ℕ × Request
   pub opened : LaneOpened s past name lane n.opener n.writer w (own past lane n.writer)
-  pub bears : (place : ℕ) (a : AskedRequest) → is_of_call past (lane, n.writer) place ≡ true → asked_at past place ≡ Some a
+  pub bears : (place : ℕ) (a : AskedRequest) → is_of_call past (lane, n.writer) place ≡ true → asked_at past place
+      ≡ Some a
       → BearsOpen s past w.0 opened.handle place a.request
   pub asked : AreFlushed opened.handle 0 bytes (answer past) (own past lane n.writer)
 
-pub is_flushed : (s : Setting) (past : List Entry) (name : Name) (lane : ℕ) (n : FlushNumbers) (bytes : List ℕ) → IsJournal s past
+pub is_flushed : (s : Setting) (past : List Entry) (name : Name) (lane : ℕ) (n : FlushNumbers) (bytes : List ℕ)
+    → IsJournal s past
     → IsPlain past → list_all (may_hold name) (lane_calls s past lane) ≡ true
     → ((other : ℕ) → other ≢ lane → KeepsOff past name other) → FlushedCalls s past name lane n bytes
     → IsFlushed s past name lane n bytes
@@ -197,9 +208,11 @@ is_flushed s past name lane n bytes j p own_calls others f =
       bears = λ place a mine is. bears place a mine is;
       asked =
           subst (λ (at : ℕ). AreFlushed ba.handle at bytes (answer past) (own past lane n.writer)) ba.start
-          (flushed_asks (answer past) f.slot ba.file ba.buffer bytes (site_of s t2.before lane) (site_of s t3.before lane) s.facts s.facts
+          (flushed_asks (answer past) f.slot ba.file ba.buffer bytes (site_of s t2.before lane)
+          (site_of s t3.before lane) s.facts s.facts
           (own past lane n.writer) (own past lane n.flusher) ba.handle
-          (bear_all past (asked past) lane n.writer ba.handle (own past lane n.writer) (own_listed past lane n.writer).1
+          (bear_all past (count_submitted past) lane n.writer ba.handle (own past lane n.writer)
+          (own_listed past lane n.writer).1
           (λ place has. has_call past lane n.writer place (own past lane n.writer) refl has)
           (λ place a mine is. (bears place a mine is).0))
           ba.there two.wrote two.same two.flush);
@@ -209,16 +222,20 @@ is_flushed s past name lane n bytes j p own_calls others f =
     c2 = call.BufWriteAll f.slot bytes
 
     to_writer : n.opener < n.writer
-    to_writer = let a : n.opener < n.bufferer = f.order.0 in let b : n.bufferer < n.writer = f.order.1 in omega (arith, a, b)
+    to_writer = let a : n.opener < n.bufferer = f.order.0 in let b : n.bufferer < n.writer = f.order.1 in
+        omega (arith, a, b)
 
     to_flusher : n.opener < n.flusher
-    to_flusher = let a : n.opener < n.writer = to_writer in let b : n.writer < n.flusher = f.order.2 in omega (arith, a, b)
+    to_flusher = let a : n.opener < n.writer = to_writer in let b : n.writer < n.flusher = f.order.2 in
+        omega (arith, a, b)
 
     buffered_first : n.bufferer < n.flusher
-    buffered_first = let a : n.bufferer < n.writer = f.order.1 in let b : n.writer < n.flusher = f.order.2 in omega (arith, a, b)
+    buffered_first = let a : n.bufferer < n.writer = f.order.1 in let b : n.writer < n.flusher = f.order.2 in
+        omega (arith, a, b)
 
     two : WrittenThenFlushed s past lane n.writer n.flusher f.slot bytes
-    two = written_then_flushed s past lane n.writer n.flusher f.slot bytes j p f.order.2 f.writes f.flushes f.written f.flushed
+    two = written_then_flushed s past lane n.writer n.flusher f.slot bytes j p f.order.2 f.writes f.flushes f.written
+        f.flushed
         f.leave_written
 
     t3 : EndsAt s past lane n.flusher outcome.Done
@@ -276,7 +293,8 @@ is_flushed s past name lane n bytes j p own_calls others f =
         }
 
     -- a request of the call that writes
-    bears : (place : ℕ) (a : AskedRequest) → is_of_call past (lane, n.writer) place ≡ true → asked_at past place ≡ Some a
+    bears : (place : ℕ) (a : AskedRequest) → is_of_call past (lane, n.writer) place ≡ true → asked_at past place
+        ≡ Some a
         → BearsOpen s past ba.w.0 ba.handle place a.request
     bears place a mine is =
         subst (λ (g : ℕ). BearsOpen s past g ba.handle place a.request) ba.grant
@@ -303,13 +321,15 @@ held_passes s past name lane n place j own_calls mine spares = by_asked (asked_a
 -- ---- what is left
 
 pub flush_left : (s : Setting) (turns : List Turn) (past : List Entry) (config : ServerConfig) (choices : List Choice)
-    (tree left : FileTree) (name : Name) (lane : ℕ) (n : FlushNumbers) (bytes : List ℕ) → IsRun s turns past → IsWellFormed tree
-    → Serves config choices tree past left
+    (tree left : FileTree) (name : Name) (lane : ℕ) (n : FlushNumbers) (bytes : List ℕ) → IsRun s turns past
+    → IsWellFormed tree
+    → ServesJournal config choices tree past left
     → list_all (may_hold name) (lane_calls s past lane) ≡ true → ((other : ℕ) → other ≢ lane → KeepsOff past name other)
     → ((i : ℕ) (c : Call) → n.opener < i → i ≢ n.writer → call_at s past lane i ≡ Some c → MayWrite name c → ⊥)
     → FlushedCalls s past name lane n bytes → HasBytes left name bytes
 flush_left s turns past config choices tree left name lane n bytes run well served own_calls others spares f =
-    opened_left s config choices tree left turns past name lane n.opener n.writer b.w (own past lane n.writer) bytes run served well b.opened
+    opened_left s config choices tree left turns past name lane n.opener n.writer b.w (own past lane n.writer) bytes run
+    served well b.opened
     (λ place i above ne mine. held_passes s past name lane i place j own_calls mine (λ c is. spares i c above ne is))
     (λ place a mine is. (b.bears place a mine is).0)
     (λ place mine. (bears_there s past lane n.writer b.w.0 b.opened.handle b.bears place mine).1) b.asked

@@ -1,5 +1,5 @@
--- Where each request bears the handle of a grant, and none bears it after the grant's CLOSE, the handle has what that grant
--- opened.
+-- Where each request bears the handle of a grant, and none bears it after the grant's CLOSE, the handle has what that
+-- grant opened.
 use Rattle.std.proofs.Common.{◌≡◌, ◌≢◌, ℕ, ◌==◌, true, List, [], ◌∷◌, Option, Some, None, if◌then◌else◌, refl, ap, sym, ◌∙◌, subst, inl, inr}
 use Rattle.std.specs.Prelude.{◌⊎◌}
 use Rattle.std.specs.Str.{bytes_eq}
@@ -11,9 +11,9 @@ use Rattle.sftp_model.specs.declared.request.Request.{Request}
 use Rattle.machine_model.proofs.ChangeLaws.{apply_leaves}
 use Rattle.machine_model.proofs.NameLaws.{handles_tell}
 use Rattle.machine_model.proofs.PairLaws.{found_push_here}
-use Rattle.machine_model.specs.Changes.{Change, ClosesHandle, Created, Granted, MayLead, OpensAsked, Truncated, changed, is_grant}
+use Rattle.machine_model.specs.Changes.{Change, ClosesHandle, Created, Granted, MayLead, OpensAsked, Truncated, tree_after_change, is_grant}
 use Rattle.machine_model.specs.FileTree.{FileTree, opened_at}
-use Rattle.machine_model.specs.Pairs.{Has}
+use Rattle.machine_model.specs.Pairs.{HasEntry}
 use Rattle.machine_model.specs.declared.opened.Held.{Held}
 use Rattle.machine_model.specs.declared.opened.Opened.{Opened}
 use Rattle.plan_model.specs.Moves.{Answers, handle_of}
@@ -38,18 +38,23 @@ AreBorne config answers grant_of kind tree (s ∷ steps) =
     × AreBorne config answers grant_of kind (answer_to config tree s).1 steps
 
 -- of the grants that are still used: each has what it opened, and no two have one handle
-record AreLive (answers : Answers) (grant_of : ℕ → Option ℕ) (kind : ℕ → Option Held) (tree : FileTree) (seen : List ℕ) (steps : List Step) : Type 0 where
-  has : (g : ℕ) → Has seen g → IsUsed grant_of g steps → kind_at (opened_at tree (handle_of (answers g))) ≡ Some (kind g)
-  apart : (a b : ℕ) → Has seen a → Has seen b → IsUsed grant_of a steps → IsUsed grant_of b steps → handle_of (answers a) ≡ handle_of (answers b) → a ≡ b
+record AreLive (answers : Answers) (grant_of : ℕ → Option ℕ) (kind : ℕ → Option Held) (tree : FileTree) (seen : List ℕ)
+    (steps : List Step) : Type 0 where
+  has : (g : ℕ) → HasEntry seen g → IsUsed grant_of g steps → kind_at (opened_at tree (handle_of (answers g)))
+      ≡ Some (kind g)
+  apart : (a b : ℕ) → HasEntry seen a → HasEntry seen b → IsUsed grant_of a steps → IsUsed grant_of b steps
+      → handle_of (answers a) ≡ handle_of (answers b) → a ≡ b
 
 -- a step doesn't close the handle of a grant that is used after it
 keeps_open : (config : ServerConfig) (answers : Answers) (grant_of : ℕ → Option ℕ) (kind : ℕ → Option Held)
     (tree : FileTree) (seen : List ℕ) (s : Step) (steps : List Step)
     → AreLive answers grant_of kind tree seen (s ∷ steps)
-    → UseGrants answers grant_of seen (s ∷ steps) → (g : ℕ) → Has seen g → IsUsed grant_of g steps → ClosesHandle s.request (handle_of (answers g)) → ⊥
+    → UseGrants answers grant_of seen (s ∷ steps) → (g : ℕ) → HasEntry seen g → IsUsed grant_of g steps
+    → ClosesHandle s.request (handle_of (answers g)) → ⊥
 keeps_open config answers grant_of kind tree seen s steps live uses g there used closes =
     let closed = uses.1 (handle_of (answers g)) closes in
-    let same : closed.0 ≡ g = live.apart closed.0 g (uses.0 closed.0 closed.1.0) there (inl closed.1.0) (inr used) closed.1.1.0 in
+    let same : closed.0 ≡ g = live.apart closed.0 g (uses.0 closed.0 closed.1.0) there (inl closed.1.0) (inr used)
+    closed.1.1.0 in
     closed.1.1.1 (subst (λ (w : ℕ). IsUsed grant_of w steps) (sym same) used)
 
 -- the handle of a new grant was not open
@@ -57,12 +62,14 @@ pub new_handle : (config : ServerConfig) (answers : Answers) (tree : FileTree) (
     → AreServed config answers tree (s ∷ steps) → (h : List ℕ) → answers s.place ≡ Some (reply.Handle h)
     → opened_at tree h ≡ None
 new_handle config answers tree s steps served h e =
-    let said : reply.Handle h ≡ (answer_to config tree s).0 = reply_is (answers s.place) (reply.Handle h) (answer_to config tree s).0 e served.1 in
+    let said : reply.Handle h ≡ (answer_to config tree s).0 = reply_is (answers s.place) (reply.Handle h)
+    (answer_to config tree s).0 e served.1 in
     let l = apply_leaves tree config s.request s.choice s.handle in
     let same : h ≡ s.handle = ap handle_in (said ∙ l.named (sym (ap is_handle said))) in
     subst (λ (w : List ℕ). opened_at tree w ≡ None) (sym same) served.0.1
 
-not_none : (tree : FileTree) (h : List ℕ) (k : Option Held) → opened_at tree h ≡ None → kind_at (opened_at tree h) ≡ Some k → ⊥
+not_none : (tree : FileTree) (h : List ℕ) (k : Option Held) → opened_at tree h ≡ None → kind_at (opened_at tree h)
+    ≡ Some k → ⊥
 not_none tree h k e is = (let both : None ≡ Some k = sym (ap kind_at e) ∙ is in cc)
 
 live_on : (config : ServerConfig) (answers : Answers) (grant_of : ℕ → Option ℕ) (kind : ℕ → Option Held)
@@ -72,23 +79,27 @@ live_on : (config : ServerConfig) (answers : Answers) (grant_of : ℕ → Option
     (answer_to config tree s).1 (s.place ∷ seen) steps
 live_on config answers grant_of kind tree seen s steps served uses kinds live = record { has = has; apart = apart }
   where
-    has : (g : ℕ) → (s.place ≡ g) ⊎ Has seen g → IsUsed grant_of g steps
+    has : (g : ℕ) → (s.place ≡ g) ⊎ HasEntry seen g → IsUsed grant_of g steps
         → kind_at (opened_at (answer_to config tree s).1 (handle_of (answers g))) ≡ Some (kind g)
     has g (inl here) used =
         (let new = uses.2 (subst (λ (w : ℕ). IsUsed grant_of w steps) (sym here) used) in
         subst (λ (w : ℕ). kind_at (opened_at (answer_to config tree s).1 (handle_of (answers w))) ≡ Some (kind w)) here
-        (subst (λ (w : List ℕ). kind_at (opened_at (answer_to config tree s).1 w) ≡ Some (kind s.place)) (sym (ap handle_of new.1)) (kinds.0 new.0 new.1)))
+        (subst (λ (w : List ℕ). kind_at (opened_at (answer_to config tree s).1 w) ≡ Some (kind s.place))
+        (sym (ap handle_of new.1)) (kinds.0 new.0 new.1)))
     has g (inr there) used = kind_stays config tree s (handle_of (answers g)) (kind g)
         (keeps_open config answers grant_of kind tree seen s steps live uses g there used) (live.has g there (inr used))
 
-    clash : (a b : ℕ) → s.place ≡ a → Has seen b → IsUsed grant_of a steps → IsUsed grant_of b steps → handle_of (answers a) ≡ handle_of (answers b) → ⊥
+    clash : (a b : ℕ) → s.place ≡ a → HasEntry seen b → IsUsed grant_of a steps → IsUsed grant_of b steps
+        → handle_of (answers a) ≡ handle_of (answers b) → ⊥
     clash a b here there used used' same =
         (let new = uses.2 (subst (λ (w : ℕ). IsUsed grant_of w steps) (sym here) used) in
         let none : opened_at tree new.0 ≡ None = new_handle config answers tree s steps served new.0 new.1 in
-        let is : new.0 ≡ handle_of (answers b) = sym (ap handle_of new.1) ∙ (ap (λ (w : ℕ). handle_of (answers w)) here ∙ same) in
-        not_none tree (handle_of (answers b)) (kind b) (subst (λ (w : List ℕ). opened_at tree w ≡ None) is none) (live.has b there (inr used')))
+        let is : new.0 ≡ handle_of (answers b) = sym (ap handle_of new.1)
+        ∙ (ap (λ (w : ℕ). handle_of (answers w)) here ∙ same) in
+        not_none tree (handle_of (answers b)) (kind b) (subst (λ (w : List ℕ). opened_at tree w ≡ None) is none)
+        (live.has b there (inr used')))
 
-    apart : (a b : ℕ) → (s.place ≡ a) ⊎ Has seen a → (s.place ≡ b) ⊎ Has seen b → IsUsed grant_of a steps
+    apart : (a b : ℕ) → (s.place ≡ a) ⊎ HasEntry seen a → (s.place ≡ b) ⊎ HasEntry seen b → IsUsed grant_of a steps
         → IsUsed grant_of b steps → handle_of (answers a) ≡ handle_of (answers b) → a ≡ b
     apart a b (inl here) (inl here') used used' same = sym here ∙ here'
     apart a b (inl here) (inr there) used used' same = absurd (clash a b here there used used' same)
@@ -109,7 +120,8 @@ borne_by config answers grant_of kind tree seen (s ∷ steps) served uses kinds 
 -- from a tree on which nothing that is used was granted
 pub grants_are_borne : (config : ServerConfig) (answers : Answers) (grant_of : ℕ → Option ℕ) (kind : ℕ → Option Held)
     (tree : FileTree) (steps : List Step) → AreServed config answers tree steps
-    → UseGrants answers grant_of [] steps → AreKinds config answers kind tree steps → AreBorne config answers grant_of kind tree steps
+    → UseGrants answers grant_of [] steps → AreKinds config answers kind tree steps
+    → AreBorne config answers grant_of kind tree steps
 grants_are_borne config answers grant_of kind tree steps served uses kinds =
     borne_by config answers grant_of kind tree [] steps served uses kinds
     (record { has = λ g there used. absurd there; apart = λ a b there there' used used' same. absurd there })
@@ -118,7 +130,7 @@ grants_are_borne config answers grant_of kind tree steps served uses kinds =
 abbrev pub AreKept : Answers → (ℕ → Option ℕ) → List ℕ → List Step → Type 0
 AreKept answers grant_of seen [] = Unit {0}
 AreKept answers grant_of seen (s ∷ steps) =
-    ((g : ℕ) → Has seen g → IsUsed grant_of g steps
+    ((g : ℕ) → HasEntry seen g → IsUsed grant_of g steps
     → (ClosesHandle s.request (handle_of (answers g)) → ⊥) × ((other : ℕ) → grant_of s.place ≡ Some other
     → handle_of (answers other) ≡ handle_of (answers g) → other ≡ g))
     × AreKept answers grant_of (s.place ∷ seen) steps
@@ -158,7 +170,8 @@ kinds_of config tree (s ∷ steps) place = if s.place == place then
     kinds_of config (answer_to config tree s).1 steps place
 
 grant_opens : (tree : FileTree) (r : Request) (handle : List ℕ) (c : Change) → opened_at tree handle ≡ None → is_grant c
-    ≡ true → MayLead tree r c → (o : Opened) × (opened_at (changed tree handle c) handle ≡ Some o) × OpensAsked r o
+    ≡ true → MayLead tree r c → (o : Opened) × (opened_at (tree_after_change tree handle c) handle ≡ Some o)
+    × OpensAsked r o
 grant_opens tree r handle (Granted o) none e may =
     (o, found_push_here bytes_eq tree.handles handle o ((handles_tell handle handle).1 refl) none, may.1)
 grant_opens tree r handle (Truncated file o) none e may =
@@ -190,7 +203,8 @@ kinds_as config answers kind tree (s ∷ steps) same distinct served = (
       let l = apply_leaves tree config s.request s.choice s.handle in
       let here : h ≡ s.handle = ap handle_in (said ∙ l.named (sym (ap is_handle said))) in
       let o = step_opened config tree s served.0.1 (sym (ap is_handle said)) in
-      let first : kind s.place ≡ inside (kind_at (opened_at (answer_to config tree s).1 s.handle)) = same s.place (inl refl) ∙ first_kind s.place in
+      let first : kind s.place ≡ inside (kind_at (opened_at (answer_to config tree s).1 s.handle)) =
+      same s.place (inl refl) ∙ first_kind s.place in
       subst (λ (w : List ℕ). kind_at (opened_at (answer_to config tree s).1 w) ≡ Some (kind s.place)) (sym here)
       (known (opened_at (answer_to config tree s).1 s.handle) o.0 o.1
       ∙ ap (λ (w : Option Held). Some w) (sym first))),

@@ -11,7 +11,7 @@ use Rattle.session_model.specs.declared.entry.Entry.{Entry}
 use Rattle.session_model.specs.declared.turn.Turn.{Turn}
 use Rattle.session_model.specs.Readings.{outcomes_below}
 use Rattle.session_model.specs.Runs.{IsRun}
-use Rattle.session_model.specs.Served.{Serves}
+use Rattle.session_model.specs.Served.{ServesJournal}
 use Rattle.session_model.specs.Settings.{setting_of}
 use Rattle.run_laws.specs.KeepsFiles.{KeepsFiles}
 use Rattle.run_laws.proofs.ListsFlushes.{run_flushes_writes, run_lists_directories}
@@ -20,7 +20,7 @@ use Rattle.run_laws.proofs.ReadsBackLaws.{run_leaves_files, run_reads_back, run_
 pub run_keeps_files : (lanes : List Lane) (options : SftpOptions) (extensions : Extensions) (turns : List Turn)
     (past : List Entry) (config : ServerConfig) (choices : List Choice) (tree left : FileTree)
     → IsRun (setting_of lanes options extensions past) turns past
-    → IsWellFormed tree → Serves config choices tree past left
+    → IsWellFormed tree → ServesJournal config choices tree past left
     → KeepsFiles lanes config choices tree (setting_of lanes options extensions past) past left
     (outcomes_below past (length lanes))
 run_keeps_files lanes options extensions turns past config choices tree left run well served =

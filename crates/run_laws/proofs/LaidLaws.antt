@@ -6,11 +6,11 @@ use Rattle.sftp_model.specs.declared.request.Request.{Request}
 use Rattle.machine_model.specs.FileTree.{FileTree}
 use Rattle.plan_model.specs.Moves.{Own}
 use Rattle.session_model.specs.declared.entry.Entry.{Entry}
-use Rattle.session_model.specs.Readings.{answer, asked, own, sent}
-use Rattle.session_model.specs.Served.{Serves}
+use Rattle.session_model.specs.Readings.{answer, count_submitted, own, count_sent}
+use Rattle.session_model.specs.Served.{ServesJournal}
 use Rattle.run_laws.specs.CallsAmong.{asked_by}
 use Rattle.run_laws.specs.InJournals.{AreBelow}
-use Rattle.run_laws.specs.Steps.{Step, AreAllowed, AreServed, Choose, RunOf, asked_in}
+use Rattle.run_laws.specs.Steps.{Step, AreAllowed, AreServed, ChooseOnly, RunOf, asked_in}
 use Rattle.run_laws.proofs.AmongLaws.{low_known}
 use Rattle.run_laws.proofs.CutLaws.{BeginsWith, IsCut, begins_with, cut, has_parts, known_has, chosen_parts, known_parts, rising_parts}
 use Rattle.run_laws.proofs.OwnLaws.{has_call, own_listed}
@@ -20,26 +20,32 @@ use Rattle.run_laws.proofs.StepLaws.{served_first}
 
 pub below_has : (n place : ℕ) (requests : Own) → AreBelow n requests → HasRequest requests place → place < n
 below_has n place [] below has = absurd has
-below_has n place (r ∷ requests) below (inl e) = (let lt = below.0 in let here : r.0 ≡ place = e in omega (arith, lt, here))
+below_has n place (r ∷ requests) below (inl e) = (let lt = below.0 in let here : r.0 ≡ place = e in
+    omega (arith, lt, here))
 below_has n place (r ∷ requests) below (inr h) = below_has n place requests below.1 h
 
 -- ---- the steps below a place
 
--- the steps of the machine's run that stand below a place: all of the calls' requests there, each with a choice of these
-pub record IsFront (allowed : Choice → Type 0) (config : ServerConfig) (past : List Entry) (n : ℕ) (tree : FileTree) (steps : List Step) : Type 0 where
+-- the steps of the machine's run that stand below a place: all of the calls' requests there, each with a choice of
+-- these
+pub record IsFront (allowed : Choice → Type 0) (config : ServerConfig) (past : List Entry) (n : ℕ) (tree : FileTree)
+    (steps : List Step) : Type 0 where
   pub all : AreAll past n [] (asked_in steps)
-  pub chosen : Choose allowed steps
+  pub chosen : ChooseOnly allowed steps
   pub served : AreServed config (answer past) tree steps
 
 pub front : (allowed : Choice → Type 0) (config : ServerConfig) (choices : List Choice) (first : FileTree)
-    (past : List Entry) (now : FileTree) (n : ℕ) → Serves config choices first past now → AreAllowed allowed choices
-    → n ≤ sent past
+    (past : List Entry) (now : FileTree) (n : ℕ) → ServesJournal config choices first past now
+    → AreAllowed allowed choices
+    → n ≤ count_sent past
     → (steps : List Step) × IsFront allowed config past n first steps
 front allowed config choices first past now n serves among le =
     let run : RunOf config choices first past now = run_of config choices first past now serves in
-    let all : AreAll past (sent past) [] (asked_in run.steps) = subst (AreAll past (sent past) []) (sym run.asks) (all_sent past) in
-    let c : IsCut past n run.steps = cut past (sent past) n run.steps all.known all.rising in
-    let here : AreAll past (sent past) [] (asked_in (c.front ++ c.back)) = subst (λ (l : List Step). AreAll past (sent past) [] (asked_in l)) c.is all in (
+    let all : AreAll past (count_sent past) [] (asked_in run.steps) =
+    subst (AreAll past (count_sent past) []) (sym run.asks) (all_sent past) in
+    let c : IsCut past n run.steps = cut past (count_sent past) n run.steps all.known all.rising in
+    let here : AreAll past (count_sent past) [] (asked_in (c.front ++ c.back)) =
+    subst (λ (l : List Step). AreAll past (count_sent past) [] (asked_in l)) c.is all in (
       c.front,
       record {
         all = record {
@@ -53,8 +59,10 @@ front allowed config choices first past now n serves among le =
             ]
           ];
         };
-        chosen = (chosen_parts allowed c.front c.back (subst (Choose allowed) c.is (run_chosen allowed config choices first past now serves among))).0;
-        served = served_first config (answer past) first c.front c.back (subst (AreServed config (answer past) first) c.is run.served);
+        chosen = (chosen_parts allowed c.front c.back (subst (ChooseOnly allowed) c.is
+            (run_chosen allowed config choices first past now serves among))).0;
+        served = served_first config (answer past) first c.front c.back
+            (subst (AreServed config (answer past) first) c.is run.served);
       },
     )
 
@@ -87,9 +95,12 @@ pub lay : (past : List Entry) (n : ℕ) (r : ℕ × Request) (steps : List Step)
     → AreRising (asked_in steps) → IsAt past r → HasRequest (asked_in steps) r.0 → IsLaid r steps
 lay past n r steps known rising at has =
     let c : IsCut past r.0 steps = cut past n r.0 steps known rising in
-    let known_all : AreKnown past n (asked_in (c.front ++ c.back)) = subst (λ (l : List Step). AreKnown past n (asked_in l)) c.is known in
-    let rising_all : AreRising (asked_in (c.front ++ c.back)) = subst (λ (l : List Step). AreRising (asked_in l)) c.is rising in
-    let in_back : HasRequest (asked_in c.back) r.0 = elim (has_parts c.front c.back r.0 (subst (λ (l : List Step). HasRequest (asked_in l) r.0) c.is has)) [
+    let known_all : AreKnown past n (asked_in (c.front ++ c.back)) =
+    subst (λ (l : List Step). AreKnown past n (asked_in l)) c.is known in
+    let rising_all : AreRising (asked_in (c.front ++ c.back)) =
+    subst (λ (l : List Step). AreRising (asked_in l)) c.is rising in
+    let in_back : HasRequest (asked_in c.back) r.0 = elim (has_parts c.front c.back r.0
+    (subst (λ (l : List Step). HasRequest (asked_in l) r.0) c.is has)) [
       | inl low ↦ absurd (let lt : r.0 < r.0 = known_has past r.0 r.0 (asked_in c.front) c.low low in omega (arith, lt))
       | inr there ↦ there
     ] in
@@ -98,16 +109,18 @@ lay past n r steps known rising at has =
     laid_by r steps c.front c.back b.rest b.first c.is b.is b.asks
 
 -- the first request of a call
-pub own_at : (past : List Entry) (lane c : ℕ) (first : ℕ × Request) (later : Own) → own past lane c ≡ first ∷ later → IsAt past first
-own_at past lane c first later is = let known : AreKnown past (asked past) (first ∷ later) =
-    subst (AreKnown past (asked past)) is (own_listed past lane c).1 in known.0.1
+pub own_at : (past : List Entry) (lane c : ℕ) (first : ℕ × Request) (later : Own) → own past lane c ≡ first ∷ later
+    → IsAt past first
+own_at past lane c first later is = let known : AreKnown past (count_submitted past) (first ∷ later) =
+    subst (AreKnown past (count_submitted past)) is (own_listed past lane c).1 in known.0.1
 
 pub lay_call : (allowed : Choice → Type 0) (config : ServerConfig) (past : List Entry) (n lane c : ℕ) (tree : FileTree)
     (first : ℕ × Request) (later : Own) (steps : List Step) → IsFront allowed config past n tree steps → own past lane c
     ≡ first ∷ later → first.0 < n → IsLaid first steps
 lay_call allowed config past n lane c tree first later steps f is lt =
     lay past n first steps f.all.known f.all.rising (own_at past lane c first later is)
-    (elim (f.all.complete first.0 lane c lt (has_call past lane c first.0 (first ∷ later) is (inl refl))) [ inl seen ↦ absurd seen | inr has ↦ has ])
+    (elim (f.all.complete first.0 lane c lt (has_call past lane c first.0 (first ∷ later) is (inl refl)))
+    [ inl seen ↦ absurd seen | inr has ↦ has ])
 
 -- and the first request of a later one
 pub lay_rest : (allowed : Choice → Type 0) (config : ServerConfig) (past : List Entry) (n lane c : ℕ) (tree : FileTree)

@@ -18,8 +18,8 @@ use Rattle.plan_model.specs.PathPlans.{from_directory}
 use Rattle.session_model.specs.declared.entry.Entry.{Entry}
 use Rattle.session_model.specs.Calls.{Setting}
 use Rattle.session_model.specs.Journals.{IsJournal}
-use Rattle.session_model.specs.Readings.{answer, sent}
-use Rattle.session_model.specs.Served.{Serves}
+use Rattle.session_model.specs.Readings.{answer, count_sent}
+use Rattle.session_model.specs.Served.{ServesJournal}
 use Rattle.run_laws.specs.CallsAmong.{GivesContent, GivesUnless, HasEnded, HasNoFile, IsRefusedBy, refusal_of}
 use Rattle.run_laws.specs.DeferredWrites.{place_behind}
 use Rattle.run_laws.specs.InJournals.{AreBelow, LaneFirst, LaneInTurn}
@@ -33,10 +33,11 @@ use Rattle.run_laws.proofs.LaneLaws.{lane_first, lane_in_turn}
 pub lane_back_unless : (allowed : Choice → Type 0) (s : Setting) (config : ServerConfig) (choices : List Choice)
     (first now : FileTree) (past : List Entry) (name : Name) (lane writer reader : ℕ) (w r : ℕ × Request)
     (written read : Own)
-    (write_path read_path bytes : List ℕ) (bound : ℕ) (write_site read_site : Site) (write_facts read_facts : Facts) (ended : Outcome)
-    → ((c : Choice) → allowed c → FeignsNoEnd c) → IsJournal s past → Serves config choices first past now
+    (write_path read_path bytes : List ℕ) (bound : ℕ) (write_site read_site : Site) (write_facts read_facts : Facts)
+    (ended : Outcome)
+    → ((c : Choice) → allowed c → FeignsNoEnd c) → IsJournal s past → ServesJournal config choices first past now
     → AreAllowed allowed choices → IsWellFormed first → LaneInTurn s past name lane writer w written reader r read
-    → AreBelow (sent past) (r ∷ read)
+    → AreBelow (count_sent past) (r ∷ read)
     → components (from_directory write_site write_path) ≡ name
     → HasEnded (call.FsWrite write_path bytes) write_site write_facts (w ∷ written) (answer past) outcome.Done
     → components (from_directory read_site read_path) ≡ name → 1 ≤ read_facts.read_len
@@ -45,7 +46,8 @@ pub lane_back_unless : (allowed : Choice → Type 0) (s : Setting) (config : Ser
 lane_back_unless allowed s config choices first now past name lane writer reader w r written read write_path read_path
     bytes bound write_site read_site write_facts read_facts ended honest j serves among well_formed t were_sent denotes
     wrote denotes' one did =
-    back_unless allowed s config choices first now past name (place_behind r read) (lane, writer) (lane, reader) w r written
+    back_unless allowed s config choices first now past name (place_behind r read) (lane, writer) (lane, reader) w r
+    written
     read write_path read_path bytes bound write_site read_site write_facts read_facts ended honest j serves among
     well_formed
     (lane_in_turn s past name lane writer w written reader r read j t were_sent) denotes wrote denotes' one did
@@ -54,28 +56,30 @@ pub lane_reads_unless : (allowed : Choice → Type 0) (s : Setting) (config : Se
     (first now : FileTree) (past : List Entry) (name : Name) (lane reader : ℕ) (r : ℕ × Request) (read : Own)
     (path bytes : List ℕ) (bound : ℕ)
     (site : Site) (facts : Facts) (ended : Outcome) → ((c : Choice) → allowed c → FeignsNoEnd c) → IsJournal s past
-    → Serves config choices first past now → AreAllowed allowed choices → IsWellFormed first
-    → HasBytes first name bytes → LaneFirst s past name lane reader r read → AreBelow (sent past) (r ∷ read)
+    → ServesJournal config choices first past now → AreAllowed allowed choices → IsWellFormed first
+    → HasBytes first name bytes → LaneFirst s past name lane reader r read → AreBelow (count_sent past) (r ∷ read)
     → components (from_directory site path) ≡ name → 1 ≤ facts.read_len
     → HasEnded (call.FsRead path bound) site facts (r ∷ read) (answer past) ended → GivesUnless allowed ended bytes
 lane_reads_unless allowed s config choices first now past name lane reader r read path bytes bound site facts ended
     honest j serves among well_formed has t were_sent denotes one did =
-    first_read_unless allowed s config choices first now past name (place_behind r read) (lane, reader) r read path bytes
+    first_read_unless allowed s config choices first now past name (place_behind r read) (lane, reader) r read path
+    bytes
     bound site facts ended honest j serves among well_formed has
     (lane_first s past name lane reader r read j t were_sent) denotes one did
 
 pub lane_refused_unless : (allowed : Choice → Type 0) (s : Setting) (config : ServerConfig) (choices : List Choice)
     (first now : FileTree) (past : List Entry) (name : Name) (lane reader : ℕ) (r : ℕ × Request) (read : Own)
     (path : List ℕ) (bound : ℕ)
-    (site : Site) (facts : Facts) (ended : Outcome) → IsJournal s past → Serves config choices first past now
+    (site : Site) (facts : Facts) (ended : Outcome) → IsJournal s past → ServesJournal config choices first past now
     → AreAllowed allowed choices → IsWellFormed first → HasNoFile (node_at first name)
     → LaneFirst s past name lane reader r read
-    → AreBelow (sent past) (r ∷ read) → components (from_directory site path) ≡ name → 1 ≤ facts.read_len
+    → AreBelow (count_sent past) (r ∷ read) → components (from_directory site path) ≡ name → 1 ≤ facts.read_len
     → HasEnded (call.FsRead path bound) site facts (r ∷ read) (answer past) ended
     → (ended ≡ outcome.Refused (error.SftpError (refusal_of (node_at first name)) [] [])) ⊎ IsRefusedBy allowed ended
 lane_refused_unless allowed s config choices first now past name lane reader r read path bound site facts ended j serves
     among well_formed has t were_sent denotes one did =
-    first_refused_unless allowed s config choices first now past name (place_behind r read) (lane, reader) r read path bound
+    first_refused_unless allowed s config choices first now past name (place_behind r read) (lane, reader) r read path
+    bound
     site facts ended j serves among well_formed has (lane_first s past name lane reader r read j t were_sent)
     denotes one did
 
@@ -83,39 +87,46 @@ lane_refused_unless allowed s config choices first now past name lane reader r r
 
 pub lane_back : (s : Setting) (config : ServerConfig) (choices : List Choice) (first now : FileTree) (past : List Entry)
     (name : Name) (lane writer reader : ℕ) (w r : ℕ × Request) (written read : Own)
-    (write_path read_path bytes : List ℕ) (bound : ℕ) (write_site read_site : Site) (write_facts read_facts : Facts) (ended : Outcome)
-    → IsJournal s past → Serves config choices first past now → RefuseNone choices → IsWellFormed first
-    → LaneInTurn s past name lane writer w written reader r read → AreBelow (sent past) (r ∷ read)
+    (write_path read_path bytes : List ℕ) (bound : ℕ) (write_site read_site : Site) (write_facts read_facts : Facts)
+    (ended : Outcome)
+    → IsJournal s past → ServesJournal config choices first past now → RefuseNone choices → IsWellFormed first
+    → LaneInTurn s past name lane writer w written reader r read → AreBelow (count_sent past) (r ∷ read)
     → components (from_directory write_site write_path) ≡ name
     → HasEnded (call.FsWrite write_path bytes) write_site write_facts (w ∷ written) (answer past) outcome.Done
     → components (from_directory read_site read_path) ≡ name → 1 ≤ read_facts.read_len
-    → HasEnded (call.FsRead read_path bound) read_site read_facts (r ∷ read) (answer past) ended → GivesContent ended bytes
+    → HasEnded (call.FsRead read_path bound) read_site read_facts (r ∷ read) (answer past) ended
+    → GivesContent ended bytes
 lane_back s config choices first now past name lane writer reader w r written read write_path read_path bytes bound
     write_site read_site write_facts read_facts ended j serves none well_formed t were_sent denotes wrote denotes' one
     did =
-    back s config choices first now past name (place_behind r read) (lane, writer) (lane, reader) w r written read write_path
+    back s config choices first now past name (place_behind r read) (lane, writer) (lane, reader) w r written read
+    write_path
     read_path bytes bound write_site read_site write_facts read_facts ended j serves none well_formed
     (lane_in_turn s past name lane writer w written reader r read j t were_sent) denotes wrote denotes' one did
 
 pub lane_reads : (s : Setting) (config : ServerConfig) (choices : List Choice) (first now : FileTree)
     (past : List Entry) (name : Name) (lane reader : ℕ) (r : ℕ × Request) (read : Own) (path bytes : List ℕ) (bound : ℕ)
-    (site : Site) (facts : Facts) (ended : Outcome) → IsJournal s past → Serves config choices first past now
+    (site : Site) (facts : Facts) (ended : Outcome) → IsJournal s past → ServesJournal config choices first past now
     → RefuseNone choices → IsWellFormed first → HasBytes first name bytes → LaneFirst s past name lane reader r read
-    → AreBelow (sent past) (r ∷ read)
+    → AreBelow (count_sent past) (r ∷ read)
     → components (from_directory site path) ≡ name → 1 ≤ facts.read_len
     → HasEnded (call.FsRead path bound) site facts (r ∷ read) (answer past) ended → GivesContent ended bytes
-lane_reads s config choices first now past name lane reader r read path bytes bound site facts ended j serves none well_formed has t were_sent denotes one did =
-    first_read s config choices first now past name (place_behind r read) (lane, reader) r read path bytes bound site facts
+lane_reads s config choices first now past name lane reader r read path bytes bound site facts ended j serves none
+    well_formed has t were_sent denotes one did =
+    first_read s config choices first now past name (place_behind r read) (lane, reader) r read path bytes bound site
+    facts
     ended j serves none well_formed has (lane_first s past name lane reader r read j t were_sent) denotes one did
 
 pub lane_refused : (s : Setting) (config : ServerConfig) (choices : List Choice) (first now : FileTree)
     (past : List Entry) (name : Name) (lane reader : ℕ) (r : ℕ × Request) (read : Own) (path : List ℕ) (bound : ℕ)
-    (site : Site) (facts : Facts) (ended : Outcome) → IsJournal s past → Serves config choices first past now
+    (site : Site) (facts : Facts) (ended : Outcome) → IsJournal s past → ServesJournal config choices first past now
     → RefuseNone choices → IsWellFormed first → HasNoFile (node_at first name)
     → LaneFirst s past name lane reader r read
-    → AreBelow (sent past) (r ∷ read) → components (from_directory site path) ≡ name → 1 ≤ facts.read_len
+    → AreBelow (count_sent past) (r ∷ read) → components (from_directory site path) ≡ name → 1 ≤ facts.read_len
     → HasEnded (call.FsRead path bound) site facts (r ∷ read) (answer past) ended
     → ended ≡ outcome.Refused (error.SftpError (refusal_of (node_at first name)) [] [])
-lane_refused s config choices first now past name lane reader r read path bound site facts ended j serves none well_formed has t were_sent denotes one did =
-    first_refused s config choices first now past name (place_behind r read) (lane, reader) r read path bound site facts ended
+lane_refused s config choices first now past name lane reader r read path bound site facts ended j serves none
+    well_formed has t were_sent denotes one did =
+    first_refused s config choices first now past name (place_behind r read) (lane, reader) r read path bound site facts
+    ended
     j serves none well_formed has (lane_first s past name lane reader r read j t were_sent) denotes one did

@@ -20,9 +20,9 @@ use Rattle.session_model.specs.declared.turn.Turn.{Turn}
 use Rattle.session_model.specs.Calls.{Setting}
 use Rattle.session_model.specs.Grants.{is_asked_by}
 use Rattle.session_model.specs.Journals.{IsJournal}
-use Rattle.session_model.specs.Readings.{answer, asked_at, sent}
+use Rattle.session_model.specs.Readings.{answer, asked_at, count_sent}
 use Rattle.session_model.specs.Runs.{IsRun}
-use Rattle.session_model.specs.Served.{Serves}
+use Rattle.session_model.specs.Served.{ServesJournal}
 use Rattle.session_model.proofs.OverLaws.{runs_are_journals}
 use Rattle.session_model.proofs.RequestLaws.{sent_asked}
 use Rattle.run_laws.specs.Bearing.{grant_at}
@@ -47,15 +47,18 @@ use Rattle.run_laws.proofs.WholeRunSent.{whole_run_sent}
 
 -- ---- written
 
--- A lane to whom a name is wrote its file as a whole and ended well, and no later call of it writes the file: the bytes are left.
+-- A lane to whom a name is wrote its file as a whole and ended well, and no later call of it writes the file: the bytes
+-- are left.
 pub write_left : (s : Setting) (config : ServerConfig) (choices : List Choice) (first now : FileTree)
     (turns : List Turn) (past : List Entry) (name : Name) (lane writer : ℕ) (w : ℕ × Request) (written : Own)
     (path bytes : List ℕ) (site : Site)
-    (facts : Facts) → IsRun s turns past → Serves config choices first past now → IsWellFormed first → LaneLast s past name lane writer w written
+    (facts : Facts) → IsRun s turns past → ServesJournal config choices first past now → IsWellFormed first
+    → LaneLast s past name lane writer w written
     → components (from_directory site path) ≡ name → HasEnded (call.FsWrite path bytes) site facts (w ∷ written)
     (answer past) outcome.Done → HasBytes now name bytes
-write_left s config choices first now turns past name lane writer w written path bytes site facts run serves well_formed t denotes wrote =
-    by_laid (lay_call IsAnyChoice config past (sent past) lane writer first w written r.steps f t.asks until.0)
+write_left s config choices first now turns past name lane writer w written path bytes site facts run serves well_formed
+    t denotes wrote =
+    by_laid (lay_call IsAnyChoice config past (count_sent past) lane writer first w written r.steps f t.asks until.0)
   where
     j : IsJournal s past
     j = runs_are_journals s turns past run
@@ -63,16 +66,16 @@ write_left s config choices first now turns past name lane writer w written path
     r : RunOf config choices first past now
     r = run_of config choices first past now serves
 
-    f : IsFront IsAnyChoice config past (sent past) first r.steps
+    f : IsFront IsAnyChoice config past (count_sent past) first r.steps
     f = record {
-      all = subst (AreAll past (sent past) []) (sym r.asks) (all_sent past);
+      all = subst (AreAll past (count_sent past) []) (sym r.asks) (all_sent past);
       chosen =
           run_chosen IsAnyChoice config choices first past now serves (any_allowed choices);
       served = r.served;
     }
 
-    until : AreBelow (sent past) (w ∷ written)
-    until = subst (AreBelow (sent past)) t.asks (whole_run_sent s turns past lane writer run)
+    until : AreBelow (count_sent past) (w ∷ written)
+    until = subst (AreBelow (count_sent past)) t.asks (whole_run_sent s turns past lane writer run)
 
     writes : Brings past lane writer w written
     writes = record {
@@ -107,36 +110,41 @@ write_left s config choices first now turns past name lane writer w written path
         passes_by s past name grant_of x j at (other_with past lane writer x.place w.0 (grant_at s past) out)
         (place_passes s past name lane x.place j t.lanes (λ c mine. within x.place c above out mine))
 
-    by_steps : (before rest : List Step) (step : Step) → IsFront IsAnyChoice config past (sent past) first
+    by_steps : (before rest : List Step) (step : Step) → IsFront IsAnyChoice config past (count_sent past) first
         (before ++ step ∷ rest) → asked_by step ≡ w → HasBytes (after config first (before ++ step ∷ rest)) name bytes
     by_steps before rest step g is =
         let whole : List Step = before ++ step ∷ rest in
-        let known = known_parts past (sent past) before (step ∷ rest) g.all.known in
+        let known = known_parts past (count_sent past) before (step ∷ rest) g.all.known in
         let on : IsCallOn (answer past) grant_of (is_elsewhere past name) name written step rest =
-        call_on past (sent past) (sent past) grant_of (is_elsewhere past name) name lane writer w written before rest [] step
-        (subst (λ (l : List Step). AreAll past (sent past) [] (asked_in (before ++ step ∷ l))) (sym (append-nil rest)) g.all) t.asks is (omega arith) known.1.1
-        (λ place h. below_has (sent past) place written until.1 h) (λ place h. absurd h)
+        call_on past (count_sent past) (count_sent past) grant_of (is_elsewhere past name) name lane writer w written
+        before rest [] step
+        (subst (λ (l : List Step). AreAll past (count_sent past) [] (asked_in (before ++ step ∷ l)))
+        (sym (append-nil rest)) g.all) t.asks is (omega arith) known.1.1
+        (λ place h. below_has (count_sent past) place written until.1 h) (λ place h. absurd h)
         (λ place h. own_with past lane writer place w written (grant_at s past) t.asks h)
         (λ x at above lt out. passes x at above (not_own past lane writer x.place w written t.asks above out))
         in
         let run_is : IsRunOn config (answer past) grant_of (is_elsewhere past name) name first whole =
-        run_on s config past name (sent past) grant_of first whole j (sent_asked past) well g.all g.served (lane_comes s past name lane (sent past) j t.lanes)
+        run_on s config past name (count_sent past) grant_of first whole j (sent_asked past) well g.all g.served
+        (lane_comes s past name lane (count_sent past) j t.lanes)
         in
         write_stays config (answer past) grant_of (is_elsewhere past name) name first before rest step path bytes site
         facts written well_formed run_is denotes on
-        (subst (λ (p : ℕ × Request). HasEnded (call.FsWrite path bytes) site facts (p ∷ written) (answer past) outcome.Done) (sym is) wrote)
+        (subst (λ (p : ℕ × Request). HasEnded (call.FsWrite path bytes) site facts (p ∷ written) (answer past)
+        outcome.Done) (sym is) wrote)
 
     by_laid : IsLaid w r.steps → HasBytes now name bytes
     by_laid l =
         subst (λ (tree : FileTree). HasBytes tree name bytes) (sym (r.leaves ∙ ap (after config first) l.is))
-        (by_steps l.before l.rest l.step (front_as IsAnyChoice config past (sent past) first r.steps (l.before ++ l.step ∷ l.rest) l.is f) l.asks)
+        (by_steps l.before l.rest l.step (front_as IsAnyChoice config past (count_sent past) first r.steps
+        (l.before ++ l.step ∷ l.rest) l.is f) l.asks)
 
 -- ---- never written
 
 -- A lane to whom a name is never writes its file: the name has what it had at first.
 pub never_left : (s : Setting) (config : ServerConfig) (choices : List Choice) (first now : FileTree)
     (turns : List Turn) (past : List Entry) (name : Name) (lane : ℕ) → IsRun s turns past
-    → Serves config choices first past now
+    → ServesJournal config choices first past now
     → IsWellFormed first → LaneNever s past name lane → IsUntouched first now name
 never_left s config choices first now turns past name lane run serves well_formed t =
     subst (λ (tree : FileTree). IsUntouched first tree name) (sym r.leaves) (record { node = stays.0; bytes = stays.1 })
@@ -147,16 +155,19 @@ never_left s config choices first now turns past name lane run serves well_forme
     r : RunOf config choices first past now
     r = run_of config choices first past now serves
 
-    known : AreKnown past (sent past) (asked_in r.steps)
-    known = AreAll.known (subst (AreAll past (sent past) []) (sym r.asks) (all_sent past))
+    known : AreKnown past (count_sent past) (asked_in r.steps)
+    known = AreAll.known (subst (AreAll past (count_sent past) []) (sym r.asks) (all_sent past))
 
     run_is : IsRunOn config (answer past) (grant_at s past) (is_elsewhere past name) name first r.steps
-    run_is = served_run_on s config choices first past now name r j (lane_comes s past name lane (sent past) j t.lanes)
+    run_is = served_run_on s config choices first past now name r j
+        (lane_comes s past name lane (count_sent past) j t.lanes)
 
     pass : AllPassBy (answer past) (grant_at s past) (is_elsewhere past name) name r.steps
-    pass = all_pass past (sent past) (grant_at s past) (is_elsewhere past name) name r.steps known
-        (λ x at lt. passes_by s past name (grant_at s past) x j at refl (place_passes s past name lane x.place j t.lanes (λ c mine. t.passes x.place c mine)))
+    pass = all_pass past (count_sent past) (grant_at s past) (is_elsewhere past name) name r.steps known
+        (λ x at lt. passes_by s past name (grant_at s past) x j at refl
+        (place_passes s past name lane x.place j t.lanes (λ c mine. t.passes x.place c mine)))
 
     stays : (node_at (after config first r.steps) name ≡ node_at first name)
         × ((bytes : List ℕ) → HasBytes first name bytes → HasBytes (after config first r.steps) name bytes)
-    stays = name_stays config (answer past) (grant_at s past) (is_elsewhere past name) name first r.steps well_formed run_is pass
+    stays = name_stays config (answer past) (grant_at s past) (is_elsewhere past name) name first r.steps well_formed
+        run_is pass

@@ -1,77 +1,77 @@
 pub mod Alike
-pub mod AloneLaws
+mod AloneLaws
 pub mod AmongLaws
-pub mod AnewBack
-pub mod AnewLaws
-pub mod AnewRuns
+mod AnewBack
+mod AnewLaws
+mod AnewRuns
 pub mod AskedInOrder
 pub mod Back
 pub mod BackLaws
-pub mod BearingLaws
-pub mod BetweenLaws
-pub mod BufferLaws
-pub mod BufferStays
-pub mod BufferedMoves
-pub mod BufferedBears
-pub mod BufferedSites
+mod BearingLaws
+mod BetweenLaws
+mod BufferLaws
+mod BufferStays
+mod BufferedMoves
+mod BufferedBears
+mod BufferedSites
 pub mod CallEnds
-pub mod PartMoves
-pub mod CallMoves
+mod PartMoves
+mod CallMoves
 pub mod CallRequests
-pub mod CallSites
+mod CallSites
 pub mod CutLaws
-pub mod DeferredLaws
-pub mod FirstLaws
-pub mod Fixing
-pub mod FlushedLaws
-pub mod FlushedReads
+mod DeferredLaws
+mod FirstLaws
+mod Fixing
+mod FlushedLaws
+mod FlushedReads
 pub mod GrantAtLaws
-pub mod GrantLaws
-pub mod HandleLaws
+mod GrantLaws
+mod HandleLaws
 pub mod JournalCalls
 pub mod KeepsFilesLaws
 pub mod LaidLaws
-pub mod LaneBackLaws
+mod LaneBackLaws
 pub mod LaneCalls
-pub mod LaneDirectories
+mod LaneDirectories
 pub mod LaneLaws
-pub mod LeftLaws
+mod LeftLaws
 pub mod Lines
-pub mod ListLaws
-pub mod ListedLaws
-pub mod ListsFlushes
+mod ListLaws
+mod ListedLaws
+mod ListsFlushes
 pub mod MoveWords
 pub mod NamedLaws
-pub mod NodeLaws
+mod NodeLaws
 pub mod OffRequests
 pub mod OneText
 pub mod OpenLaws
-pub mod OpenedLaws
+mod OpenedLaws
 pub mod OwnLaws
-pub mod Parts
-pub mod PassingLaws
-pub mod PathLaws
+mod Parts
+mod PassingLaws
+mod PathLaws
 pub mod PieceLaws
 pub mod Placed
 pub mod PlainRuns
-pub mod PutLaws
+mod PutLaws
 pub mod ReadLaws
 pub mod ReadsBackLaws
 pub mod RoundTripLaws
-pub mod RunBackLaws
+mod RunBackLaws
 pub mod RunLaws
 pub mod SentLaws
 pub mod ServedSteps
 pub mod StayLaws
 pub mod StepLaws
-pub mod Told
-pub mod TreeAtLaws
+mod Told
+mod TreeAtLaws
 pub mod UseLaws
 pub mod UsedLaws
-pub mod WholeMoves
+mod WholeMoves
 pub mod WholeReadLaws
 pub mod WholeRunSent
 pub mod WholeWriteLaws
-pub mod WindowPieces
+mod WindowPieces
 pub mod WindowReads
 pub mod WriteLaws

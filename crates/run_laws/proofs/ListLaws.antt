@@ -55,18 +55,18 @@ use Rattle.machine_model.proofs.ListingLaws.{lists_once}
 use Rattle.machine_model.proofs.NameLaws.{handles_tell}
 use Rattle.machine_model.proofs.PairLaws.{found_push_here}
 use Rattle.machine_model.specs.Components.{Name, components}
-use Rattle.machine_model.specs.FileTree.{FileTree, found, node_at, opened_at}
-use Rattle.machine_model.specs.HandleRequests.{Answer, capped}
+use Rattle.machine_model.specs.FileTree.{FileTree, value_at_key, node_at, opened_at}
+use Rattle.machine_model.specs.HandleRequests.{Answer, capped_at}
 use Rattle.machine_model.specs.Limits.{MAX_NAME_ENTRIES}
 use Rattle.machine_model.specs.NameRequests.{after_opendir, after_readdir, entries_at}
-use Rattle.machine_model.specs.TreeAnswers.{answered, apply}
+use Rattle.machine_model.specs.TreeAnswers.{tree_answer, apply}
 use Rattle.machine_model.specs.Trees.{IsTree, ListOnce, has_filename}
 use Rattle.machine_model.specs.declared.node.Node.{Node}
 use Rattle.machine_model.specs.declared.node.Node.TheVariants as node
 use Rattle.machine_model.specs.declared.opened.Opened.TheVariants as opened
 use Rattle.plan_model.specs.declared.call.Call.TheVariants as call
 use Rattle.sftp_model.specs.Frames.{is_too_long}
-use Rattle.plan_model.specs.Moves.{Answers, Own, handle_of, on_handle, once_answered, refused}
+use Rattle.plan_model.specs.Moves.{Answers, Own, handle_of, on_handle, once_answered, refusal_move}
 use Rattle.plan_model.specs.PathPlans.{from_directory}
 use Rattle.plan_model.specs.WholePlans.{entries_next, list_next, on_names}
 use Rattle.session_model.specs.Served.{IsReply}
@@ -83,7 +83,7 @@ use Rattle.run_laws.proofs.WriteLaws.{answers_as}
 
 answers_readdir : (tree : FileTree) (config : ServerConfig) (h : List ℕ) (cap : ℕ) (handle : List ℕ)
     (entries : List NameEntry) → opened_at tree h ≡ Some (opened.Directory entries)
-    → answered tree config (request.Readdir h) cap handle ≡ after_readdir tree cap h (Some entries)
+    → tree_answer tree config (request.Readdir h) cap handle ≡ after_readdir tree cap h (Some entries)
 answers_readdir tree config h cap handle entries e = rw e refl
 
 -- what is left of the entries after a READDIR, and what it said
@@ -92,21 +92,22 @@ record Gives (h : List ℕ) (entries : List NameEntry) (refuse : ℕ) (x : Answe
   stands : opened_at x.1 h ≡ Some (opened.Directory left)
   said :
       ((x.0 ≡ reply.Status SSH_FX_EOF [] []) × (entries ≡ []))
-      ⊎ (((first : NameEntry) × (given : List NameEntry) × (x.0 ≡ reply.Names (first ∷ given)) × (entries ≡ (first ∷ given) ++ left))
+      ⊎ (((first : NameEntry) × (given : List NameEntry) × (x.0 ≡ reply.Names (first ∷ given))
+      × (entries ≡ (first ∷ given) ++ left))
       ⊎ (x.0 ≡ reply.Status refuse [] []))
 
 take_first : (n : ℕ) (x : NameEntry) (xs : List NameEntry) → 0 < n → take n (x ∷ xs) ≡ x ∷ take (n - 1) xs
 take_first zero x xs lt = absurd (omega (arith, lt))
 take_first (suc n) x xs lt = (let same : n ≡ suc n - 1 = omega arith in ap (λ (k : ℕ). x ∷ take k xs) same)
 
-some_given : (cap : ℕ) → 0 < capped cap MAX_NAME_ENTRIES
+some_given : (cap : ℕ) → 0 < capped_at cap MAX_NAME_ENTRIES
 some_given cap = grind (arith, nat_tests)
 
 gives : (tree : FileTree) (cap refuse : ℕ) (h : List ℕ) (entries : List NameEntry) → opened_at tree h
     ≡ Some (opened.Directory entries) → Gives h entries refuse (after_readdir tree cap h (Some entries))
 gives tree cap refuse h [] e = record { left = []; stands = e; said = inl (refl, refl) }
 gives tree cap refuse h (first ∷ entries) e =
-    let n : ℕ = capped cap MAX_NAME_ENTRIES in
+    let n : ℕ = capped_at cap MAX_NAME_ENTRIES in
     let front : take n (first ∷ entries) ≡ first ∷ take (n - 1) entries = take_first n first entries (some_given cap) in
     record {
       left = drop n (first ∷ entries);
@@ -144,19 +145,22 @@ NamesAre Claim (outcome.Names names) = Claim names
 NamesAre Claim other = Unit {0}
 
 -- where a refusal ends the call, nothing is said of names
-refused_names : (Claim : List NameEntry → Type 0) (r : Reply) (site left : Site) (ended : Outcome) → refused r site ≡ Done ended left → NamesAre Claim ended
+refused_names : (Claim : List NameEntry → Type 0) (r : Reply) (site left : Site) (ended : Outcome) → refusal_move r site
+    ≡ Done ended left → NamesAre Claim ended
 refused_names Claim (reply.Status code message language) site left ended e = subst (NamesAre Claim) (ap outcome_of e) tt
 refused_names Claim other site left ended e = subst (NamesAre Claim) (ap outcome_of e) tt
 
 -- The names of a listing are all entries, or by a choice that feigns an end the first of them.
 record MayEnd (choices : Choice → Type 0) (all : List NameEntry) (Claim : List NameEntry → Type 0) : Type 0 where
   whole : Claim all
-  feigned : (choice : Choice) (names rest : List NameEntry) → choices choice → choice.refuse ≡ SSH_FX_EOF → all ≡ names ++ rest → Claim names
+  feigned : (choice : Choice) (names rest : List NameEntry) → choices choice → choice.refuse ≡ SSH_FX_EOF → all ≡ names
+      ++ rest → Claim names
 
 -- after a NAME with entries, the plan is that of the entries got with them
 names_go_on : (h : List ℕ) (site : Site) (answers : Answers) (bound : ℕ) (got : List NameEntry) (e : NameEntry)
     (given : List NameEntry) (asked : ℕ × Request) (later : Own) → answers asked.0 ≡ Some (reply.Names (e ∷ given))
-    → entries_next h got bound site (asked ∷ later) answers ≡ entries_next h (got ++ e ∷ given) (bound - 1) site later answers
+    → entries_next h got bound site (asked ∷ later) answers ≡ entries_next h (got ++ e ∷ given) (bound - 1) site later
+    answers
 names_go_on h site answers bound got e given asked later is =
     ap (λ (w : Option Reply). once_answered asked.0 w (λ r. on_names r site (Done (outcome.Names got) site)
     (λ entries. entries_next h (got ++ entries) (bound - 1) site later answers))) is
@@ -167,21 +171,27 @@ lists_rest : (choices : Choice → Type 0) (Claim : List NameEntry → Type 0) (
     (tree : FileTree) (bound : ℕ) (got entries : List NameEntry)
     → MayEnd choices all Claim → opened_at tree h ≡ Some (opened.Directory entries) → all ≡ got ++ entries
     → AreServed config answers tree steps → StandListing choices config h own tree steps
-    → Follow (λ later. entries_next h got bound site later answers) own → entries_next h got bound site own answers ≡ Done ended left → NamesAre Claim ended
-lists_rest choices Claim config answers h site left all ended steps [] tree bound got entries may open_is is served stand follow e = by_test (bound == 0) e
+    → Follow (λ later. entries_next h got bound site later answers) own → entries_next h got bound site own answers
+    ≡ Done ended left → NamesAre Claim ended
+lists_rest choices Claim config answers h site left all ended steps [] tree bound got entries may open_is is served
+    stand follow e = by_test (bound == 0) e
   where
-    by_test : (t : Bool) → (if t then Done outcome.GivenUp site else Ask (request.Readdir h)) ≡ Done ended left → NamesAre Claim ended
+    by_test : (t : Bool) → (if t then Done outcome.GivenUp site else Ask (request.Readdir h)) ≡ Done ended left
+        → NamesAre Claim ended
     by_test true e = subst (NamesAre Claim) (ap outcome_of e) tt
     by_test false e = absurd (let both : false ≡ true = ap is_done e in cc)
-lists_rest choices Claim config answers h site left all ended [] (asked ∷ later) tree bound got entries may open_is is served stand follow e = absurd stand
-lists_rest choices Claim config answers h site left all ended (s ∷ steps) (asked ∷ later) tree bound got entries may open_is is served stand follow e =
+lists_rest choices Claim config answers h site left all ended [] (asked ∷ later) tree bound got entries may open_is is
+    served stand follow e = absurd stand
+lists_rest choices Claim config answers h site left all ended (s ∷ steps) (asked ∷ later) tree bound got entries may
+    open_is is served stand follow e =
     elim stand [
       | inr other ↦
           lists_rest choices Claim config answers h site left all ended steps (asked ∷ later)
           (answer_to config tree s).1 bound got entries may (step_keeps config tree s h (opened.Directory entries)
           other.0 other.1 open_is) is served.2 other.2 follow e
       | inl own ↦
-          (let g = step_gives config tree h entries s open_is (own.1 ∙ asked_unless (bound == 0) outcome.GivenUp site (request.Readdir h) asked.1 follow.0) in
+          (let g = step_gives config tree h entries s open_is (own.1
+          ∙ asked_unless (bound == 0) outcome.GivenUp site (request.Readdir h) asked.1 follow.0) in
           let reply_at : IsReply (answers asked.0) (answer_to config tree s).0 =
           subst (λ (w : ℕ). IsReply (answers w) (answer_to config tree s).0) own.0 served.1 in
           by_said own.2 g reply_at g.said
@@ -190,16 +200,18 @@ lists_rest choices Claim config answers h site left all ended (s ∷ steps) (ask
     ]
   where
     go : Reply → Move
-    go r = on_names r site (Done (outcome.Names got) site) (λ entries. entries_next h (got ++ entries) (bound - 1) site later answers)
+    go r = on_names r site (Done (outcome.Names got) site) (λ entries. entries_next h (got ++ entries) (bound - 1) site
+        later answers)
 
     by_code : choices s.choice → (b : Bool) → (s.choice.refuse == SSH_FX_EOF) ≡ b
-        → (if b then Done (outcome.Names got) site else refused (reply.Status s.choice.refuse [] []) site)
+        → (if b then Done (outcome.Names got) site else refusal_move (reply.Status s.choice.refuse [] []) site)
         ≡ Done ended left → NamesAre Claim ended
     by_code chosen true test e = subst (NamesAre Claim) (ap outcome_of e)
         (may.feigned s.choice got entries chosen (eqb-true s.choice.refuse SSH_FX_EOF test) is)
     by_code chosen false test e = refused_names Claim (reply.Status s.choice.refuse [] []) site left ended e
 
-    by_said : choices s.choice → (g : Gives h entries s.choice.refuse (answer_to config tree s)) → IsReply (answers asked.0) (answer_to config tree s).0
+    by_said : choices s.choice → (g : Gives h entries s.choice.refuse (answer_to config tree s))
+        → IsReply (answers asked.0) (answer_to config tree s).0
         → (((answer_to config tree s).0 ≡ reply.Status SSH_FX_EOF [] []) × (entries ≡ []))
         ⊎ (((first : NameEntry) × (given : List NameEntry) × ((answer_to config tree s).0 ≡ reply.Names (first ∷ given))
         × (entries ≡ (first ∷ given) ++ g.left))
@@ -210,7 +222,8 @@ lists_rest choices Claim config answers h site left all ended (s ∷ steps) (ask
         → entries_next h got bound site later answers ≡ Done ended left → NamesAre Claim ended)
         → NamesAre Claim ended
     by_said chosen g reply_at (inl end) more =
-        (let t = taken_is asked.0 (answers asked.0) (reply.Status SSH_FX_EOF [] []) go ended left (subst (IsReply (answers asked.0)) end.0 reply_at) e in
+        (let t = taken_is asked.0 (answers asked.0) (reply.Status SSH_FX_EOF [] []) go ended left
+        (subst (IsReply (answers asked.0)) end.0 reply_at) e in
         let got_all : got ≡ all = sym (is ∙ (ap (λ (w : List NameEntry). got ++ w) end.1 ∙ append-nil got)) in
         subst (NamesAre Claim) (ap outcome_of t.1) (subst Claim (sym got_all) may.whole))
     by_said chosen g reply_at (inr (inr refused_it)) more =
@@ -218,8 +231,10 @@ lists_rest choices Claim config answers h site left all ended (s ∷ steps) (ask
         (subst (IsReply (answers asked.0)) refused_it reply_at) e in
         by_code chosen (s.choice.refuse == SSH_FX_EOF) refl t.1)
     by_said chosen g reply_at (inr (inl r)) more =
-        (let t = taken_is asked.0 (answers asked.0) (reply.Names (r.0 ∷ r.1)) go ended left (subst (IsReply (answers asked.0)) r.2 reply_at) e in
-        more (bound - 1) (got ++ r.0 ∷ r.1) g.left g.stands (is ∙ (ap (λ (w : List NameEntry). got ++ w) r.3 ∙ sym (append_assoc got (r.0 ∷ r.1) g.left)))
+        (let t = taken_is asked.0 (answers asked.0) (reply.Names (r.0 ∷ r.1)) go ended left
+        (subst (IsReply (answers asked.0)) r.2 reply_at) e in
+        more (bound - 1) (got ++ r.0 ∷ r.1) g.left g.stands (is ∙
+        (ap (λ (w : List NameEntry). got ++ w) r.3 ∙ sym (append_assoc got (r.0 ∷ r.1) g.left)))
         (follow_as (λ own. entries_next h got bound site (asked ∷ own) answers)
         (λ own. entries_next h (got ++ r.0 ∷ r.1) (bound - 1) site own answers) later
         (λ own. names_go_on h site answers bound got r.0 r.1 asked own t.0) follow.1)
@@ -233,9 +248,11 @@ opens_list : (tree : FileTree) (handle : List ℕ) (name : Name) (n : Option Nod
 opens_list tree handle name None none h e = absurd (let both : false ≡ true = ap is_handle e in cc)
 opens_list tree handle name (Some (node.File file)) none h e = absurd (let both : false ≡ true = ap is_handle e in cc)
 opens_list tree handle name (Some node.Directory) none h e =
-    subst (λ (w : List ℕ). found bytes_eq (tree.handles ++ (handle, opened.Directory (entries_at tree name)) ∷ []) w
+    subst (λ (w : List ℕ). value_at_key bytes_eq (tree.handles
+    ++ (handle, opened.Directory (entries_at tree name)) ∷ []) w
     ≡ Some (opened.Directory (entries_at tree name))) (ap handle_in e)
-    (found_push_here bytes_eq tree.handles handle (opened.Directory (entries_at tree name)) ((handles_tell handle handle).1 refl) none)
+    (found_push_here bytes_eq tree.handles handle (opened.Directory (entries_at tree name))
+    ((handles_tell handle handle).1 refl) none)
 
 -- a HANDLE was taken, or the call ended without names
 opened_by : (Claim : List NameEntry → Type 0) (place : ℕ) (o : Option Reply) (site : Site) (go : List ℕ → Move)
@@ -247,10 +264,14 @@ opened_by Claim place (Some (reply.Version version extensions)) site go ended le
     inl (refused_names Claim (reply.Version version extensions) site left ended e)
 opened_by Claim place (Some (reply.Status code message language)) site go ended left e =
     inl (refused_names Claim (reply.Status code message language) site left ended e)
-opened_by Claim place (Some (reply.Content content)) site go ended left e = inl (refused_names Claim (reply.Content content) site left ended e)
-opened_by Claim place (Some (reply.Names names)) site go ended left e = inl (refused_names Claim (reply.Names names) site left ended e)
-opened_by Claim place (Some (reply.Attrs attrs)) site go ended left e = inl (refused_names Claim (reply.Attrs attrs) site left ended e)
-opened_by Claim place (Some (reply.Extended content)) site go ended left e = inl (refused_names Claim (reply.Extended content) site left ended e)
+opened_by Claim place (Some (reply.Content content)) site go ended left e =
+    inl (refused_names Claim (reply.Content content) site left ended e)
+opened_by Claim place (Some (reply.Names names)) site go ended left e =
+    inl (refused_names Claim (reply.Names names) site left ended e)
+opened_by Claim place (Some (reply.Attrs attrs)) site go ended left e =
+    inl (refused_names Claim (reply.Attrs attrs) site left ended e)
+opened_by Claim place (Some (reply.Extended content)) site go ended left e =
+    inl (refused_names Claim (reply.Extended content) site left ended e)
 
 -- the requests of a listing that ended are those of its plan by the replies of then
 list_follow : (path : List ℕ) (bound : ℕ) (site : Site) (facts : Facts) (own : Own) (answers : Answers)
@@ -267,7 +288,8 @@ pub opendir_is : (path : List ℕ) (bound : ℕ) (site : Site) (facts : Facts) (
     → first.1 ≡ request.Opendir (from_directory site path)
 opendir_is path bound site facts first later answers ended e =
     let asks : Request = request.Opendir (from_directory site path) in
-    let follow : Follow (λ own. list_next path bound site facts own e.by) (first ∷ later) = list_follow path bound site facts (first ∷ later) answers ended e in
+    let follow : Follow (λ own. list_next path bound site facts own e.by) (first ∷ later) =
+    list_follow path bound site facts (first ∷ later) answers ended e in
     asked_unless (is_too_long asks) (outcome.Refused (error.IOError kind.PathTooLong)) site asks first.1 follow.0
 
 names_listed : (choices : Choice → Type 0) (Claim : List NameEntry → Type 0) (config : ServerConfig) (answers : Answers)
@@ -288,17 +310,20 @@ names_listed choices Claim config answers path bound site facts later ended tree
     elim (opened_by Claim first.place (by first.place) site (go later) ended call_ended.left call_ended.ends) [
       | inl names ↦ names
       | inr on ↦
-          (let served : AreServed config by tree (first ∷ steps) = served_before config by answers tree (first ∷ steps) call_ended.stay stands.served in
+          (let served : AreServed config by tree (first ∷ steps) =
+          served_before config by answers tree (first ∷ steps) call_ended.stay stands.served in
           let said : reply.Handle on.0 ≡ (answer_to config tree first).0 =
           reply_is (by first.place) (reply.Handle on.0) (answer_to config tree first).0 on.1 served.1 in
           let is : answer_to config tree first ≡ after_opendir tree first.handle name (node_at tree name) =
-          ap (λ (w : Request). apply tree config w first.choice first.handle) (opendir_is path bound site facts (asked_by first) later answers ended call_ended)
+          ap (λ (w : Request). apply tree config w first.choice first.handle)
+          (opendir_is path bound site facts (asked_by first) later answers ended call_ended)
           ∙ answers_as tree config asks first.choice first.handle
           (unrefused_by tree config first.request first.choice first.handle (reply.Handle on.0)
           (λ code ne e. let both : true ≡ false = ap is_handle e in cc) said) in
           let open_is : opened_at (answer_to config tree first).1 on.0 ≡ Some (opened.Directory all) =
           subst (λ (w : Answer). opened_at w.1 on.0 ≡ Some (opened.Directory all)) (sym is)
-          (opens_list tree first.handle name (node_at tree name) served.0.1 on.0 (sym (said ∙ ap (λ (w : Answer). w.0) is))) in
+          (opens_list tree first.handle name (node_at tree name) served.0.1 on.0
+          (sym (said ∙ ap (λ (w : Answer). w.0) is))) in
           lists_rest choices Claim config by on.0 site call_ended.left all ended steps later
           (answer_to config tree first).1 bound [] all may open_is refl served.2
           (subst (λ (w : List ℕ). StandListing choices config w later (answer_to config tree first).1 steps)
@@ -309,8 +334,8 @@ names_listed choices Claim config answers path bound site facts later ended tree
           on.2)
     ]
 
--- A call that lists a directory and ends with names gives the first of the entries that the directory had as its OPENDIR was
--- answered, in their order.
+-- A call that lists a directory and ends with names gives the first of the entries that the directory had as its
+-- OPENDIR was answered, in their order.
 pub lists_begin : (config : ServerConfig) (answers : Answers) (path : List ℕ) (bound : ℕ) (site : Site) (facts : Facts)
     (later : Own) (entries : List NameEntry) (tree : FileTree) (first : Step) (steps : List Step)
     → StandsOnDirectory IsAnyChoice config answers later tree first steps
@@ -335,7 +360,8 @@ lists_directory config answers path bound site facts later entries tree first st
     (record { whole = refl; feigned = λ choice names rest honest e is. absurd (honest e) }) stands ended
 
 -- what stands once in a list stands once in a front of it
-none_front : (xs ys : List NameEntry) (filename : List ℕ) → has_filename (xs ++ ys) filename ≡ false → has_filename xs filename ≡ false
+none_front : (xs ys : List NameEntry) (filename : List ℕ) → has_filename (xs ++ ys) filename ≡ false
+    → has_filename xs filename ≡ false
 none_front [] ys filename e = refl
 none_front (x ∷ xs) ys filename e = by_test (bytes_eq x.filename filename) (λ rest. none_front xs ys filename rest) e
   where

@@ -43,7 +43,7 @@ use Rattle.sftp_model.specs.declared.slot.Move.TheVariants.{Ask, Done}
 use Rattle.sftp_model.specs.declared.slot.Site.{Site}
 use Rattle.machine_model.specs.Changes.{ClosesHandle, ListsEntries}
 use Rattle.machine_model.specs.FileTree.{FileTree}
-use Rattle.machine_model.specs.Pairs.{Has}
+use Rattle.machine_model.specs.Pairs.{HasEntry}
 use Rattle.machine_model.specs.TreeAnswers.{apply, first_choice}
 use Rattle.plan_model.specs.declared.call.Call.TheVariants as call
 use Rattle.sftp_model.specs.Frames.{is_too_long}
@@ -57,17 +57,17 @@ use Rattle.session_model.specs.declared.turn.Turn.{Turn}
 use Rattle.session_model.specs.Calls.{Setting}
 use Rattle.session_model.specs.Grants.{is_asked_by, is_close}
 use Rattle.session_model.specs.Journals.{IsJournal}
-use Rattle.session_model.specs.Readings.{AskedRequest, answer, asked, asked_at, is_by, own, sent}
+use Rattle.session_model.specs.Readings.{AskedRequest, answer, count_submitted, asked_at, is_by, own, count_sent}
 use Rattle.session_model.specs.Runs.{IsRun}
-use Rattle.session_model.specs.Served.{Serves, ServesAll, requests_sent}
+use Rattle.session_model.specs.Served.{ServesJournal, ServesAll, requests_sent}
 use Rattle.session_model.proofs.OverLaws.{runs_are_journals}
 use Rattle.session_model.proofs.RequestLaws.{sent_asked}
-use Rattle.run_laws.specs.Bearing.{Bears, IsOfAsker, UsesGrant, grant_at, subject, used}
+use Rattle.run_laws.specs.Bearing.{BearsHandle, IsOfAsker, UsesGrant, grant_at, subject, grant_used_at}
 use Rattle.run_laws.specs.CallsAmong.{HasEnded, StandListing, StandsOnDirectory, asked_by}
 use Rattle.run_laws.specs.GrantUses.{IsUsed}
 use Rattle.run_laws.specs.InJournals.{AreBelow}
 use Rattle.run_laws.specs.Listings.{IsListed, before_place, site_at}
-use Rattle.run_laws.specs.Steps.{Choose, FeignNoEnd, FeignsNoEnd, IsAnyChoice, Step, AreServed, answer_to, asked_in}
+use Rattle.run_laws.specs.Steps.{ChooseOnly, FeignNoEnd, FeignsNoEnd, IsAnyChoice, Step, AreServed, answer_to, asked_in}
 use Rattle.run_laws.proofs.AmongLaws.{later_above, low_known, not_own, other_with, own_with, with_own, with_own_well}
 use Rattle.run_laws.proofs.BackLaws.{OpensFirst, granted_by, opened_first}
 use Rattle.run_laws.proofs.CutLaws.{has_parts, known_has, known_parts, one_at, pair_is, rising_distinct, rising_parts}
@@ -100,14 +100,16 @@ lane_asker past owner.Setup g l c mine asker = absurd cc
 lane_asker past owner.Close g l c mine asker = absurd cc
 
 -- Between two requests of a call, a READDIR by what its first one brought is its own.
-readdir_is_own : (s : Setting) (past : List Entry) (lane k p q : ℕ) (first : ℕ × Request) (later : Own) (a : AskedRequest)
+readdir_is_own : (s : Setting) (past : List Entry) (lane k p q : ℕ) (first : ℕ × Request) (later : Own)
+    (a : AskedRequest)
     (h : List ℕ) → IsJournal s past → own past lane k ≡ first ∷ later → first.0 < p → p < q
     → is_asked_by (asked_at past q) lane k ≡ true → asked_at past p ≡ Some a → a.request ≡ request.Readdir h
-    → used s past p h ≡ Some first.0 → is_asked_by (asked_at past p) lane k ≡ false → ⊥
-readdir_is_own s past lane k p q first later a h j own_is above below mine is lists uses out = by_who (who_asked s past p a j is)
+    → grant_used_at s past p h ≡ Some first.0 → is_asked_by (asked_at past p) lane k ≡ false → ⊥
+readdir_is_own s past lane k p q first later a h j own_is above below mine is lists uses out =
+    by_who (who_asked s past p a j is)
   where
     u : UsesGrant s past p a.by h
-    u = uses_grant s past p a h j is (subst (λ (r : Request). Bears r h) (sym lists) refl)
+    u = uses_grant s past p a h j is (subst (λ (r : Request). BearsHandle r h) (sym lists) refl)
 
     asker : IsOfAsker past a.by first.0
     asker = subst (IsOfAsker past a.by) (some_is u.grant first.0 (sym u.is ∙ uses)) u.asker
@@ -118,9 +120,11 @@ readdir_is_own s past lane k p q first later a h j own_is above below mine is li
     by_lane : (c : ℕ) → is_asked_by (asked_at past p) lane c ≡ true → ⊥
     by_lane c theirs =
         elim (eqb_tells c k) [
-          | inl t ↦ both_ways (is_asked_by (asked_at past p) lane k) out (subst (λ (n : ℕ). is_asked_by (asked_at past p) lane n ≡ true) t.1 theirs)
+          | inl t ↦ both_ways (is_asked_by (asked_at past p) lane k) out
+              (subst (λ (n : ℕ). is_asked_by (asked_at past p) lane n ≡ true) t.1 theirs)
           | inr t ↦ elim (cases_lt c k) [
-            | inl low ↦ (let early : p < first.0 = in_turn s past lane c k p first.0 j low theirs first_mine in omega (arith, early, above))
+            | inl low ↦ (let early : p < first.0 = in_turn s past lane c k p first.0 j low theirs first_mine in
+                omega (arith, early, above))
             | inr le ↦ (let ne : c ≢ k = t.1 in let late : q < p =
                 in_turn s past lane k c q p j (omega (arith, le, ne)) mine theirs in omega (arith, late, below))
           ]
@@ -128,7 +132,8 @@ readdir_is_own s past lane k p q first later a h j own_is above below mine is li
 
     by_who : WhoAsked past p a → ⊥
     by_who (TheSession (inl closes)) = (let clash : false ≡ true = sym (ap is_close lists) ∙ closes in cc)
-    by_who (TheSession (inr queries)) = (let clash : request.Readdir h ≡ request.LimitsQuery = sym lists ∙ queries in cc)
+    by_who (TheSession (inr queries)) = (let clash : request.Readdir h ≡ request.LimitsQuery = sym lists ∙ queries in
+        cc)
     by_who (ACall l c theirs) =
         let by_it : is_by a.by l c ≡ true = ap (λ x. is_asked_by x l c) (sym is) ∙ theirs in
         let asked_for = lane_asker past a.by first.0 l c by_it asker in
@@ -141,7 +146,7 @@ lists_is other h e = absurd e
 
 -- ---- the steps
 
-choose_any : (steps : List Step) → Choose IsAnyChoice steps
+choose_any : (steps : List Step) → ChooseOnly IsAnyChoice steps
 choose_any [] = tt
 choose_any (s ∷ steps) = (tt, choose_any steps)
 
@@ -151,7 +156,7 @@ first_honest (c ∷ choices) h = h.0
 
 steps_honest : (config : ServerConfig) (past : List Entry) (tree : FileTree) (choices : List Choice) (requests : Own)
     (now : FileTree) (s : ServesAll config past tree choices requests now) → FeignNoEnd choices
-    → Choose FeignsNoEnd (steps_of config past tree choices requests now s)
+    → ChooseOnly FeignsNoEnd (steps_of config past tree choices requests now s)
 steps_honest config past tree choices [] now s h = tt
 steps_honest config past tree choices (r ∷ requests) now s h = (
   first_honest choices h,
@@ -173,12 +178,15 @@ kept_rest answers grant_of seen (x ∷ xs) ys kept = kept_rest answers grant_of 
 -- Steps behind the first request of a listing, in which its further ones stand.
 listing_stands : (chosen : Choice → Type 0) (s : Setting) (config : ServerConfig) (past : List Entry) (lane k n m : ℕ)
     (first : ℕ × Request) (all : Own) (h : List ℕ) (steps : List Step) (later : Own) (seen : List ℕ) (tree : FileTree)
-    → IsJournal s past → own past lane k ≡ first ∷ all → answer past first.0 ≡ Some (reply.Handle h) → Has seen first.0
+    → IsJournal s past → own past lane k ≡ first ∷ all → answer past first.0 ≡ Some (reply.Handle h)
+    → HasEntry seen first.0
     → AreKept (answer past) (with_own past lane k first.0 (grant_at s past)) seen steps
-    → Choose chosen steps → AreRising (asked_in steps) → AreKnown past n (asked_in steps) → ((place : ℕ) → HasRequest (asked_in steps) place → first.0 < place)
+    → ChooseOnly chosen steps → AreRising (asked_in steps) → AreKnown past n (asked_in steps)
+    → ((place : ℕ) → HasRequest (asked_in steps) place → first.0 < place)
     → AreRising later → AreKnown past m later → ((place : ℕ) → HasRequest later place → HasRequest all place)
     → ((place : ℕ) → HasRequest later place → HasRequest (asked_in steps) place)
-    → ((place : ℕ) → HasRequest (asked_in steps) place → HasRequest all place → HasRequest later place) → StandListing chosen config h later tree steps
+    → ((place : ℕ) → HasRequest (asked_in steps) place → HasRequest all place → HasRequest later place)
+    → StandListing chosen config h later tree steps
 listing_stands chosen s config past lane k n m first all h steps [] seen tree j own_is came there kept honest rising
     known above rising' known' mine within sub = tt
 listing_stands chosen s config past lane k n m first all h [] (a ∷ later) seen tree j own_is came there kept honest
@@ -246,7 +254,8 @@ listing_stands chosen s config past lane k n m first all h (t ∷ steps) (a ∷ 
         let high : first.0 < t.place = above t.place (inl refl) in
         let out : is_asked_by (asked_at past t.place) lane k ≡ false =
         not_own past lane k t.place first all own_is high (λ has. not_mine apart (sub t.place (inl refl) has)) in
-        let u : UsesGrant s past t.place here.0.by h = uses_grant s past t.place here.0 h j here.1.0 (subst (λ (r : Request). Bears r h) (sym asks) refl) in
+        let u : UsesGrant s past t.place here.0.by h = uses_grant s past t.place here.0 h j here.1.0
+        (subst (λ (r : Request). BearsHandle r h) (sym asks) refl) in
         let is : grant_of t.place ≡ Some u.grant = other_with past lane k t.place first.0 (grant_at s past) out
         ∙ (grant_of_subject s past t.place here.0 h here.1.0 (ap subject asks) ∙ u.is) in
         let same : u.grant ≡ first.0 = (guarded apart).1 u.grant is (ap handle_of (u.came ∙ sym came)) in
@@ -257,8 +266,10 @@ listing_stands chosen s config past lane k n m first all h (t ∷ steps) (a ∷ 
 
 -- ---- the call
 
-list_opens : (path : List ℕ) (bound : ℕ) (site : Site) (facts : Facts) (first : ℕ × Request) → OpensFirst (call.List path bound) site facts first
-list_opens path bound site facts first l answers r e = opened_first first.0 (answers first.0) site (λ handle. entries_next handle [] bound site l answers) r e
+list_opens : (path : List ℕ) (bound : ℕ) (site : Site) (facts : Facts) (first : ℕ × Request)
+    → OpensFirst (call.List path bound) site facts first
+list_opens path bound site facts first l answers r e = opened_first first.0 (answers first.0) site
+    (λ handle. entries_next handle [] bound site l answers) r e
 
 -- a call that asked nothing ended without names
 none_asked : (b : Bool) (o : Outcome) (site left : Site) (r : Request) (names : List NameEntry)
@@ -266,10 +277,11 @@ none_asked : (b : Bool) (o : Outcome) (site left : Site) (r : Request) (names : 
 none_asked true o site left r names not e = not (ap outcome_of e)
 none_asked false o site left r names not e = (let both : outcome.NoFile ≡ outcome.Names names = ap outcome_of e in cc)
 
--- In a whole run that a file machine serves, a call that listed a directory gave its first entries, and all where no choice feigns an end.
+-- In a whole run that a file machine serves, a call that listed a directory gave its first entries, and all where no
+-- choice feigns an end.
 pub run_lists : (s : Setting) (config : ServerConfig) (choices : List Choice) (first now : FileTree) (turns : List Turn)
     (past : List Entry) (lane k : ℕ) (path : List ℕ) (bound : ℕ) (names : List NameEntry)
-    → IsRun s turns past → Serves config choices first past now
+    → IsRun s turns past → ServesJournal config choices first past now
     → HasEnded (call.List path bound) (site_at s past lane k) s.facts (own past lane k) (answer past)
     (outcome.Names names) → IsListed s config choices first past lane k path names
 run_lists s config choices first now turns past lane k path bound names run serves e = by_own (own past lane k) refl e
@@ -280,26 +292,31 @@ run_lists s config choices first now turns past lane k path bound names run serv
     site : Site
     site = site_at s past lane k
 
-    all : AreAll past (sent past) [] (requests_sent past)
+    all : AreAll past (count_sent past) [] (requests_sent past)
     all = all_sent past
 
-    below : (opendir : ℕ × Request) (later : Own) → own past lane k ≡ opendir ∷ later → AreBelow (sent past) (opendir ∷ later)
-    below opendir later is = subst (AreBelow (sent past)) is (whole_run_sent s turns past lane k run)
+    below : (opendir : ℕ × Request) (later : Own) → own past lane k ≡ opendir ∷ later
+        → AreBelow (count_sent past) (opendir ∷ later)
+    below opendir later is = subst (AreBelow (count_sent past)) is (whole_run_sent s turns past lane k run)
 
     by_split : (opendir : ℕ × Request) (later : Own) → own past lane k ≡ opendir ∷ later
         → HasEnded (call.List path bound) site s.facts (opendir ∷ later) (answer past) (outcome.Names names)
-        → IsSplit config past first choices (requests_sent past) now opendir.0 → IsListed s config choices first past lane k path names
+        → IsSplit config past first choices (requests_sent past) now opendir.0
+        → IsListed s config choices first past lane k path names
     by_split opendir later is e split =
         record {
           place = opendir.0;
           asked = at.0;
           stands = at.1.0;
-          by = asked_it at.0.by (ap (λ x. is_asked_by x lane k) (sym at.1.0) ∙ has_call past lane k opendir.0 (opendir ∷ later) is (inl refl));
+          by = asked_it at.0.by (ap (λ x. is_asked_by x lane k) (sym at.1.0)
+              ∙ has_call past lane k opendir.0 (opendir ∷ later) is (inl refl));
           asks = at.1.1 ∙ opendir_is path bound site s.facts opendir later (answer past) (outcome.Names names) e;
           tree = split.at;
           had = split.front;
-          begins = lists_begin config (answer past) path bound site s.facts later names split.at step rest any first_ended;
-          entries = λ honest. lists_directory config (answer past) path bound site s.facts later names split.at step rest
+          begins = lists_begin config (answer past) path bound site s.facts later names split.at step rest any
+              first_ended;
+          entries = λ honest. lists_directory config (answer past) path bound site s.facts later names split.at step
+              rest
               (stands FeignsNoEnd e (steps_honest config past (apply split.at config split.r.1 (first_choice split.left)
               split.back.0).1 (drop 1 split.left) split.rest now split.back.1.2
               (rest_honest split.left (split.honest honest)))) first_ended;
@@ -312,7 +329,8 @@ run_lists s config choices first now turns past lane k path bound names run serv
         at = own_at past lane k opendir later is
 
         asked_it : (o : Owner) → is_by o lane k ≡ true → o ≡ owner.Call lane k
-        asked_it (owner.Call l c) test = let both = and_parts (l == lane) (c == k) test in λ i. owner.Call (eqb-true l lane both.0 i) (eqb-true c k both.1 i)
+        asked_it (owner.Call l c) test = let both = and_parts (l == lane) (c == k) test in
+            λ i. owner.Call (eqb-true l lane both.0 i) (eqb-true c k both.1 i)
         asked_it owner.Setup test = absurd cc
         asked_it owner.Close test = absurd cc
 
@@ -320,10 +338,17 @@ run_lists s config choices first now turns past lane k path bound names run serv
         front = steps_of config past first choices (before_place opendir.0 (requests_sent past)) split.at split.front
 
         step : Step
-        step = record { place = split.r.0; request = split.r.1; choice = first_choice split.left; handle = split.back.0 }
+        step = record {
+          place = split.r.0;
+          request = split.r.1;
+          choice = first_choice split.left;
+          handle =
+              split.back.0;
+        }
 
         rest : List Step
-        rest = steps_of config past (apply split.at config split.r.1 (first_choice split.left) split.back.0).1 (drop 1 split.left) split.rest now split.back.1.2
+        rest = steps_of config past (apply split.at config split.r.1 (first_choice split.left) split.back.0).1
+            (drop 1 split.left) split.rest now split.back.1.2
 
         whole : List Step
         whole = front ++ step ∷ rest
@@ -335,8 +360,8 @@ run_lists s config choices first now turns past lane k path bound names run serv
             split.front i ++ steps_ask config past split.at split.left (split.r ∷ split.rest) now split.back i)
             ∙ sym split.is
 
-        whole_all : AreAll past (sent past) [] (asked_in whole)
-        whole_all = subst (AreAll past (sent past) []) (sym asks_all) all
+        whole_all : AreAll past (count_sent past) [] (asked_in whole)
+        whole_all = subst (AreAll past (count_sent past) []) (sym asks_all) all
 
         served_rest : AreServed config (answer past) split.at (step ∷ rest)
         served_rest = steps_served config past split.at split.left (split.r ∷ split.rest) now split.back
@@ -350,8 +375,9 @@ run_lists s config choices first now turns past lane k path bound names run serv
             (steps_leave config past first choices (before_place opendir.0 (requests_sent past)) split.at
             split.front) served_rest)
 
-        known : AreKnown past (sent past) (asked_in front) × AreKnown past (sent past) (asked_in (step ∷ rest))
-        known = known_parts past (sent past) front (step ∷ rest) whole_all.known
+        known : AreKnown past (count_sent past) (asked_in front)
+            × AreKnown past (count_sent past) (asked_in (step ∷ rest))
+        known = known_parts past (count_sent past) front (step ∷ rest) whole_all.known
 
         rising : AreRising (asked_in (step ∷ rest))
         rising = (rising_parts front (step ∷ rest) whole_all.rising).1
@@ -359,8 +385,8 @@ run_lists s config choices first now turns past lane k path bound names run serv
         is_first : asked_by step ≡ opendir
         is_first = pair_is step opendir split.here (one_at past (asked_by step) opendir known.1.0.1 at split.here)
 
-        own_known : AreKnown past (asked past) (opendir ∷ later)
-        own_known = subst (AreKnown past (asked past)) is (own_listed past lane k).1
+        own_known : AreKnown past (count_submitted past) (opendir ∷ later)
+        own_known = subst (AreKnown past (count_submitted past)) is (own_listed past lane k).1
 
         own_rising : AreRising (opendir ∷ later)
         own_rising = subst AreRising is (own_listed past lane k).0
@@ -369,26 +395,29 @@ run_lists s config choices first now turns past lane k path bound names run serv
         within place has =
             let high : opendir.0 < place = later_above past lane k place opendir later is has in
             let one : step.place ≡ opendir.0 = split.here in
-            elim (whole_all.complete place lane k (below_has (sent past) place later (below opendir later is).1 has)
+            elim (whole_all.complete place lane k (below_has (count_sent past) place later (below opendir later is).1
+            has)
             (has_call past lane k place (opendir ∷ later) is (inr has))) [
               | inl seen ↦ absurd seen
               | inr there ↦ elim (has_parts front (step ∷ rest) place there) [
                 | inl low ↦ absurd (let lt : place < step.place = known_has past step.place place (asked_in front)
-                    (low_known past (sent past) front rest step whole_all.rising known.0) low in
+                    (low_known past (count_sent past) front rest step whole_all.rising known.0) low in
                     omega (arith, lt, one, high))
                 | inr (inl same) ↦ absurd (let here : step.place ≡ place = same in omega (arith, here, one, high))
                 | inr (inr more) ↦ more
               ]
             ]
 
-        by_handle : (chosen : Choice → Type 0) → Choose chosen rest → (h : List ℕ) → answer past opendir.0
+        by_handle : (chosen : Choice → Type 0) → ChooseOnly chosen rest → (h : List ℕ) → answer past opendir.0
             ≡ Some (reply.Handle h) → ((place : ℕ) → HasRequest later place → (h : List ℕ)
             × (answer past opendir.0 ≡ Some (reply.Handle h)))
-            → StandListing chosen config (handle_of (answer past step.place)) later (answer_to config split.at step).1 rest
+            → StandListing chosen config (handle_of (answer past step.place)) later (answer_to config split.at step).1
+            rest
         by_handle chosen chose h came granted =
             subst (λ (w : List ℕ). StandListing chosen config w later (answer_to config split.at step).1 rest)
             (sym (ap (λ (p : ℕ). handle_of (answer past p)) split.here ∙ ap handle_of came))
-            (listing_stands chosen s config past lane k (sent past) (asked past) opendir later h rest later
+            (listing_stands chosen s config past lane k (count_sent past) (count_submitted past) opendir later h rest
+            later
             (step.place ∷ seen_after [] front) (answer_to config split.at step).1 j is came (inl split.here) kept.1
             chose rising.1 known.1.1
             (λ place has. let lt : step.place < place = above_has step.place place (asked_in rest) rising.0 has in
@@ -400,7 +429,8 @@ run_lists s config choices first now turns past lane k path bound names run serv
             grant_of = with_own past lane k opendir.0 (grant_at s past)
 
             well : UseWell s past grant_of
-            well = with_own_well s past lane k opendir later (grant_at s past) j (record { own_is = is; granted = granted }) (used_well s past j)
+            well = with_own_well s past lane k opendir later (grant_at s past) j
+                (record { own_is = is; granted = granted }) (used_well s past j)
 
             kinds : AreKinds config (answer past) (kinds_of config first whole) first whole
             kinds = kinds_as config (answer past) (kinds_of config first whole) first whole (λ place there. refl)
@@ -410,11 +440,12 @@ run_lists s config choices first now turns past lane k path bound names run serv
             kept =
                 kept_rest (answer past) grant_of [] front (step ∷ rest)
                 (grants_are_kept config (answer past) grant_of (kinds_of config first whole) first whole served
-                (use_grants s past (sent past) grant_of [] whole j (sent_asked past) well whole_all) kinds)
+                (use_grants s past (count_sent past) grant_of [] whole j (sent_asked past) well whole_all) kinds)
 
-        by_later : (chosen : Choice → Type 0) → Choose chosen rest → (l : Own) → later ≡ l
+        by_later : (chosen : Choice → Type 0) → ChooseOnly chosen rest → (l : Own) → later ≡ l
             → ((place : ℕ) → HasRequest later place → (h : List ℕ) × (answer past opendir.0 ≡ Some (reply.Handle h)))
-            → StandListing chosen config (handle_of (answer past step.place)) later (answer_to config split.at step).1 rest
+            → StandListing chosen config (handle_of (answer past step.place)) later (answer_to config split.at step).1
+            rest
         by_later chosen chose [] none granted = subst (λ (l : Own). StandListing chosen config
             (handle_of (answer past step.place)) l (answer_to config split.at step).1 rest) (sym none) tt
         by_later chosen chose (a ∷ l) some granted = (let came =
@@ -422,7 +453,7 @@ run_lists s config choices first now turns past lane k path bound names run serv
             by_handle chosen chose came.0 came.1 granted)
 
         stands : (chosen : Choice → Type 0) → HasEnded (call.List path bound) site s.facts (opendir ∷ later)
-            (answer past) (outcome.Names names) → Choose chosen rest
+            (answer past) (outcome.Names names) → ChooseOnly chosen rest
             → StandsOnDirectory chosen config (answer past) later split.at step rest
         stands chosen e chose =
             record {
@@ -434,14 +465,17 @@ run_lists s config choices first now turns past lane k path bound names run serv
         any : StandsOnDirectory IsAnyChoice config (answer past) later split.at step rest
         any = stands IsAnyChoice e (choose_any rest)
 
-        first_ended : HasEnded (call.List path bound) site s.facts (asked_by step ∷ later) (answer past) (outcome.Names names)
-        first_ended = subst (λ (p : ℕ × Request). HasEnded (call.List path bound) site s.facts (p ∷ later) (answer past) (outcome.Names names)) (sym is_first) e
+        first_ended : HasEnded (call.List path bound) site s.facts (asked_by step ∷ later) (answer past)
+            (outcome.Names names)
+        first_ended = subst (λ (p : ℕ × Request). HasEnded (call.List path bound) site s.facts (p ∷ later) (answer past)
+            (outcome.Names names)) (sym is_first) e
 
     by_own : (o : Own) → own past lane k ≡ o → HasEnded (call.List path bound) site s.facts o (answer past)
         (outcome.Names names) → IsListed s config choices first past lane k path names
     by_own [] none e =
         let asks : Request = request.Opendir (from_directory site path) in
-        absurd (none_asked (is_too_long asks) (outcome.Refused (error.IOError kind.PathTooLong)) site e.left asks names (λ same. cc same) e.ends)
+        absurd (none_asked (is_too_long asks) (outcome.Refused (error.IOError kind.PathTooLong)) site e.left asks names
+        (λ same. cc same) e.ends)
     by_own (opendir ∷ later) is e =
         by_split opendir later is e
         (split_at config past first choices (requests_sent past) now opendir.0 serves.0 all.rising

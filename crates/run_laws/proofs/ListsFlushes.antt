@@ -18,7 +18,7 @@ use Rattle.session_model.specs.Calls.{Setting, site_of}
 use Rattle.session_model.specs.Journals.{IsJournal}
 use Rattle.session_model.specs.Readings.{AskedRequest, answer, asked_at, outcomes_below, own}
 use Rattle.session_model.specs.Runs.{IsRun}
-use Rattle.session_model.specs.Served.{Serves}
+use Rattle.session_model.specs.Served.{ServesJournal}
 use Rattle.session_model.specs.Settings.{setting_of}
 use Rattle.session_model.proofs.OverLaws.{runs_are_journals}
 use Rattle.run_laws.specs.CallsAmong.{HasEnded}
@@ -38,10 +38,11 @@ use Rattle.run_laws.proofs.ReadsBackLaws.{call_is, handed_in, outcome_is, test_b
 
 pub run_lists_directories : (lanes : List Lane) (options : SftpOptions) (extensions : Extensions) (turns : List Turn)
     (past : List Entry) (config : ServerConfig) (choices : List Choice) (tree left : FileTree)
-    → IsRun (setting_of lanes options extensions past) turns past → Serves config choices tree past left
+    → IsRun (setting_of lanes options extensions past) turns past → ServesJournal config choices tree past left
     → ListsDirectories lanes config choices tree (setting_of lanes options extensions past) past
     (outcomes_below past (length lanes))
-run_lists_directories lanes options extensions turns past config choices tree left run served lane k path bound names is ends =
+run_lists_directories lanes options extensions turns past config choices tree left run served lane k path bound names is
+    ends =
     let s : Setting = setting_of lanes options extensions past in
     let d : EndedByPlan s past lane k (call.List path bound) (outcome.Names names) =
     call_ended s past lane k (call.List path bound) (outcome.Names names) (runs_are_journals s turns past run)
@@ -49,12 +50,14 @@ run_lists_directories lanes options extensions turns past config choices tree le
     (outcome_is past (length lanes) lane k _ ends)
     in
     run_lists s config choices tree left turns past lane k path bound names run served
-    (subst (λ (x : Site). HasEnded (call.List path bound) x s.facts (own past lane k) (answer past) (outcome.Names names)) (sym d.began) d.did)
+    (subst (λ (x : Site). HasEnded (call.List path bound) x s.facts (own past lane k) (answer past)
+    (outcome.Names names)) (sym d.began) d.did)
 
 -- a call's requests write by the grant of the file in its slot
 writes_by_grant : (lanes : List Lane) (options : SftpOptions) (extensions : Extensions) (past : List Entry) (lane k : ℕ)
     (bytes : List ℕ) → IsJournal (setting_of lanes options extensions past) past → IsPlain past
-    → (f : WritesAndFlushes lanes (setting_of lanes options extensions past) past (outcomes_below past (length lanes)) lane k bytes)
+    → (f : WritesAndFlushes lanes (setting_of lanes options extensions past) past (outcomes_below past (length lanes))
+    lane k bytes)
     → WritesByGrant (setting_of lanes options extensions past) past lane k f.file.grant f.handle
 writes_by_grant lanes options extensions past lane k bytes j p f =
     record {
@@ -65,7 +68,8 @@ writes_by_grant lanes options extensions past lane k bytes j p f =
       before = λ place mine. (bears_there s past lane k f.file.grant f.handle bears place mine).0;
       unclosed = λ place mine. (bears_there s past lane k f.file.grant f.handle bears place mine).1;
       plain = λ a held is opens. opens_plain f.options f.path held f.plain
-          (subst (λ (r : Request). OpensAs r held) (open_asked s past lane f.opener f.into f.options f.path f.file.grant a j p f.opens
+          (subst (λ (r : Request). OpensAs r held) (open_asked s past lane f.opener f.into f.options f.path f.file.grant
+          a j p f.opens
           f.asked_by is) opens);
     }
   where
@@ -86,7 +90,8 @@ run_flushes_writes lanes options extensions turns past config choices tree left 
     run_puts s config choices tree left turns past lane k f.slot f.file.grant f.file f.buffer bytes
     (site_of s two.second.before lane) s.facts (site_of s two.first.before lane) s.facts (own past lane f.flusher)
     served run well f.some
-    (ap (λ (x : Site). slot_at x f.slot) (sym (first_began s past lane k f.flusher f.slot bytes two)) ∙ f.there) two.wrote two.same two.flush f.handle
+    (ap (λ (x : Site). slot_at x f.slot) (sym (first_began s past lane k f.flusher f.slot bytes two)) ∙ f.there)
+    two.wrote two.same two.flush f.handle
     (writes_by_grant lanes options extensions past lane k bytes j p f)
   where
     s : Setting
@@ -102,4 +107,5 @@ run_flushes_writes lanes options extensions turns past config choices tree left 
     two =
         written_then_flushed s past lane k f.flusher f.slot bytes j p f.later f.writes f.flushes
         (outcome_is past (length lanes) lane k _ f.written) (outcome_is past (length lanes) lane f.flusher _ f.flushed)
-        (λ n c above below is. test_between (leaves_slot f.slot) (calls_in lanes lane) k f.flusher n c f.between above below is)
+        (λ n c above below is. test_between (leaves_slot f.slot) (calls_in lanes lane) k f.flusher n c f.between above
+        below is)

@@ -48,7 +48,8 @@ is_all_done outcome.Done = true
 is_all_done other = false
 
 -- a request that may be refused before it is asked
-pub asked_unless : (refused : Bool) (o : Outcome) (site : Site) (r asked : Request) → (if refused then Done o site else Ask r) ≡ Ask asked → asked ≡ r
+pub asked_unless : (refused : Bool) (o : Outcome) (site : Site) (r asked : Request)
+    → (if refused then Done o site else Ask r) ≡ Ask asked → asked ≡ r
 asked_unless true o site r asked e = absurd (let both : false ≡ true = ap is_ask e in cc)
 asked_unless false o site r asked e = ap (asked_of asked) (sym e)
 
@@ -66,4 +67,7 @@ handle_in other = []
 pub taken_is : (place : ℕ) (o : Option Reply) (x : Reply) (go : Reply → Move) (ended : Outcome) (left : Site)
     → IsReply o x → once_answered place o go ≡ Done ended left → (o ≡ Some x) × (go x ≡ Done ended left)
 taken_is place None x go ended left is e = absurd (let both : false ≡ true = ap is_done e in cc)
-taken_is place (Some r) x go ended left is e = (ap (λ (w : Reply). Some w) is, subst (λ (w : Reply). go w ≡ Done ended left) is e)
+taken_is place (Some r) x go ended left is e = (
+  ap (λ (w : Reply). Some w) is,
+  subst (λ (w : Reply). go w ≡ Done ended left) is e,
+)

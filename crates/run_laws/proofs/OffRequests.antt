@@ -11,7 +11,7 @@ use Rattle.sftp_model.specs.declared.request.Request.TheVariants as request
 use Rattle.sftp_model.specs.declared.slot.Facts.{Facts}
 use Rattle.sftp_model.specs.declared.slot.Move.TheVariants.{Ask}
 use Rattle.sftp_model.specs.declared.slot.Site.{Site}
-use Rattle.machine_model.specs.Changes.{Denotes, Moves}
+use Rattle.machine_model.specs.Changes.{DenotesName, MovesName}
 use Rattle.machine_model.specs.Components.{Name, components, is_within, same_name}
 use Rattle.machine_model.proofs.NameLaws.{names_tell}
 use Rattle.sftp_model.specs.OpenOptions.{flags_of}
@@ -24,7 +24,7 @@ use Rattle.plan_model.specs.declared.call.Call.{Call}
 use Rattle.plan_model.specs.declared.call.Call.TheVariants as call
 use Rattle.run_laws.specs.GrantUses.{WritesBy}
 use Rattle.run_laws.specs.InJournals.{is_open_of}
-use Rattle.run_laws.specs.Sparing.{Avoids}
+use Rattle.run_laws.specs.Sparing.{AvoidsName}
 use Rattle.run_laws.specs.NameCalls.{is_of_other, is_on_paths, keeps_off, stands_outside}
 use Rattle.run_laws.proofs.CallMoves.{AsksByPath, AsksPath, call_goes, path_call_goes}
 use Rattle.run_laws.proofs.PartMoves.{GoesSo, HoldsByHandle, IsAnySite}
@@ -34,22 +34,35 @@ use Rattle.plan_model.specs.CallPlans.{next}
 
 -- the request keeps off the name
 abbrev pub IsOff : Name → Request → Type 0
-IsOff name r = Avoids name r × (is_open_of name r ≡ false)
+IsOff name r = AvoidsName name r × (is_open_of name r ≡ false)
 
 -- and writes by no handle
 abbrev pub IsHarmless : Name → Request → Type 0
 IsHarmless name r = IsOff name r × ((h : List ℕ) → WritesBy r h → ⊥)
 
 -- a request that changes nothing by a path
-plain : (name : Name) (r : Request) → (Denotes r name → ⊥) → ((old to : Name) → Moves r old to → ⊥) → Avoids name r
+plain : (name : Name) (r : Request) → (DenotesName r name → ⊥) → ((old to : Name) → MovesName r old to → ⊥)
+    → AvoidsName name r
 plain name r denotes moves = record { denotes = denotes; moves = λ old to d. absurd (moves old to d) }
 
 pub handle_off : (name : Name) → HoldsByHandle (IsOff name)
 handle_off name (request.Close handle) x = (plain name (request.Close handle) (λ d. d) (λ old to d. d), refl)
-handle_off name (request.Read handle offset len) x = (plain name (request.Read handle offset len) (λ d. d) (λ old to d. d), refl)
-handle_off name (request.Write handle offset content) x = (plain name (request.Write handle offset content) (λ d. d) (λ old to d. d), refl)
+handle_off name (request.Read handle offset len) x = (
+  plain name (request.Read handle offset len) (λ d. d)
+      (λ old to d. d),
+  refl,
+)
+handle_off name (request.Write handle offset content) x = (
+  plain name (request.Write handle offset content) (λ d. d)
+      (λ old to d. d),
+  refl,
+)
 handle_off name (request.Fstat handle) x = (plain name (request.Fstat handle) (λ d. d) (λ old to d. d), refl)
-handle_off name (request.Fsetstat handle attrs) x = (plain name (request.Fsetstat handle attrs) (λ d. d) (λ old to d. d), refl)
+handle_off name (request.Fsetstat handle attrs) x = (
+  plain name (request.Fsetstat handle attrs) (λ d. d)
+      (λ old to d. d),
+  refl,
+)
 handle_off name (request.Fsync handle) x = (plain name (request.Fsync handle) (λ d. d) (λ old to d. d), refl)
 handle_off name (request.Readdir handle) x = (plain name (request.Readdir handle) (λ d. d) (λ old to d. d), refl)
 handle_off name (request.CopyData from from_offset len to to_offset) x =
@@ -62,14 +75,17 @@ pub told_apart : (path : List ℕ) (name : Name) → is_of_other name path ≡ t
 told_apart path name apart e = (let same : same_name (components path) name ≡ true =
     (names_tell (components path) name).1 e in let both : not true ≡ true = ap not (sym same) ∙ apart in cc)
 
-outside_is : (name : Name) (path : List ℕ) (old : Name) → stands_outside name path ≡ true → components path ≡ old → is_within old name ≡ false
-outside_is name path old e is = subst (λ (x : Name). is_within x name ≡ false) is (by_test (is_within (components path) name) e)
+outside_is : (name : Name) (path : List ℕ) (old : Name) → stands_outside name path ≡ true → components path ≡ old
+    → is_within old name ≡ false
+outside_is name path old e is = subst (λ (x : Name). is_within x name ≡ false) is
+    (by_test (is_within (components path) name) e)
   where
     by_test : (b : Bool) → not b ≡ true → b ≡ false
     by_test true e = absurd cc
     by_test false e = refl
 
-open_off : (name : Name) (flags : OpenFlags) (path : List ℕ) → is_of_other name path ≡ true → IsOff name (open_request flags path)
+open_off : (name : Name) (flags : OpenFlags) (path : List ℕ) → is_of_other name path ≡ true
+    → IsOff name (open_request flags path)
 open_off name flags path e = (
   plain name (open_request flags path) (λ d. told_apart path name e d.1) (λ old to d. d),
   false_from_ne_true (same_name (components path) name) (λ t. told_apart path name e
@@ -77,8 +93,8 @@ open_off name flags path e = (
 )
 
 moves_off : (name : Name) (old to : List ℕ) (r : Request) → stands_outside name old ≡ true → stands_outside name to
-    ≡ true → (Denotes r name → ⊥) → ((a b : Name) → Moves r a b → (components old ≡ a) × (components to ≡ b))
-    → Avoids name r
+    ≡ true → (DenotesName r name → ⊥) → ((a b : Name) → MovesName r a b → (components old ≡ a) × (components to ≡ b))
+    → AvoidsName name r
 moves_off name old to r e f denotes moves = record {
   denotes = denotes;
   moves =
@@ -106,7 +122,8 @@ path_harmless name site facts (call.List path bound) at is on off = (
   ((plain name (request.Opendir (from_directory site path)) (λ d. d) (λ old to d. d), refl), λ h w. w),
   λ handle. ((plain name (request.Readdir handle) (λ d. d) (λ old to d. d), refl), λ h w. w),
 )
-path_harmless name site facts (call.Stat path) at is on off = ((plain name (request.Stat (from_directory site path)) (λ d. d) (λ old to d. d), refl), λ h w. w)
+path_harmless name site facts (call.Stat path) at is on off =
+    ((plain name (request.Stat (from_directory site path)) (λ d. d) (λ old to d. d), refl), λ h w. w)
 path_harmless name site facts (call.Lstat path) at is on off =
     ((plain name (request.Lstat (from_directory site path)) (λ d. d) (λ old to d. d), refl), λ h w. w)
 path_harmless name site facts (call.SetStat path size perm) at is on off =
@@ -144,7 +161,8 @@ path_harmless name site facts (call.Rmdir path) at is on off =
       λ h w. w,
     )
 path_harmless name site facts (call.Rename old to) at is on off =
-    subst (λ (d : List ℕ). IsHarmless name (rename_request facts (joined_path d old) (joined_path d to))) (sym is) (by_test (offers facts POSIX_RENAME))
+    subst (λ (d : List ℕ). IsHarmless name (rename_request facts (joined_path d old) (joined_path d to))) (sym is)
+    (by_test (offers facts POSIX_RENAME))
   where
     from : List ℕ
     from = joined_path at old
@@ -156,8 +174,17 @@ path_harmless name site facts (call.Rename old to) at is on off =
     both = and_parts (stands_outside name from) (stands_outside name onto) off
 
     by_test : (b : Bool) → IsHarmless name (if b then request.PosixRename from onto else request.Rename from onto)
-    by_test true = ((moves_off name from onto (request.PosixRename from onto) both.0 both.1 (λ d. d) (λ x y d. d), refl), λ h w. w)
-    by_test false = ((moves_off name from onto (request.Rename from onto) both.0 both.1 (λ d. d) (λ x y d. d), refl), λ h w. w)
+    by_test true = (
+      (
+        moves_off name from onto (request.PosixRename from onto) both.0 both.1 (λ d. d) (λ x y d. d),
+        refl,
+      ),
+      λ h w. w,
+    )
+    by_test false = (
+      (moves_off name from onto (request.Rename from onto) both.0 both.1 (λ d. d) (λ x y d. d), refl),
+      λ h w. w,
+    )
 path_harmless name site facts (call.HardLink old to) at is on off = (
   (plain name (request.Hardlink (from_directory site old) (from_directory site to)) (λ d. d) (λ a b d. d), refl),
   λ h w. w,
@@ -170,9 +197,16 @@ path_harmless name site facts (call.ReadLink path) at is on off =
     ((plain name (request.Readlink (from_directory site path)) (λ d. d) (λ old to d. d), refl), λ h w. w)
 path_harmless name site facts (call.Canonicalize path) at is on off = by_test (offers facts EXPAND_PATH)
   where
-    by_test : (b : Bool) → IsHarmless name (if b then request.ExpandPath (from_directory site path) else request.Realpath (from_directory site path))
-    by_test true = ((plain name (request.ExpandPath (from_directory site path)) (λ d. d) (λ old to d. d), refl), λ h w. w)
-    by_test false = ((plain name (request.Realpath (from_directory site path)) (λ d. d) (λ old to d. d), refl), λ h w. w)
+    by_test : (b : Bool) → IsHarmless name (if b then request.ExpandPath (from_directory site path) else
+        request.Realpath (from_directory site path))
+    by_test true = (
+      (plain name (request.ExpandPath (from_directory site path)) (λ d. d) (λ old to d. d), refl),
+      λ h w. w,
+    )
+    by_test false = (
+      (plain name (request.Realpath (from_directory site path)) (λ d. d) (λ old to d. d), refl),
+      λ h w. w,
+    )
 path_harmless name site facts other at is on off = absurd cc
 
 -- ---- what calls ask
@@ -212,7 +246,8 @@ path_off : (name : Name) (site : Site) (facts : Facts) (c : Call) (at : List ℕ
     ≡ true → keeps_off name at c ≡ true → AsksPath (IsOff name) site facts c
 path_off name site facts c at is still off = by_kind (is_on_paths c) refl
   where
-    not_on_paths : (d : Call) → is_on_paths d ≡ false → is_still d ≡ true → keeps_off name at d ≡ true → AsksPath (IsOff name) site facts d
+    not_on_paths : (d : Call) → is_on_paths d ≡ false → is_still d ≡ true → keeps_off name at d ≡ true
+        → AsksPath (IsOff name) site facts d
     not_on_paths (call.OpenFile slot flags path) on still off = open_off name (flags_of flags) path off
     not_on_paths (call.FsRead path bound) on still off = subst
         (λ (d : List ℕ). IsOff name (open_request to_read (joined_path d path))) (sym is)
@@ -252,7 +287,8 @@ call_off name c site facts own answers r at is off asks = by_kind (is_still c) r
   where
     goes_on : is_still c ≡ true → IsOff name r
     goes_on still = asks_so (IsOff name) c site facts own answers r
-        (call_goes (IsOff name) IsAnySite c site facts own answers (handle_off name) (path_off name site facts c at is still off)
+        (call_goes (IsOff name) IsAnySite c site facts own answers (handle_off name)
+        (path_off name site facts c at is still off)
         (λ slot left x y b. tt) tt)
         asks
 

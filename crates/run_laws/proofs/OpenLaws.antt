@@ -19,7 +19,7 @@ use Rattle.machine_model.proofs.PairLaws.{found_push_here}
 use Rattle.machine_model.specs.Changes.{IsWellFormed}
 use Rattle.machine_model.specs.Components.{Name, components, is_long_name, parent_of, same_name}
 use Rattle.machine_model.specs.FileTree.{FileTree, is_directory, node_at, opened_at, with_bytes, with_file, with_handle}
-use Rattle.machine_model.specs.HandleRequests.{Answer, after_open, grants, held_by, refuses, where_new}
+use Rattle.machine_model.specs.HandleRequests.{Answer, after_open, grant_answer, held_by, refusal_answer, where_new}
 use Rattle.machine_model.specs.TreeAnswers.{apply}
 use Rattle.machine_model.specs.declared.node.Node.{Node}
 use Rattle.machine_model.specs.declared.node.Node.TheVariants as node
@@ -38,7 +38,8 @@ use Rattle.run_laws.proofs.WriteLaws.{answers_as}
 -- ---- the OPEN
 
 -- the OPEN that was asked
-pub open_is : (flags : OpenFlags) (path : List ℕ) (site : Site) (r : Request) → ask_path (open_request flags path) site ≡ Ask r → r ≡ open_request flags path
+pub open_is : (flags : OpenFlags) (path : List ℕ) (site : Site) (r : Request) → ask_path (open_request flags path) site
+    ≡ Ask r → r ≡ open_request flags path
 open_is flags path site r e = asked_unless (is_too_long (open_request flags path))
     (outcome.Refused (error.IOError kind.PathTooLong)) site (open_request flags path) r e
 
@@ -50,11 +51,14 @@ step_opens config tree s flags path asks unrefused = ap (λ (w : Request). apply
     ∙ answers_as tree config (open_request flags path) s.choice s.handle unrefused
 
 -- a name that is to be made was made, where its handle was granted
-new_is : (tree : FileTree) (name : Name) (x : Answer) (h : List ℕ) → (where_new tree name x).0 ≡ reply.Handle h → where_new tree name x ≡ x
+new_is : (tree : FileTree) (name : Name) (x : Answer) (h : List ℕ) → (where_new tree name x).0 ≡ reply.Handle h
+    → where_new tree name x ≡ x
 new_is tree name x h e = by_tests (not (is_directory (node_at tree (parent_of name)))) (is_long_name name) e
   where
-    by_tests : (a b : Bool) → (if a then refuses tree SSH_FX_NO_SUCH_FILE else if b then refuses tree SSH_FX_FAILURE else x).0 ≡ reply.Handle h
-        → (if a then refuses tree SSH_FX_NO_SUCH_FILE else if b then refuses tree SSH_FX_FAILURE else x) ≡ x
+    by_tests : (a b : Bool) → (if a then refusal_answer tree SSH_FX_NO_SUCH_FILE else if b then
+        refusal_answer tree SSH_FX_FAILURE else x).0 ≡ reply.Handle h
+        → (if a then refusal_answer tree SSH_FX_NO_SUCH_FILE else if b then refusal_answer tree SSH_FX_FAILURE else x)
+        ≡ x
     by_tests true b e = absurd (let both : false ≡ true = ap is_handle e in cc)
     by_tests false true e = absurd (let both : false ≡ true = ap is_handle e in cc)
     by_tests false false e = refl
@@ -63,14 +67,15 @@ new_is tree name x h e = by_tests (not (is_directory (node_at tree (parent_of na
 
 opens_there : (tree : FileTree) (handle : List ℕ) (name : Name) (file : ℕ) → IsWellFormed tree → node_at tree name
     ≡ Some (node.File file) → opened_at tree handle ≡ None
-    → IsOpenTo ToWrite (grants (with_bytes tree file []) handle (held_by to_replace.0 file)).1 name handle []
+    → IsOpenTo ToWrite (grant_answer (with_bytes tree file []) handle (held_by to_replace.0 file)).1 name handle []
 opens_there tree handle name file well_formed e none =
     record {
       file = file;
       is = at_found tree (with_handle (with_bytes tree file []) handle (held_by to_replace.0 file)) name refl ∙ e;
       bytes_are = get_or-set_same tree.files file [] [] (well_formed.named name file (name_has tree name file e));
       held = record { file = file; readable = false; writable = true; append = false };
-      opened_is = found_push_here bytes_eq tree.handles handle (held_by to_replace.0 file) ((handles_tell handle handle).1 refl) none;
+      opened_is = found_push_here bytes_eq tree.handles handle (held_by to_replace.0 file)
+          ((handles_tell handle handle).1 refl) none;
       same = refl;
       open_so = (refl, refl);
     }
@@ -82,27 +87,32 @@ made_at tree (part ∷ parts) handle o e = found_push_here same_name tree.names 
     (node.File (length tree.files)) ((names_tell (part ∷ parts) (part ∷ parts)).1 refl) e
 
 opens_new : (tree : FileTree) (handle : List ℕ) (name : Name) → node_at tree name ≡ None → opened_at tree handle ≡ None
-    → IsOpenTo ToWrite (grants (with_file tree name) handle (held_by to_replace.0 (length tree.files))).1 name handle []
+    → IsOpenTo ToWrite (grant_answer (with_file tree name) handle (held_by to_replace.0 (length tree.files))).1 name
+    handle []
 opens_new tree handle name e none =
     record {
       file = length tree.files;
       is = made_at tree name handle (held_by to_replace.0 (length tree.files)) e;
       bytes_are = get_or_push tree.files [] [] (length tree.files) refl;
       held = record { file = length tree.files; readable = false; writable = true; append = false };
-      opened_is = found_push_here bytes_eq tree.handles handle (held_by to_replace.0 (length tree.files)) ((handles_tell handle handle).1 refl) none;
+      opened_is = found_push_here bytes_eq tree.handles handle (held_by to_replace.0 (length tree.files))
+          ((handles_tell handle handle).1 refl) none;
       same = refl;
       open_so = (refl, refl);
     }
 
 pub opens_to_write : (tree : FileTree) (handle : List ℕ) (name : Name) (n : Option Node) (h : List ℕ)
     → IsWellFormed tree → node_at tree name ≡ n → opened_at tree handle ≡ None
-    → (after_open tree handle to_replace.0 name n).0 ≡ reply.Handle h → IsOpenTo ToWrite (after_open tree handle to_replace.0 name n).1 name h []
-opens_to_write tree handle name (Some node.Directory) h well_formed e none granted = absurd (let both : false ≡ true = ap is_handle granted in cc)
+    → (after_open tree handle to_replace.0 name n).0 ≡ reply.Handle h
+    → IsOpenTo ToWrite (after_open tree handle to_replace.0 name n).1 name h []
+opens_to_write tree handle name (Some node.Directory) h well_formed e none granted =
+    absurd (let both : false ≡ true = ap is_handle granted in cc)
 opens_to_write tree handle name (Some (node.File file)) h well_formed e none granted =
-    subst (λ (w : List ℕ). IsOpenTo ToWrite (grants (with_bytes tree file []) handle (held_by to_replace.0 file)).1 name
+    subst (λ (w : List ℕ). IsOpenTo ToWrite (grant_answer (with_bytes tree file []) handle
+    (held_by to_replace.0 file)).1 name
     w []) (ap handle_in granted) (opens_there tree handle name file well_formed e none)
 opens_to_write tree handle name None h well_formed e none granted =
-    let x : Answer = grants (with_file tree name) handle (held_by to_replace.0 (length tree.files)) in
+    let x : Answer = grant_answer (with_file tree name) handle (held_by to_replace.0 (length tree.files)) in
     let is : where_new tree name x ≡ x = new_is tree name x h granted in
     let same : handle ≡ h = ap handle_in (sym (ap (λ (w : Answer). w.0) is) ∙ granted) in
     subst (λ (w : Answer). IsOpenTo ToWrite w.1 name h []) (sym is)
@@ -110,15 +120,17 @@ opens_to_write tree handle name None h well_formed e none granted =
 
 -- ---- to be read
 
-pub opens_to_read : (tree : FileTree) (handle : List ℕ) (name : Name) (bytes : List ℕ) → opened_at tree handle ≡ None → (has : HasBytes tree name bytes)
-    → IsOpenTo ToRead (grants tree handle (held_by to_read.0 has.file)).1 name handle bytes
+pub opens_to_read : (tree : FileTree) (handle : List ℕ) (name : Name) (bytes : List ℕ) → opened_at tree handle ≡ None
+    → (has : HasBytes tree name bytes)
+    → IsOpenTo ToRead (grant_answer tree handle (held_by to_read.0 has.file)).1 name handle bytes
 opens_to_read tree handle name bytes none has =
     record {
       file = has.file;
       is = at_found tree (with_handle tree handle (held_by to_read.0 has.file)) name refl ∙ has.is;
       bytes_are = has.bytes_are;
       held = record { file = has.file; readable = true; writable = false; append = false };
-      opened_is = found_push_here bytes_eq tree.handles handle (held_by to_read.0 has.file) ((handles_tell handle handle).1 refl) none;
+      opened_is = found_push_here bytes_eq tree.handles handle (held_by to_read.0 has.file)
+          ((handles_tell handle handle).1 refl) none;
       same = refl;
       open_so = refl;
     }

@@ -48,12 +48,12 @@ use Rattle.plan_model.specs.FilePlans.{
   ask_sync,
   close_grant_next,
   close_slot_next,
-  copied,
+  site_after_copy,
   copy_files_next,
   first_place,
   on_seek,
   open_request,
-  opened,
+  opened_move,
   opened_file,
   set_next,
 }
@@ -74,12 +74,12 @@ use Rattle.plan_model.specs.Moves.{
   on_file,
   on_status,
   overflows,
-  refuses,
+  refuse_locally,
   refuses_extension,
   told_by,
 }
 use Rattle.plan_model.specs.PathPlans.{named_by, path_done, path_named, path_told}
-use Rattle.plan_model.specs.TransferPlans.{Keeping, missing_next, next_part, part_len, read_first, rest_next, was_read, was_written, write_first}
+use Rattle.plan_model.specs.TransferPlans.{FileKeeper, missing_next, next_part, part_len, read_first, rest_next, was_read, was_written, write_first}
 use Rattle.plan_model.specs.WholePlans.{entries_next, once_opened}
 use Rattle.plan_model.specs.WindowPlans.{
   ask_more,
@@ -138,7 +138,7 @@ once_goes P E first go [] answers asks goes = asks
 once_goes P E first go (asked ∷ later) answers asks goes = answered_in (GoesSo P E) answers asked.0 (answers asked.0) go refl tt (λ r is. goes r)
 
 pub path_goes : (P : Request → Type 0) (E : Site → Type 0) (r : Request) (site : Site) → P r → E site → GoesSo P E (ask_path r site)
-path_goes P E r site p b = either (GoesSo P E) (is_too_long r) (refuses kind.PathTooLong site) (Ask r) (λ e. b) (λ e. p)
+path_goes P E r site p b = either (GoesSo P E) (is_too_long r) (refuse_locally kind.PathTooLong site) (Ask r) (λ e. b) (λ e. p)
 
 done_goes : (P : Request → Type 0) (E : Site → Type 0) (site left : Site) (o : Outcome) (r : Reply) → E site
     → E left → GoesSo P E (on_status r site (Done o left))
@@ -180,9 +180,9 @@ file_goes P E site slot go b goes = at_file (GoesSo P E) (slot_at site slot) sit
 
 pub open_goes : (P : Request → Type 0) (E : Site → Type 0) (slot : ℕ) (flags : OpenFlags) (path : List ℕ) (site : Site) (own : Own)
     (answers : Answers) → P (open_request flags path) → IsKeptAt E slot → E site
-    → GoesSo P E (by_reply (ask_path (open_request flags path) site) (opened slot flags site (first_place own)) own answers)
+    → GoesSo P E (by_reply (ask_path (open_request flags path) site) (opened_move slot flags site (first_place own)) own answers)
 open_goes P E slot flags path site own answers p k b =
-    once_goes P E (ask_path (open_request flags path) site) (opened slot flags site (first_place own)) own answers
+    once_goes P E (ask_path (open_request flags path) site) (opened_move slot flags site (first_place own)) own answers
     (path_goes P E (open_request flags path) site p b)
     (λ r. on_granted (GoesSo P E) r site _ (λ o. b) (λ handle. k site (File (opened_file flags (first_place own))) b))
 
@@ -212,7 +212,7 @@ pub set_goes : (P : Request → Type 0) (E : Site → Type 0) (facts : Facts) (s
     (answers : Answers) → HoldsByHandle P → E site → GoesSo P E (set_next slot attrs site facts own answers)
 set_goes P E facts slot attrs site own answers h b = file_goes P E site slot _ b
     (λ file. once_goes P E (ask_set attrs file site answers) (done_by site) own answers
-    (either (GoesSo P E) (not file.writable) (refuses kind.NotWritable site)
+    (either (GoesSo P E) (not file.writable) (refuse_locally kind.NotWritable site)
     (Ask (request.Fsetstat (handle_of (answers file.grant)) attrs)) (λ e. b)
     (λ e. h (request.Fsetstat (handle_of (answers file.grant)) attrs) tt))
     (λ r. done_goes P E site site outcome.Done r b b))
@@ -221,7 +221,7 @@ pub meta_goes : (P : Request → Type 0) (E : Site → Type 0) (file : FileAt) (
     → HoldsByHandle P → E site → GoesSo P E (by_reply (ask_meta file site answers) (told_by site) own
     answers)
 meta_goes P E file site own answers h b = once_goes P E (ask_meta file site answers) (told_by site) own answers
-    (either (GoesSo P E) (not file.readable) (refuses kind.NotReadable site)
+    (either (GoesSo P E) (not file.readable) (refuse_locally kind.NotReadable site)
     (Ask (request.Fstat (handle_of (answers file.grant)))) (λ e. b)
     (λ e. h (request.Fstat (handle_of (answers file.grant))) tt))
     (λ y. by_attrs (GoesSo P E) y site (λ o. b))
@@ -231,7 +231,7 @@ pub sync_goes : (P : Request → Type 0) (E : Site → Type 0) (facts : Facts) (
     → GoesSo P E (by_reply (ask_sync file site facts answers) (done_by site) own answers)
 sync_goes P E facts file site own answers h b = once_goes P E (ask_sync file site facts answers) (done_by site) own answers
     (either (GoesSo P E) (not (offers facts FSYNC)) (refuses_extension FSYNC site) _ (λ e. b)
-    (λ e. either (GoesSo P E) (not file.writable) (refuses kind.NotWritable site)
+    (λ e. either (GoesSo P E) (not file.writable) (refuse_locally kind.NotWritable site)
     (Ask (request.Fsync (handle_of (answers file.grant)))) (λ n. b)
     (λ n. h (request.Fsync (handle_of (answers file.grant))) tt)))
     (λ r. done_goes P E site site outcome.Done r b b)
@@ -241,14 +241,14 @@ pub copy_goes : (P : Request → Type 0) (E : Site → Type 0) (facts : Facts) (
     → GoesSo P E (copy_files_next from to n site facts own answers source target)
 copy_goes P E facts from to n site own answers source target h k l b = once_goes P E (ask_copy source target n site facts answers) _ own answers
     (either (GoesSo P E) (not (offers facts COPY_DATA)) (refuses_extension COPY_DATA site) _ (λ e. b)
-    (λ e. either (GoesSo P E) (not target.writable) (refuses kind.NotWritable site) _ (λ f. b)
-    (λ f. either (GoesSo P E) (not source.readable) (refuses kind.NotReadable site) _ (λ g. b)
-    (λ g. either (GoesSo P E) (overflows source.offset n) (refuses kind.OffsetOverflow site) _ (λ i. b)
-    (λ i. either (GoesSo P E) (overflows target.offset n) (refuses kind.OffsetOverflow site)
+    (λ e. either (GoesSo P E) (not target.writable) (refuse_locally kind.NotWritable site) _ (λ f. b)
+    (λ f. either (GoesSo P E) (not source.readable) (refuse_locally kind.NotReadable site) _ (λ g. b)
+    (λ g. either (GoesSo P E) (overflows source.offset n) (refuse_locally kind.OffsetOverflow site) _ (λ i. b)
+    (λ i. either (GoesSo P E) (overflows target.offset n) (refuse_locally kind.OffsetOverflow site)
     (Ask (request.CopyData (handle_of (answers source.grant)) source.offset n (handle_of (answers target.grant))
     target.offset)) (λ j. b)
     (λ j. h (request.CopyData (handle_of (answers source.grant)) source.offset n (handle_of (answers target.grant)) target.offset) tt))))))
-    (λ r. done_goes P E site (copied from to source target n site) outcome.Done r b
+    (λ r. done_goes P E site (site_after_copy from to source target n site) outcome.Done r b
     (l (with_slot site from (File (further source n))) (File (further target n)) (k site (File (further source n)) b)))
 
 pub seek_goes : (P : Request → Type 0) (E : Site → Type 0) (position : SeekFrom) (offset : ℕ) (site : Site) (go : ℕ → Move)
@@ -256,25 +256,25 @@ pub seek_goes : (P : Request → Type 0) (E : Site → Type 0) (position : SeekF
 seek_goes P E (Start n) offset site go b goes = goes n
 seek_goes P E (End n) offset site go b goes = b
 seek_goes P E (Current (pos n)) offset site go b goes = either (GoesSo P E) (overflows offset n)
-    (refuses kind.SeekOverflow site) (go (offset + n)) (λ e. b) (λ e. goes (offset + n))
+    (refuse_locally kind.SeekOverflow site) (go (offset + n)) (λ e. b) (λ e. goes (offset + n))
 seek_goes P E (Current (negsuc n)) offset site go b goes = either (GoesSo P E) (nat_le offset n)
-    (refuses kind.SeekUnderflow site) (go (offset - (n + 1))) (λ e. b) (λ e. goes (offset - (n + 1)))
+    (refuse_locally kind.SeekUnderflow site) (go (offset - (n + 1))) (λ e. b) (λ e. goes (offset - (n + 1)))
 
 -- ---- reads and writes
 
 read_goes : (P : Request → Type 0) (E : Site → Type 0) (file : FileAt) (len : ℕ) (site : Site) (answers : Answers)
     → HoldsByHandle P → E site → GoesSo P E (ask_read file len site answers)
 read_goes P E file len site answers h b =
-    either (GoesSo P E) (not file.readable) (refuses kind.NotReadable site) _ (λ e. b)
-    (λ e. either (GoesSo P E) (overflows file.offset len) (refuses kind.OffsetOverflow site)
+    either (GoesSo P E) (not file.readable) (refuse_locally kind.NotReadable site) _ (λ e. b)
+    (λ e. either (GoesSo P E) (overflows file.offset len) (refuse_locally kind.OffsetOverflow site)
     (Ask (request.Read (handle_of (answers file.grant)) file.offset len)) (λ o. b)
     (λ o. h (request.Read (handle_of (answers file.grant)) file.offset len) tt))
 
 write_goes : (P : Request → Type 0) (E : Site → Type 0) (file : FileAt) (bytes : List ℕ) (site : Site) (answers : Answers)
     → HoldsByHandle P → E site → GoesSo P E (ask_write file bytes site answers)
 write_goes P E file bytes site answers h b =
-    either (GoesSo P E) (not file.writable) (refuses kind.NotWritable site) _ (λ e. b)
-    (λ e. either (GoesSo P E) (overflows file.offset (length bytes)) (refuses kind.OffsetOverflow site)
+    either (GoesSo P E) (not file.writable) (refuse_locally kind.NotWritable site) _ (λ e. b)
+    (λ e. either (GoesSo P E) (overflows file.offset (length bytes)) (refuse_locally kind.OffsetOverflow site)
     (Ask (request.Write (handle_of (answers file.grant)) file.offset bytes)) (λ o. b)
     (λ o. h (request.Write (handle_of (answers file.grant)) file.offset bytes) tt))
 
@@ -294,7 +294,7 @@ missing_goes P E facts slot file got n site [] answers h k b =
     either (GoesSo P E) (n == 0) (Done (outcome.Bytes got) site) (ask_read file (min n facts.read_len) site answers)
     (λ z. b) (λ z. read_goes P E file (min n facts.read_len) site answers h b)
 missing_goes P E facts slot file got n site (asked ∷ later) answers h k b =
-    answered_in (GoesSo P E) answers asked.0 (answers asked.0) _ refl tt (λ r is. by_content (GoesSo P E) r site (refuses kind.UnexpectedEof site) _ (λ o. b) b
+    answered_in (GoesSo P E) answers asked.0 (answers asked.0) _ refl tt (λ r is. by_content (GoesSo P E) r site (refuse_locally kind.UnexpectedEof site) _ (λ o. b) b
     (λ bytes. missing_goes P E facts slot (further file (length bytes)) _ _ (with_slot site slot (File (further file (length bytes)))) later answers h k
     (k site (File (further file (length bytes))) b)))
 
@@ -308,7 +308,7 @@ was_written_goes P E facts slot bytes file site own answers h k b =
     (λ r. done_goes P E site (with_slot site slot (File (further file (part_len facts bytes)))) (outcome.Count (part_len facts bytes)) r b
     (k site (File (further file (part_len facts bytes))) b))
 
-pub parts_go : (P : Request → Type 0) (E : Site → Type 0) (facts : Facts) (keep : Keeping) (file : FileAt) (bytes : List ℕ)
+pub parts_go : (P : Request → Type 0) (E : Site → Type 0) (facts : Facts) (keep : FileKeeper) (file : FileAt) (bytes : List ℕ)
     (site : Site) (own : Own) (answers : Answers) → HoldsByHandle P
     → ((f : FileAt) (x : Site) → E x → E (keep f x))
     → E site → GoesSo P E (rest_next keep file bytes site facts own answers)
@@ -415,7 +415,7 @@ pub buf_read_goes : (P : Request → Type 0) (E : Site → Type 0) (facts : Fact
     (site : Site) (own : Own) (answers : Answers) → HoldsByHandle P → IsKeptAt E slot → E site
     → GoesSo P E (buf_read_file_next slot n site facts own answers file buffer)
 buf_read_goes P E facts slot n file buffer site own answers h k b =
-    either (GoesSo P E) (not file.readable) (refuses kind.NotReadable site) _ (λ e. b)
+    either (GoesSo P E) (not file.readable) (refuse_locally kind.NotReadable site) _ (λ e. b)
     (λ e. either (GoesSo P E) (n == 0) (Done (outcome.Bytes []) site)
     (from_buffer slot n file buffer site facts buffer.bytes own answers) (λ z. b)
     (λ z. from_goes P E facts slot n file buffer site buffer.bytes own answers h k b))
@@ -448,7 +448,7 @@ pub buf_write_goes : (P : Request → Type 0) (E : Site → Type 0) (facts : Fac
     (own : Own) (answers : Answers) → HoldsByHandle P → IsKeptAt E slot → E site
     → GoesSo P E (next (call.BufWrite slot bytes) site facts own answers)
 buf_write_goes P E facts slot bytes site own answers h k b = buffered_goes P E site slot _ b (λ file buffer.
-    either (GoesSo P E) (not file.writable) (refuses kind.NotWritable site) _ (λ e. b)
+    either (GoesSo P E) (not file.writable) (refuse_locally kind.NotWritable site) _ (λ e. b)
     (λ e. either (GoesSo P E) (length bytes == 0) (Done (outcome.Count 0) site) _ (λ z. b)
     (λ z. capacity_goes P E facts slot file buffer site answers _ k b (λ freed x l. send_goes P E facts slot file bytes own answers freed x h k l))))
 
@@ -457,7 +457,7 @@ pub rest_goes : (P : Request → Type 0) (E : Site → Type 0) (facts : Facts) (
     → GoesSo P E (buffered_rest slot bytes file buffer site facts own answers)
 rest_goes P E facts slot bytes file buffer site [] answers h k b =
     either (GoesSo P E) (length bytes == 0) (Done outcome.Done site) _ (λ z. b)
-    (λ z. either (GoesSo P E) (not file.writable) (refuses kind.NotWritable site) _ (λ e. b)
+    (λ z. either (GoesSo P E) (not file.writable) (refuse_locally kind.NotWritable site) _ (λ e. b)
     (λ e. capacity_goes P E facts slot file buffer site answers _ k b
     (λ freed x l. write_goes P E file (take (deferrable_len facts bytes freed) bytes) x answers h l)))
 rest_goes P E facts slot bytes file buffer site (asked ∷ later) answers h k b =

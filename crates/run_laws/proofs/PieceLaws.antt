@@ -66,7 +66,8 @@ put_ordered : (got : Piece) (xs : List Piece) → 1 ≤ length got.1 → ((y : P
     → ((y : Piece) → Among y xs → AreApart got y) → InOrder xs → InOrder (put_in_order got xs)
 put_ordered got [] some all apart ordered = (λ y h. absurd h, tt)
 put_ordered got (first ∷ rest) some all apart ordered =
-    by_test (nat_le got.0 first.0) refl (put_ordered got rest some (λ y k. all y (inr k)) (λ y k. apart y (inr k)) ordered.1)
+    by_test (nat_le got.0 first.0) refl (put_ordered got rest some (λ y k. all y (inr k)) (λ y k. apart y (inr k))
+    ordered.1)
   where
     before : got.0 ≤ first.0 → (y : Piece) → Among y (first ∷ rest) → content_end got ≤ y.0
     before le y (inl e) =
@@ -80,7 +81,11 @@ put_ordered got (first ∷ rest) some all apart ordered =
     before le y (inr k) =
         (let ordered_on : first.0 + length first.1 ≤ y.0 = ordered.0 y k in
         let full = all y (inr k) in
-        elim (apart y (inr k)) [ inl a ↦ a | inr b ↦ absurd (let c : y.0 + length y.1 ≤ got.0 = b in omega (arith, c, le, full, ordered_on)) ])
+        elim (apart y (inr k)) [
+          | inl a ↦ a
+          | inr b ↦ absurd (let c : y.0 + length y.1 ≤ got.0 = b in
+              omega (arith, c, le, full, ordered_on))
+        ])
 
     later : first.0 < got.0 → (y : Piece) → Among y (put_in_order got rest) → content_end first ≤ y.0
     later lt y h = elim (among_put y got rest h) [
@@ -142,7 +147,8 @@ begins_in : (xs : List Piece) (x : Piece) (offset : ℕ) → BeginsAt (x ∷ xs)
 begins_in xs x offset b lt = by_case b.there
   where
     by_case : (b.piece ≡ x) ⊎ Among b.piece xs → BeginsAt xs offset
-    by_case (inl e) = absurd (let same : b.piece.0 ≡ x.0 = ap (λ (w : Piece). w.0) e in let at = b.at in omega (arith, same, at, lt))
+    by_case (inl e) = absurd (let same : b.piece.0 ≡ x.0 = ap (λ (w : Piece). w.0) e in let at = b.at in
+        omega (arith, same, at, lt))
     by_case (inr k) = record { piece = b.piece; there = k; at = b.at }
 
 covers : (bytes : List ℕ) (from : ℕ) (xs : List Piece) → Cover bytes from xs → joined xs ≡ drop from bytes
@@ -186,8 +192,10 @@ covers bytes from (x ∷ xs) c =
 begins_order : (xs : List Piece) (offset : ℕ) → BeginsAt xs offset → BeginsAt (in_order xs) offset
 begins_order xs offset b = record { piece = b.piece; there = order_among b.piece xs b.there; at = b.at }
 
-pub pieces_join : (bytes : List ℕ) (xs : List Piece) → ((x : Piece) → Among x xs → IsPiece bytes x) → StandApart xs → (0 < length bytes → BeginsAt xs 0)
-    → ((x : Piece) → Among x xs → content_end x < length bytes → BeginsAt xs (content_end x)) → flat_map (λ got. got.1) (in_order xs) ≡ bytes
+pub pieces_join : (bytes : List ℕ) (xs : List Piece) → ((x : Piece) → Among x xs → IsPiece bytes x) → StandApart xs
+    → (0 < length bytes → BeginsAt xs 0)
+    → ((x : Piece) → Among x xs → content_end x < length bytes → BeginsAt xs (content_end x))
+    → flat_map (λ got. got.1) (in_order xs) ≡ bytes
 pieces_join bytes xs pieces apart here next =
     covers bytes 0 (in_order xs)
     (record {

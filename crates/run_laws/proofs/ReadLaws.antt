@@ -42,15 +42,15 @@ use Rattle.sftp_model.specs.declared.request.Request.TheVariants as request
 use Rattle.machine_model.specs.Changes.{IsWellFormed}
 use Rattle.machine_model.specs.Components.{Name}
 use Rattle.machine_model.specs.FileTree.{FileTree, bytes_of, opened_at, size_of}
-use Rattle.machine_model.specs.HandleRequests.{Answer, after_read, capped, refuses}
-use Rattle.machine_model.specs.TreeAnswers.{answered, apply}
+use Rattle.machine_model.specs.HandleRequests.{Answer, after_read, capped_at, refusal_answer}
+use Rattle.machine_model.specs.TreeAnswers.{tree_answer, apply}
 use Rattle.machine_model.specs.declared.opened.Held.{Held}
 use Rattle.machine_model.specs.declared.opened.Opened.TheVariants as opened
 use Rattle.plan_model.specs.Moves.{Answers, Own}
 use Rattle.plan_model.specs.WindowPlans.{begins}
 use Rattle.session_model.specs.Served.{IsReply}
-use Rattle.run_laws.specs.CallsAmong.{IsOpenTo, Stand, ToRead}
-use Rattle.run_laws.specs.Steps.{Step, answer_to, AreServed, Choose}
+use Rattle.run_laws.specs.CallsAmong.{IsOpenTo, AreAmongSteps, ToRead}
+use Rattle.run_laws.specs.Steps.{Step, answer_to, AreServed, ChooseOnly}
 use Rattle.run_laws.proofs.PieceLaws.{IsPiece}
 use Rattle.run_laws.proofs.StepLaws.{refused_as, step_well_formed}
 use Rattle.run_laws.proofs.WriteLaws.{answers_as, step_open}
@@ -94,17 +94,19 @@ AreReads handle (asked ∷ later) = IsRead handle asked.1 × AreReads handle lat
 
 abbrev pub AreParts : List ℕ → Own → Answers → Type 0
 AreParts bytes [] answers = Unit {0}
-AreParts bytes (asked ∷ later) answers = IsTakenPart bytes (begins asked) (answers asked.0) × AreParts bytes later answers
+AreParts bytes (asked ∷ later) answers = IsTakenPart bytes (begins asked) (answers asked.0)
+    × AreParts bytes later answers
 
 abbrev pub AreTakenSo : (Choice → Type 0) → List ℕ → Own → Answers → Type 0
 AreTakenSo allowed bytes [] answers = Unit {0}
-AreTakenSo allowed bytes (asked ∷ later) answers = IsTakenSo allowed bytes (begins asked) (answers asked.0) × AreTakenSo allowed bytes later answers
+AreTakenSo allowed bytes (asked ∷ later) answers = IsTakenSo allowed bytes (begins asked) (answers asked.0)
+    × AreTakenSo allowed bytes later answers
 
 -- ---- one READ
 
 answers_read : (tree : FileTree) (config : ServerConfig) (h : List ℕ) (offset len cap : ℕ) (handle : List ℕ)
     (held : Held) → opened_at tree h ≡ Some (opened.File held)
-    → answered tree config (request.Read h offset len) cap handle ≡ after_read tree cap offset len (Some held)
+    → tree_answer tree config (request.Read h offset len) cap handle ≡ after_read tree cap offset len (Some held)
 answers_read tree config h offset len cap handle held e = rw e refl
 
 -- what a READ answers and leaves
@@ -116,17 +118,19 @@ record ReadsSo (allowed : Choice → Type 0) (tree : FileTree) (bytes : List ℕ
   part : IsPartOrRefused allowed bytes offset x.0
   leaves : x.1 ≡ tree
 
-some_let_through : (cap len : ℕ) → 0 < len → 1 ≤ capped cap len
+some_let_through : (cap len : ℕ) → 0 < len → 1 ≤ capped_at cap len
 some_let_through cap len some = grind (arith, nat_tests)
 
-part_is : (bytes : List ℕ) (cap offset len : ℕ) → 0 < len → offset < length bytes → IsPiece bytes (offset, take (capped cap len) (drop offset bytes))
+part_is : (bytes : List ℕ) (cap offset len : ℕ) → 0 < len → offset < length bytes
+    → IsPiece bytes (offset, take (capped_at cap len) (drop offset bytes))
 part_is bytes cap offset len some lt = (
   (let n = some_let_through cap len some in
-      let a : length (take (capped cap len) (drop offset bytes)) ≡ min (capped cap len) (length (drop offset bytes)) =
-      length-take (capped cap len) (drop offset bytes) in
+      let a : length (take (capped_at cap len) (drop offset bytes))
+      ≡ min (capped_at cap len) (length (drop offset bytes)) =
+      length-take (capped_at cap len) (drop offset bytes) in
       let b : length (drop offset bytes) ≡ length bytes - offset = length-drop offset bytes in
       omega (arith, n, a, b, lt)),
-  (drop (capped cap len) (drop offset bytes), sym (take-append-drop (capped cap len) (drop offset bytes))),
+  (drop (capped_at cap len) (drop offset bytes), sym (take-append-drop (capped_at cap len) (drop offset bytes))),
 )
 
 reads : (tree : FileTree) (cap offset len : ℕ) (held : Held) (bytes : List ℕ) → held.readable ≡ true → 0 < len
@@ -138,7 +142,8 @@ reads tree cap offset len held bytes way some is =
     size_is = ap length is
 
     by_test : (b : Bool) → nat_le (size_of tree held.file) offset ≡ b
-        → Reads tree bytes offset (if b then refuses tree SSH_FX_EOF else (reply.Content (take (capped cap len) (drop offset (bytes_of tree held.file))), tree))
+        → Reads tree bytes offset (if b then refusal_answer tree SSH_FX_EOF else
+        (reply.Content (take (capped_at cap len) (drop offset (bytes_of tree held.file))), tree))
     by_test true e =
         record {
           part = (
@@ -150,7 +155,7 @@ reads tree cap offset len held bytes way some is =
         }
     by_test false e =
         record {
-          part = subst (λ (w : List ℕ). IsPiece bytes (offset, take (capped cap len) (drop offset w))) (sym is)
+          part = subst (λ (w : List ℕ). IsPiece bytes (offset, take (capped_at cap len) (drop offset w))) (sym is)
               (part_is bytes cap offset len some
               (let lt : offset < size_of tree held.file = grind (arith, nat_tests) in let same : size_of tree held.file
               ≡ length bytes = size_is in omega (arith, lt, same)));
@@ -166,7 +171,8 @@ step_reads config tree name h bytes offset len s has asks some unrefused =
     ∙ (answers_as tree config (request.Read h offset len) s.choice s.handle unrefused
     ∙ answers_read tree config h offset len s.choice.cap s.handle has.held has.opened_is)
     in
-    subst (Reads tree bytes offset) (sym is) (reads tree s.choice.cap offset len has.held bytes has.open_so some (ap (bytes_of tree) has.same ∙ has.bytes_are))
+    subst (Reads tree bytes offset) (sym is) (reads tree s.choice.cap offset len has.held bytes has.open_so some
+    (ap (bytes_of tree) has.same ∙ has.bytes_are))
 
 -- and where one of these choices may have refused it
 step_reads_so : (allowed : Choice → Type 0) (config : ServerConfig) (tree : FileTree) (name : Name) (h bytes : List ℕ)
@@ -174,9 +180,11 @@ step_reads_so : (allowed : Choice → Type 0) (config : ServerConfig) (tree : Fi
     → allowed s.choice → ReadsSo allowed tree bytes offset (answer_to config tree s)
 step_reads_so allowed config tree name h bytes offset len s has asks some may =
     elim (eqb_tells s.choice.refuse SSH_FX_OK) [
-      | inl t ↦ (let read = step_reads config tree name h bytes offset len s has asks some t.1 in record { part = inl read.part; leaves = read.leaves })
+      | inl t ↦ (let read = step_reads config tree name h bytes offset len s has asks some t.1 in
+          record { part = inl read.part; leaves = read.leaves })
       | inr t ↦
-          (let is : answer_to config tree s ≡ refuses tree s.choice.refuse = refused_as tree config s.request s.choice s.handle t.0 in
+          (let is : answer_to config tree s ≡ refusal_answer tree s.choice.refuse =
+          refused_as tree config s.request s.choice s.handle t.0 in
           record {
             part = inr (record {
               choice = s.choice;
@@ -196,25 +204,30 @@ taken_so allowed bytes offset (Some r) x is part = subst (IsPartOrRefused allowe
 
 -- ---- the READs of a call
 
--- They stand in a run of the machine in their order, whatever their offsets are, and all others spare the name: each reply
--- that was taken is a part of the file, or one of these choices refused its READ.
+-- They stand in a run of the machine in their order, whatever their offsets are, and all others spare the name: each
+-- reply that was taken is a part of the file, or one of these choices refused its READ.
 pub reads_parts : (allowed : Choice → Type 0) (config : ServerConfig) (answers : Answers) (name : Name)
-    (h bytes : List ℕ) (steps : List Step) (own : Own) (tree : FileTree) → Choose allowed steps → IsWellFormed tree
+    (h bytes : List ℕ) (steps : List Step) (own : Own) (tree : FileTree) → ChooseOnly allowed steps → IsWellFormed tree
     → IsOpenTo ToRead tree name h bytes
-    → AreServed config answers tree steps → Stand config name h own tree steps → AreReads h own → AreTakenSo allowed bytes own answers
+    → AreServed config answers tree steps → AreAmongSteps config name h own tree steps → AreReads h own
+    → AreTakenSo allowed bytes own answers
 reads_parts allowed config answers name h bytes steps [] tree chosen well_formed has served stand asks = tt
-reads_parts allowed config answers name h bytes [] (asked ∷ later) tree chosen well_formed has served stand asks = absurd stand
-reads_parts allowed config answers name h bytes (s ∷ steps) (asked ∷ later) tree chosen well_formed has served stand asks =
+reads_parts allowed config answers name h bytes [] (asked ∷ later) tree chosen well_formed has served stand asks =
+    absurd stand
+reads_parts allowed config answers name h bytes (s ∷ steps) (asked ∷ later) tree chosen well_formed has served stand
+    asks =
     elim stand [
       | inl own ↦
           (let is = asks.0.is in
-          let read = step_reads_so allowed config tree name h bytes asks.0.offset asks.0.len s has (own.1 ∙ is) asks.0.some chosen.0 in
+          let read = step_reads_so allowed config tree name h bytes asks.0.offset asks.0.len s has (own.1 ∙ is)
+          asks.0.some chosen.0 in
           let part : IsTakenSo allowed bytes asks.0.offset (answers asked.0) =
           subst (λ (w : ℕ). IsTakenSo allowed bytes asks.0.offset (answers w)) own.0
           (taken_so allowed bytes asks.0.offset (answers s.place) (answer_to config tree s).0 served.1 read.part) in
           let at : begins asked ≡ asks.0.offset = ap (λ (w : Request). begins (asked.0, w)) is in (
             subst (λ (w : ℕ). IsTakenSo allowed bytes w (answers asked.0)) (sym at) part,
-            reads_parts allowed config answers name h bytes steps later (answer_to config tree s).1 chosen.1 (step_well_formed config tree s well_formed)
+            reads_parts allowed config answers name h bytes steps later (answer_to config tree s).1 chosen.1
+                (step_well_formed config tree s well_formed)
                 (subst (λ (w : FileTree). IsOpenTo ToRead w name h bytes) (sym read.leaves) has) served.2 own.2 asks.1,
           ))
       | inr other ↦

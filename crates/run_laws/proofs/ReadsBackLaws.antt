@@ -51,7 +51,7 @@ use Rattle.session_model.specs.declared.turn.Turn.{Turn}
 use Rattle.session_model.specs.Calls.{Setting, lane_calls}
 use Rattle.session_model.specs.Readings.{outcomes_below, outcomes_of}
 use Rattle.session_model.specs.Runs.{IsRun}
-use Rattle.session_model.specs.Served.{Serves}
+use Rattle.session_model.specs.Served.{ServesJournal}
 use Rattle.session_model.specs.Settings.{setting_of}
 use Rattle.run_laws.specs.FilesLeft.{IsUntouched}
 use Rattle.run_laws.proofs.PlainRuns.{plain_calls, run_plain}
@@ -355,7 +355,7 @@ some_len (Some most) len = omega arith
 pub run_reads_back : (lanes : List Lane) (options : SftpOptions) (extensions : Extensions) (turns : List Turn)
     (past : List Entry) (config : ServerConfig) (choices : List Choice) (tree left : FileTree)
     → IsRun (setting_of lanes options extensions past) turns past
-    → IsWellFormed tree → Serves config choices tree past left → ReadsBack lanes choices tree (outcomes_below past (length lanes))
+    → IsWellFormed tree → ServesJournal config choices tree past left → ReadsBack lanes choices tree (outcomes_below past (length lanes))
 run_reads_back lanes options extensions turns past config choices tree left run well served =
     record {
       written = λ name lane writer reader bytes ended none alone w r. laws.reads_back s turns past config choices tree
@@ -393,7 +393,7 @@ run_reads_back lanes options extensions turns past config choices tree left run 
 pub run_leaves_files : (lanes : List Lane) (options : SftpOptions) (extensions : Extensions) (turns : List Turn)
     (past : List Entry) (config : ServerConfig) (choices : List Choice) (tree left : FileTree)
     → IsRun (setting_of lanes options extensions past) turns past
-    → IsWellFormed tree → Serves config choices tree past left → LeavesFiles lanes tree left (outcomes_below past (length lanes))
+    → IsWellFormed tree → ServesJournal config choices tree past left → LeavesFiles lanes tree left (outcomes_below past (length lanes))
 run_leaves_files lanes options extensions turns past config choices tree left run well served =
     record {
       written = λ name lane writer bytes alone w. laws.writes_left s turns past config choices tree left name lane
@@ -438,7 +438,7 @@ run_leaves_files lanes options extensions turns past config choices tree left ru
 pub run_reads_flushed : (lanes : List Lane) (options : SftpOptions) (extensions : Extensions) (turns : List Turn)
     (past : List Entry) (config : ServerConfig) (choices : List Choice) (tree left : FileTree)
     → IsRun (setting_of lanes options extensions past) turns past
-    → IsWellFormed tree → Serves config choices tree past left → ReadsFlushed lanes choices (outcomes_below past (length lanes))
+    → IsWellFormed tree → ServesJournal config choices tree past left → ReadsFlushed lanes choices (outcomes_below past (length lanes))
 run_reads_flushed lanes options extensions turns past config choices tree left run well served =
     record {
       flushed = λ name lane n reader bytes ended none alone f r. (let q = has_read lanes s past name lane reader ended are r in

@@ -45,7 +45,7 @@ use Rattle.machine_model.specs.declared.node.Node.{Node}
 use Rattle.machine_model.specs.declared.node.Node.TheVariants as node
 use Rattle.plan_model.specs.FilePlans.{open_request}
 use Rattle.sftp_model.specs.Frames.{is_too_long}
-use Rattle.plan_model.specs.Moves.{Own, ask_path, refuses}
+use Rattle.plan_model.specs.Moves.{Own, ask_path, refuse_locally}
 use Rattle.plan_model.specs.PathPlans.{from_directory}
 use Rattle.plan_model.specs.WholePlans.{to_replace}
 use Rattle.plan_model.specs.WindowPlans.{to_read}
@@ -57,7 +57,7 @@ use Rattle.session_model.specs.Calls.{Setting, call_at, lane_calls, site_of}
 use Rattle.session_model.specs.Journals.{IsJournal}
 use Rattle.session_model.specs.Readings.{answer, own}
 use Rattle.session_model.specs.Runs.{IsRun}
-use Rattle.session_model.specs.Served.{Serves}
+use Rattle.session_model.specs.Served.{ServesJournal}
 use Rattle.session_model.proofs.OverLaws.{runs_are_journals}
 use Rattle.run_laws.specs.CallsAmong.{GivesContent, GivesUnless, HasEnded, HasNoFile, IsRefusedBy, refusal_of}
 use Rattle.run_laws.specs.FilesLeft.{IsUntouched, LaneLast}
@@ -79,10 +79,12 @@ use Rattle.run_laws.proofs.LaneCalls.{all_more, all_own_still, each_is, plain_pa
 -- ---- a call that made no request
 
 -- a whole write that is done made one
-first_of_write : (path bytes : List ℕ) (site left : Site) → ask_path (open_request to_replace (from_directory site path)) site ≡ Done outcome.Done left → ⊥
+first_of_write : (path bytes : List ℕ) (site left : Site) → ask_path
+    (open_request to_replace (from_directory site path)) site ≡ Done outcome.Done left → ⊥
 first_of_write path bytes site left e = by_test (is_too_long (open_request to_replace (from_directory site path))) e
   where
-    by_test : (b : Bool) → (if b then refuses kind.PathTooLong site else Ask (open_request to_replace (from_directory site path))) ≡ Done outcome.Done left → ⊥
+    by_test : (b : Bool) → (if b then refuse_locally kind.PathTooLong site else
+        Ask (open_request to_replace (from_directory site path))) ≡ Done outcome.Done left → ⊥
     by_test true e = (let both : false ≡ true = ap (λ (w : Move). is_all_done (outcome_of w)) e in cc)
     by_test false e = (let both : false ≡ true = ap is_done e in cc)
 
@@ -92,14 +94,16 @@ first_of_read : (path : List ℕ) (site left : Site) (o : Outcome)
     → ask_path (open_request to_read (from_directory site path)) site ≡ Done o left → ⊥
 first_of_read path site left o short e = by_test (is_too_long (open_request to_read (from_directory site path))) short e
   where
-    by_test : (b : Bool) → b ≡ false → (if b then refuses kind.PathTooLong site else Ask (open_request to_read (from_directory site path))) ≡ Done o left → ⊥
+    by_test : (b : Bool) → b ≡ false → (if b then refuse_locally kind.PathTooLong site else
+        Ask (open_request to_read (from_directory site path))) ≡ Done o left → ⊥
     by_test true t e = cc
     by_test false t e = (let both : false ≡ true = ap is_done e in cc)
 
 -- ---- the calls in the journal
 
 -- a call with its first request, as the laws of runs have it
-pub record Did (c : Call) (s : Setting) (past : List Entry) (name : Name) (lane k : ℕ) (path : List ℕ) (ended : Outcome) : Type 0 where
+pub record Did (c : Call) (s : Setting) (past : List Entry) (name : Name) (lane k : ℕ) (path : List ℕ) (ended : Outcome)
+    : Type 0 where
   pub site : Site
   pub first : ℕ × Request
   pub later : Own
@@ -144,7 +148,8 @@ read_did s past name lane reader ended j still r = by_own (own past lane reader)
 
     by_own : (o : Own) → own past lane reader ≡ o → HasEnded (call.FsRead r.path r.bound) (site_of s e.before lane)
         s.facts o (answer past) ended → Did (call.FsRead r.path r.bound) s past name lane reader r.path ended
-    by_own [] is did = absurd (first_of_read r.path (site_of s e.before lane) did.left ended (ap passes_length plain ∙ r.short) did.ends)
+    by_own [] is did = absurd (first_of_read r.path (site_of s e.before lane) did.left ended
+        (ap passes_length plain ∙ r.short) did.ends)
     by_own (first ∷ later) is did = record {
       site = site_of s e.before lane;
       first = first;
@@ -159,7 +164,7 @@ first_of_got : (path : List ℕ) (site left : Site) (got : List ℕ)
     → ask_path (open_request to_read (from_directory site path)) site ≡ Done (outcome.Bytes got) left → ⊥
 first_of_got path site left got e = by_test (is_too_long (open_request to_read (from_directory site path))) e
   where
-    by_test : (b : Bool) → (if b then refuses kind.PathTooLong site else
+    by_test : (b : Bool) → (if b then refuse_locally kind.PathTooLong site else
         Ask (open_request to_read (from_directory site path))) ≡ Done (outcome.Bytes got) left → ⊥
     by_test true e = (let both : false ≡ true = ap (λ (w : Move). gave_bytes (outcome_of w)) e in cc)
       where
@@ -197,7 +202,8 @@ got_did s past name lane reader got j still r = by_own (own past lane reader) re
 held : (name : Name) (calls : List Call) → list_all (may_own name) calls ≡ true → list_all (may_hold name) calls ≡ true
 held name calls own = all_more (may_own name) (may_hold name) calls (own_held name) own
 
-of_lane : (s : Setting) (past : List Entry) (name : Name) (lane : ℕ) → IsJournal s past → IsOneLanes s past name lane → IsOfLane past name lane
+of_lane : (s : Setting) (past : List Entry) (name : Name) (lane : ℕ) → IsJournal s past → IsOneLanes s past name lane
+    → IsOfLane past name lane
 of_lane s past name lane j one =
     record {
       others = one.others;
@@ -209,7 +215,8 @@ of_lane s past name lane j one =
 -- a lane whose calls keep off the name keeps off it
 pub lane_keeps_off : (s : Setting) (turns : List Turn) (past : List Entry) (name : Name) (lane : ℕ) → IsRun s turns past
     → all_keep_off name [] (lane_calls s past lane) ≡ true → KeepsOff past name lane
-lane_keeps_off s turns past name lane run off place k a is mine = off_asked name s past lane k place a (runs_are_journals s turns past run) off is mine
+lane_keeps_off s turns past name lane run off place k a is mine =
+    off_asked name s past lane k place a (runs_are_journals s turns past run) off is mine
 
 -- what a call asks that doesn't write the name passes it by
 call_passes : (s : Setting) (past : List Entry) (name : Name) (lane k place : ℕ) → IsJournal s past
@@ -226,9 +233,11 @@ back_by : (allowed : Choice → Type 0) (s : Setting) (turns : List Turn) (past 
     (choices : List Choice) (tree left : FileTree) (name : Name) (lane writer reader : ℕ) (path bytes : List ℕ)
     (bound : ℕ) (ended : Outcome)
     → ((c : Choice) → allowed c → FeignsNoEnd c) → IsRun s turns past → 1 ≤ s.facts.read_len → IsWellFormed tree
-    → Serves config choices tree past left → AreAllowed allowed choices → IsOneLanes s past name lane
-    → HasWritten s past name lane writer reader bytes → Did (call.FsRead path bound) s past name lane reader path ended → GivesUnless allowed ended bytes
-back_by allowed s turns past config choices tree left name lane writer reader path bytes bound ended honest run some well served among one w read =
+    → ServesJournal config choices tree past left → AreAllowed allowed choices → IsOneLanes s past name lane
+    → HasWritten s past name lane writer reader bytes → Did (call.FsRead path bound) s past name lane reader path ended
+    → GivesUnless allowed ended bytes
+back_by allowed s turns past config choices tree left name lane writer reader path bytes bound ended honest run some
+    well served among one w read =
     let j : IsJournal s past = runs_are_journals s turns past run in
     let wrote = write_did s past name lane writer reader bytes j one w in
     let in_turn : LaneInTurn s past name lane writer wrote.first wrote.later reader read.first read.later =
@@ -237,7 +246,8 @@ back_by allowed s turns past config choices tree left name lane writer reader pa
       asks = wrote.asks;
       asks_then = read.asks;
       in_turn = w.earlier;
-      between = λ place k above below mine. call_passes s past name lane k place j one mine (λ c is. w.last k c above below is);
+      between = λ place k above below mine. call_passes s past name lane k place j one mine
+          (λ c is. w.last k c above below is);
     }
     in
     run_back_unless allowed s config choices tree left turns past name lane writer reader wrote.first read.first
@@ -259,27 +269,32 @@ first_by : (allowed : Choice → Type 0) (s : Setting) (turns : List Turn) (past
     (choices : List Choice) (tree left : FileTree) (name : Name) (lane reader : ℕ) (path bytes : List ℕ) (bound : ℕ)
     (ended : Outcome)
     → ((c : Choice) → allowed c → FeignsNoEnd c) → IsRun s turns past → 1 ≤ s.facts.read_len → IsWellFormed tree
-    → Serves config choices tree past left → AreAllowed allowed choices → IsOneLanes s past name lane
+    → ServesJournal config choices tree past left → AreAllowed allowed choices → IsOneLanes s past name lane
     → NoneWrites s past name lane reader
-    → HasBytes tree name bytes → Did (call.FsRead path bound) s past name lane reader path ended → GivesUnless allowed ended bytes
-first_by allowed s turns past config choices tree left name lane reader path bytes bound ended honest run some well served among one before has read =
+    → HasBytes tree name bytes → Did (call.FsRead path bound) s past name lane reader path ended
+    → GivesUnless allowed ended bytes
+first_by allowed s turns past config choices tree left name lane reader path bytes bound ended honest run some well
+    served among one before has read =
     let j : IsJournal s past = runs_are_journals s turns past run in
     run_reads_unless allowed s config choices tree left turns past name lane reader read.first read.later path bytes
     bound read.site s.facts ended honest run served among well has
-    (lane_reads_first (call.FsRead path bound) s past name lane reader path ended j one before read) read.denotes some read.did
+    (lane_reads_first (call.FsRead path bound) s past name lane reader path ended j one before read) read.denotes some
+    read.did
 
 refused_by : (allowed : Choice → Type 0) (s : Setting) (turns : List Turn) (past : List Entry) (config : ServerConfig)
     (choices : List Choice) (tree left : FileTree) (name : Name) (lane reader : ℕ) (path : List ℕ) (bound : ℕ)
     (ended : Outcome)
-    → IsRun s turns past → 1 ≤ s.facts.read_len → IsWellFormed tree → Serves config choices tree past left
+    → IsRun s turns past → 1 ≤ s.facts.read_len → IsWellFormed tree → ServesJournal config choices tree past left
     → AreAllowed allowed choices → IsOneLanes s past name lane → NoneWrites s past name lane reader
     → HasNoFile (node_at tree name) → Did (call.FsRead path bound) s past name lane reader path ended
     → (ended ≡ outcome.Refused (error.SftpError (refusal_of (node_at tree name)) [] [])) ⊎ IsRefusedBy allowed ended
-refused_by allowed s turns past config choices tree left name lane reader path bound ended run some well served among one before has read =
+refused_by allowed s turns past config choices tree left name lane reader path bound ended run some well served among
+    one before has read =
     let j : IsJournal s past = runs_are_journals s turns past run in
     run_refused_unless allowed s config choices tree left turns past name lane reader read.first read.later path bound
     read.site s.facts ended run served among well has
-    (lane_reads_first (call.FsRead path bound) s past name lane reader path ended j one before read) read.denotes some read.did
+    (lane_reads_first (call.FsRead path bound) s past name lane reader path ended j one before read) read.denotes some
+    read.did
 
 -- ---- bytes that were read, whatever the choices refuse
 
@@ -298,23 +313,27 @@ no_other got bytes (inr by) = absurd (let both : Some got ≡ None = ap bytes_in
 
 pub got_back : (s : Setting) (turns : List Turn) (past : List Entry) (config : ServerConfig) (choices : List Choice)
     (tree left : FileTree) (name : Name) (lane writer reader : ℕ) (bytes got : List ℕ)
-    → IsRun s turns past → 1 ≤ s.facts.read_len → IsWellFormed tree → Serves config choices tree past left → FeignNoEnd choices → IsOneLanes s past name lane
+    → IsRun s turns past → 1 ≤ s.facts.read_len → IsWellFormed tree → ServesJournal config choices tree past left
+    → FeignNoEnd choices → IsOneLanes s past name lane
     → HasWritten s past name lane writer reader bytes → HasGot s past name lane reader got → got ≡ bytes
 got_back s turns past config choices tree left name lane writer reader bytes got run some well served honest one w r =
     no_other got bytes
     (back_by FeignsNoEnd s turns past config choices tree left name lane writer reader r.path bytes r.bound
     (outcome.Bytes got) (λ c h. h) run some well served (none_feigned choices honest) one w
-    (got_did s past name lane reader got (runs_are_journals s turns past run) (all_own_still name (lane_calls s past lane) one.own) r))
+    (got_did s past name lane reader got (runs_are_journals s turns past run)
+    (all_own_still name (lane_calls s past lane) one.own) r))
 
 pub got_first : (s : Setting) (turns : List Turn) (past : List Entry) (config : ServerConfig) (choices : List Choice)
     (tree left : FileTree) (name : Name) (lane reader : ℕ) (got : List ℕ)
-    → IsRun s turns past → 1 ≤ s.facts.read_len → IsWellFormed tree → Serves config choices tree past left
+    → IsRun s turns past → 1 ≤ s.facts.read_len → IsWellFormed tree → ServesJournal config choices tree past left
     → FeignNoEnd choices → IsOneLanes s past name lane → NoneWrites s past name lane reader
     → HasGot s past name lane reader got → HasBytes tree name got
-got_first s turns past config choices tree left name lane reader got run some well served honest one before r = by_node (node_at tree name) refl
+got_first s turns past config choices tree left name lane reader got run some well served honest one before r =
+    by_node (node_at tree name) refl
   where
     read : Did (call.FsRead r.path r.bound) s past name lane reader r.path (outcome.Bytes got)
-    read = got_did s past name lane reader got (runs_are_journals s turns past run) (all_own_still name (lane_calls s past lane) one.own) r
+    read = got_did s past name lane reader got (runs_are_journals s turns past run)
+        (all_own_still name (lane_calls s past lane) one.own) r
 
     none_there : HasNoFile (node_at tree name) → ⊥
     none_there none =
@@ -342,35 +361,41 @@ got_first s turns past config choices tree left name lane reader got run some we
 
 pub reads_back : (s : Setting) (turns : List Turn) (past : List Entry) (config : ServerConfig) (choices : List Choice)
     (tree left : FileTree) (name : Name) (lane writer reader : ℕ) (bytes : List ℕ) (ended : Outcome)
-    → IsRun s turns past → 1 ≤ s.facts.read_len → IsWellFormed tree → Serves config choices tree past left → RefuseNone choices → IsOneLanes s past name lane
+    → IsRun s turns past → 1 ≤ s.facts.read_len → IsWellFormed tree → ServesJournal config choices tree past left
+    → RefuseNone choices → IsOneLanes s past name lane
     → HasWritten s past name lane writer reader bytes → HasRead s past name lane reader ended → GivesContent ended bytes
 reads_back s turns past config choices tree left name lane writer reader bytes ended run some well served none one w r =
     gives_all ended bytes
     (back_by RefusesNone s turns past config choices tree left name lane writer reader r.path bytes r.bound ended
     unrefused_feigns run some well served (none_refused choices none) one w
-    (read_did s past name lane reader ended (runs_are_journals s turns past run) (all_own_still name (lane_calls s past lane) one.own) r))
+    (read_did s past name lane reader ended (runs_are_journals s turns past run)
+    (all_own_still name (lane_calls s past lane) one.own) r))
 
 pub reads_first : (s : Setting) (turns : List Turn) (past : List Entry) (config : ServerConfig) (choices : List Choice)
     (tree left : FileTree) (name : Name) (lane reader : ℕ) (bytes : List ℕ) (ended : Outcome)
-    → IsRun s turns past → 1 ≤ s.facts.read_len → IsWellFormed tree → Serves config choices tree past left
+    → IsRun s turns past → 1 ≤ s.facts.read_len → IsWellFormed tree → ServesJournal config choices tree past left
     → RefuseNone choices → IsOneLanes s past name lane → NoneWrites s past name lane reader
     → HasBytes tree name bytes → HasRead s past name lane reader ended → GivesContent ended bytes
-reads_first s turns past config choices tree left name lane reader bytes ended run some well served none one before has r =
+reads_first s turns past config choices tree left name lane reader bytes ended run some well served none one before has
+    r =
     gives_all ended bytes
     (first_by RefusesNone s turns past config choices tree left name lane reader r.path bytes r.bound ended
     unrefused_feigns run some well served (none_refused choices none) one before has
-    (read_did s past name lane reader ended (runs_are_journals s turns past run) (all_own_still name (lane_calls s past lane) one.own) r))
+    (read_did s past name lane reader ended (runs_are_journals s turns past run)
+    (all_own_still name (lane_calls s past lane) one.own) r))
 
 pub refused_first : (s : Setting) (turns : List Turn) (past : List Entry) (config : ServerConfig)
     (choices : List Choice) (tree left : FileTree) (name : Name) (lane reader : ℕ) (ended : Outcome)
-    → IsRun s turns past → 1 ≤ s.facts.read_len → IsWellFormed tree → Serves config choices tree past left
+    → IsRun s turns past → 1 ≤ s.facts.read_len → IsWellFormed tree → ServesJournal config choices tree past left
     → RefuseNone choices → IsOneLanes s past name lane → NoneWrites s past name lane reader
-    → HasNoFile (node_at tree name) → HasRead s past name lane reader ended → ended ≡ outcome.Refused (error.SftpError (refusal_of (node_at tree name)) [] [])
+    → HasNoFile (node_at tree name) → HasRead s past name lane reader ended → ended
+    ≡ outcome.Refused (error.SftpError (refusal_of (node_at tree name)) [] [])
 refused_first s turns past config choices tree left name lane reader ended run some well served none one before has r =
     elim
     (refused_by RefusesNone s turns past config choices tree left name lane reader r.path r.bound ended run some well
     served (none_refused choices none) one before has
-    (read_did s past name lane reader ended (runs_are_journals s turns past run) (all_own_still name (lane_calls s past lane) one.own) r)) [
+    (read_did s past name lane reader ended (runs_are_journals s turns past run)
+    (all_own_still name (lane_calls s past lane) one.own) r)) [
       | inl refused ↦ refused
       | inr by ↦ absurd (by.refuses by.is)
     ]
@@ -385,7 +410,7 @@ got_below (y ∷ xs) (suc k) x e = (let below = got_below xs k x e in omega (ari
 -- the bytes of the lane's last write are left
 pub writes_left : (s : Setting) (turns : List Turn) (past : List Entry) (config : ServerConfig) (choices : List Choice)
     (tree left : FileTree) (name : Name) (lane writer : ℕ) (bytes : List ℕ)
-    → IsRun s turns past → IsWellFormed tree → Serves config choices tree past left → IsOneLanes s past name lane
+    → IsRun s turns past → IsWellFormed tree → ServesJournal config choices tree past left → IsOneLanes s past name lane
     → HasWritten s past name lane writer (length (lane_calls s past lane)) bytes → HasBytes left name bytes
 writes_left s turns past config choices tree left name lane writer bytes run well served one w =
     let j : IsJournal s past = runs_are_journals s turns past run in
@@ -394,7 +419,8 @@ writes_left s turns past config choices tree left name lane writer bytes run wel
     record {
       lanes = of_lane s past name lane j one;
       asks = wrote.asks;
-      later = λ place k above mine. call_passes s past name lane k place j one mine (λ c is. w.last k c above (got_below (lane_calls s past lane) k c is) is);
+      later = λ place k above mine. call_passes s past name lane k place j one mine
+          (λ c is. w.last k c above (got_below (lane_calls s past lane) k c is) is);
     }
     in
     write_left s config choices tree left turns past name lane writer wrote.first wrote.later w.path bytes wrote.site
@@ -403,7 +429,7 @@ writes_left s turns past config choices tree left name lane writer bytes run wel
 -- and where it wrote none, what was there
 pub left_untouched : (s : Setting) (turns : List Turn) (past : List Entry) (config : ServerConfig)
     (choices : List Choice) (tree left : FileTree) (name : Name) (lane : ℕ)
-    → IsRun s turns past → IsWellFormed tree → Serves config choices tree past left → IsOneLanes s past name lane
+    → IsRun s turns past → IsWellFormed tree → ServesJournal config choices tree past left → IsOneLanes s past name lane
     → NoneWrites s past name lane (length (lane_calls s past lane))
     → IsUntouched tree left name
 left_untouched s turns past config choices tree left name lane run well served one before =

@@ -18,9 +18,9 @@ use Rattle.plan_model.specs.PathPlans.{from_directory}
 use Rattle.session_model.specs.declared.entry.Entry.{Entry}
 use Rattle.session_model.specs.declared.turn.Turn.{Turn}
 use Rattle.session_model.specs.Calls.{Setting}
-use Rattle.session_model.specs.Readings.{answer, sent}
+use Rattle.session_model.specs.Readings.{answer, count_sent}
 use Rattle.session_model.specs.Runs.{IsRun}
-use Rattle.session_model.specs.Served.{Serves}
+use Rattle.session_model.specs.Served.{ServesJournal}
 use Rattle.session_model.proofs.OverLaws.{runs_are_journals}
 use Rattle.run_laws.specs.CallsAmong.{GivesContent, GivesUnless, HasEnded, HasNoFile, IsRefusedBy, refusal_of}
 use Rattle.run_laws.specs.InJournals.{AreBelow, LaneFirst, LaneInTurn}
@@ -33,8 +33,9 @@ use Rattle.run_laws.proofs.WholeRunSent.{whole_run_sent}
 pub run_back_unless : (allowed : Choice → Type 0) (s : Setting) (config : ServerConfig) (choices : List Choice)
     (first now : FileTree) (turns : List Turn) (past : List Entry) (name : Name) (lane writer reader : ℕ)
     (w r : ℕ × Request) (written read : Own)
-    (write_path read_path bytes : List ℕ) (bound : ℕ) (write_site read_site : Site) (write_facts read_facts : Facts) (ended : Outcome)
-    → ((c : Choice) → allowed c → FeignsNoEnd c) → IsRun s turns past → Serves config choices first past now
+    (write_path read_path bytes : List ℕ) (bound : ℕ) (write_site read_site : Site) (write_facts read_facts : Facts)
+    (ended : Outcome)
+    → ((c : Choice) → allowed c → FeignsNoEnd c) → IsRun s turns past → ServesJournal config choices first past now
     → AreAllowed allowed choices → IsWellFormed first → LaneInTurn s past name lane writer w written reader r read
     → components (from_directory write_site write_path) ≡ name
     → HasEnded (call.FsWrite write_path bytes) write_site write_facts (w ∷ written) (answer past) outcome.Done
@@ -47,13 +48,14 @@ run_back_unless allowed s config choices first now turns past name lane writer r
     lane_back_unless allowed s config choices first now past name lane writer reader w r written read write_path
     read_path bytes bound write_site read_site write_facts read_facts ended honest
     (runs_are_journals s turns past run) serves among well_formed t
-    (subst (AreBelow (sent past)) t.asks_then (whole_run_sent s turns past lane reader run)) denotes wrote denotes' one did
+    (subst (AreBelow (count_sent past)) t.asks_then (whole_run_sent s turns past lane reader run)) denotes wrote
+    denotes' one did
 
 pub run_reads_unless : (allowed : Choice → Type 0) (s : Setting) (config : ServerConfig) (choices : List Choice)
     (first now : FileTree) (turns : List Turn) (past : List Entry) (name : Name) (lane reader : ℕ) (r : ℕ × Request)
     (read : Own) (path bytes : List ℕ) (bound : ℕ)
     (site : Site) (facts : Facts) (ended : Outcome) → ((c : Choice) → allowed c → FeignsNoEnd c) → IsRun s turns past
-    → Serves config choices first past now → AreAllowed allowed choices → IsWellFormed first
+    → ServesJournal config choices first past now → AreAllowed allowed choices → IsWellFormed first
     → HasBytes first name bytes → LaneFirst s past name lane reader r read
     → components (from_directory site path) ≡ name → 1 ≤ facts.read_len
     → HasEnded (call.FsRead path bound) site facts (r ∷ read) (answer past) ended → GivesUnless allowed ended bytes
@@ -61,59 +63,66 @@ run_reads_unless allowed s config choices first now turns past name lane reader 
     honest run serves among well_formed has t denotes one did =
     lane_reads_unless allowed s config choices first now past name lane reader r read path bytes bound site facts ended
     honest (runs_are_journals s turns past run) serves among well_formed has t
-    (subst (AreBelow (sent past)) t.asks (whole_run_sent s turns past lane reader run)) denotes one did
+    (subst (AreBelow (count_sent past)) t.asks (whole_run_sent s turns past lane reader run)) denotes one did
 
 pub run_refused_unless : (allowed : Choice → Type 0) (s : Setting) (config : ServerConfig) (choices : List Choice)
     (first now : FileTree) (turns : List Turn) (past : List Entry) (name : Name) (lane reader : ℕ) (r : ℕ × Request)
     (read : Own) (path : List ℕ) (bound : ℕ)
-    (site : Site) (facts : Facts) (ended : Outcome) → IsRun s turns past → Serves config choices first past now
+    (site : Site) (facts : Facts) (ended : Outcome) → IsRun s turns past → ServesJournal config choices first past now
     → AreAllowed allowed choices → IsWellFormed first → HasNoFile (node_at first name)
     → LaneFirst s past name lane reader r read
-    → components (from_directory site path) ≡ name → 1 ≤ facts.read_len → HasEnded (call.FsRead path bound) site facts (r ∷ read) (answer past) ended
+    → components (from_directory site path) ≡ name → 1 ≤ facts.read_len
+    → HasEnded (call.FsRead path bound) site facts (r ∷ read) (answer past) ended
     → (ended ≡ outcome.Refused (error.SftpError (refusal_of (node_at first name)) [] [])) ⊎ IsRefusedBy allowed ended
 run_refused_unless allowed s config choices first now turns past name lane reader r read path bound site facts ended run
     serves among well_formed has t denotes one did =
     lane_refused_unless allowed s config choices first now past name lane reader r read path bound site facts ended
     (runs_are_journals s turns past run) serves among well_formed has t
-    (subst (AreBelow (sent past)) t.asks (whole_run_sent s turns past lane reader run)) denotes one did
+    (subst (AreBelow (count_sent past)) t.asks (whole_run_sent s turns past lane reader run)) denotes one did
 
 -- ---- where nothing is refused
 
 pub run_back : (s : Setting) (config : ServerConfig) (choices : List Choice) (first now : FileTree) (turns : List Turn)
     (past : List Entry) (name : Name) (lane writer reader : ℕ) (w r : ℕ × Request) (written read : Own)
-    (write_path read_path bytes : List ℕ) (bound : ℕ) (write_site read_site : Site) (write_facts read_facts : Facts) (ended : Outcome)
-    → IsRun s turns past → Serves config choices first past now → RefuseNone choices → IsWellFormed first
+    (write_path read_path bytes : List ℕ) (bound : ℕ) (write_site read_site : Site) (write_facts read_facts : Facts)
+    (ended : Outcome)
+    → IsRun s turns past → ServesJournal config choices first past now → RefuseNone choices → IsWellFormed first
     → LaneInTurn s past name lane writer w written reader r read
     → components (from_directory write_site write_path) ≡ name
     → HasEnded (call.FsWrite write_path bytes) write_site write_facts (w ∷ written) (answer past) outcome.Done
     → components (from_directory read_site read_path) ≡ name → 1 ≤ read_facts.read_len
-    → HasEnded (call.FsRead read_path bound) read_site read_facts (r ∷ read) (answer past) ended → GivesContent ended bytes
+    → HasEnded (call.FsRead read_path bound) read_site read_facts (r ∷ read) (answer past) ended
+    → GivesContent ended bytes
 run_back s config choices first now turns past name lane writer reader w r written read write_path read_path bytes bound
     write_site read_site write_facts read_facts ended run serves none well_formed t denotes wrote denotes' one did =
     lane_back s config choices first now past name lane writer reader w r written read write_path read_path bytes bound
     write_site read_site write_facts read_facts ended (runs_are_journals s turns past run) serves none well_formed t
-    (subst (AreBelow (sent past)) t.asks_then (whole_run_sent s turns past lane reader run)) denotes wrote denotes' one did
+    (subst (AreBelow (count_sent past)) t.asks_then (whole_run_sent s turns past lane reader run)) denotes wrote
+    denotes' one did
 
 pub run_reads : (s : Setting) (config : ServerConfig) (choices : List Choice) (first now : FileTree) (turns : List Turn)
     (past : List Entry) (name : Name) (lane reader : ℕ) (r : ℕ × Request) (read : Own) (path bytes : List ℕ) (bound : ℕ)
-    (site : Site) (facts : Facts) (ended : Outcome) → IsRun s turns past → Serves config choices first past now
+    (site : Site) (facts : Facts) (ended : Outcome) → IsRun s turns past → ServesJournal config choices first past now
     → RefuseNone choices → IsWellFormed first → HasBytes first name bytes → LaneFirst s past name lane reader r read
     → components (from_directory site path) ≡ name → 1 ≤ facts.read_len
     → HasEnded (call.FsRead path bound) site facts (r ∷ read) (answer past) ended → GivesContent ended bytes
-run_reads s config choices first now turns past name lane reader r read path bytes bound site facts ended run serves none well_formed has t denotes one did =
+run_reads s config choices first now turns past name lane reader r read path bytes bound site facts ended run serves
+    none well_formed has t denotes one did =
     lane_reads s config choices first now past name lane reader r read path bytes bound site facts ended
     (runs_are_journals s turns past run) serves none well_formed has t
-    (subst (AreBelow (sent past)) t.asks (whole_run_sent s turns past lane reader run)) denotes one did
+    (subst (AreBelow (count_sent past)) t.asks (whole_run_sent s turns past lane reader run)) denotes one did
 
 pub run_refused : (s : Setting) (config : ServerConfig) (choices : List Choice) (first now : FileTree)
     (turns : List Turn) (past : List Entry) (name : Name) (lane reader : ℕ) (r : ℕ × Request) (read : Own)
     (path : List ℕ) (bound : ℕ)
-    (site : Site) (facts : Facts) (ended : Outcome) → IsRun s turns past → Serves config choices first past now
+    (site : Site) (facts : Facts) (ended : Outcome) → IsRun s turns past → ServesJournal config choices first past now
     → RefuseNone choices → IsWellFormed first → HasNoFile (node_at first name)
     → LaneFirst s past name lane reader r read
-    → components (from_directory site path) ≡ name → 1 ≤ facts.read_len → HasEnded (call.FsRead path bound) site facts (r ∷ read) (answer past) ended
+    → components (from_directory site path) ≡ name → 1 ≤ facts.read_len
+    → HasEnded (call.FsRead path bound) site facts (r ∷ read) (answer past) ended
     → ended ≡ outcome.Refused (error.SftpError (refusal_of (node_at first name)) [] [])
-run_refused s config choices first now turns past name lane reader r read path bound site facts ended run serves none well_formed has t denotes one did =
+run_refused s config choices first now turns past name lane reader r read path bound site facts ended run serves none
+    well_formed has t denotes one did =
     lane_refused s config choices first now past name lane reader r read path bound site facts ended
     (runs_are_journals s turns past run) serves none well_formed has t
-    (subst (AreBelow (sent past)) t.asks (whole_run_sent s turns past lane reader run)) denotes one did
+    (subst (AreBelow (count_sent past)) t.asks (whole_run_sent s turns past lane reader run)) denotes one did

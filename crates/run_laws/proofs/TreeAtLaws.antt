@@ -62,10 +62,12 @@ split_at config past tree choices (r ∷ requests) now place s rising (inl here)
 split_at config past tree choices (r ∷ requests) now place s rising (inr has) =
     let lt : r.0 < place = above_has r.0 place requests rising.0 has in
     let one : before_place place (r ∷ requests) ≡ r ∷ before_place place requests = rw (lt-ltb r.0 place lt) refl in
-    let more = split_at config past (apply tree config r.1 (first_choice choices) s.0).1 (drop 1 choices) requests now place s.1.2 rising.1 has in
+    let more = split_at config past (apply tree config r.1 (first_choice choices) s.0).1 (drop 1 choices) requests now
+    place s.1.2 rising.1 has in
     record {
       at = more.at;
-      front = subst (λ (l : Own). ServesAll config past tree choices l more.at) (sym one) (s.0, (s.1.0, s.1.1, more.front));
+      front = subst (λ (l : Own). ServesAll config past tree choices l more.at) (sym one)
+          (s.0, (s.1.0, s.1.1, more.front));
       r = more.r;
       here = more.here;
       rest = more.rest;
@@ -88,4 +90,8 @@ pub served_two : (config : ServerConfig) (answers : Answers) (tree : FileTree) (
     → AreServed config answers tree xs → AreServed config answers (after config tree xs) ys
     → AreServed config answers tree (xs ++ ys)
 served_two config answers tree [] ys first rest = rest
-served_two config answers tree (x ∷ xs) ys first rest = (first.0, first.1, served_two config answers (answer_to config tree x).1 xs ys first.2 rest)
+served_two config answers tree (x ∷ xs) ys first rest = (
+  first.0,
+  first.1,
+  served_two config answers (answer_to config tree x).1 xs ys first.2 rest,
+)

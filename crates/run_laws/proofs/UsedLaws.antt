@@ -1,5 +1,5 @@
--- In a run so far each request that bears a handle bears that of an earlier grant of its lane, and none bears it behind the grant's
--- CLOSE.
+-- In a run so far each request that bears a handle bears that of an earlier grant of its lane, and none bears it behind
+-- the grant's CLOSE.
 use Rattle.std.proofs.Common.{
   ◌≡◌,
   ◌≢◌,
@@ -43,16 +43,16 @@ use Rattle.session_model.specs.declared.event.Event.TheVariants.{Submit, Take}
 use Rattle.session_model.specs.declared.event.Owner.{Owner}
 use Rattle.session_model.specs.declared.event.Owner.TheVariants as owner
 use Rattle.session_model.specs.Calls.{Setting, current, held_site, site_of}
-use Rattle.session_model.specs.Grants.{closed, closes, holds, is_asked_by, is_close, is_grant, is_granted, is_one_of, is_unended_asker, with_closed}
+use Rattle.session_model.specs.Grants.{closed_grants, closes, holds, is_asked_by, is_close, is_grant, is_granted, is_one_of, is_unended_asker, with_closed}
 use Rattle.session_model.specs.Journals.{IsJournal, MayReply}
-use Rattle.session_model.specs.Readings.{AskedRequest, answer, asked, asked_at, ended, is_by, own}
+use Rattle.session_model.specs.Readings.{AskedRequest, answer, count_submitted, asked_at, count_ended, is_by, own}
 use Rattle.session_model.proofs.CallLaws.{asker_owns, has_place, next_submit, next_take}
 use Rattle.session_model.proofs.ClosedLaws.{gone_unheld}
 use Rattle.session_model.proofs.HolderLaws.{slots_owned}
 use Rattle.session_model.proofs.LetGoLaws.{granted_below}
 use Rattle.session_model.proofs.PlannedLaws.{held_less}
 use Rattle.session_model.proofs.RequestLaws.{answer_new, answer_other, answer_stays, asked_beyond, asked_other}
-use Rattle.run_laws.specs.Bearing.{Bears, BearsGrant, ClosesAt, IsOfAsker, MayUse, UsesAt, UsesGrant, used, used_by}
+use Rattle.run_laws.specs.Bearing.{BearsHandle, BearsGrant, ClosesAt, IsOfAsker, MayUse, UsesAt, UsesGrant, grant_used_at, used_by}
 use Rattle.run_laws.proofs.BearingLaws.{asker_there, bears_grant, first_held, session_bears, setup_asks, unclosed_held}
 
 -- ---- who asked for a grant
@@ -74,7 +74,7 @@ handle_asked : (s : Setting) (past : List Entry) (g : ℕ) (r : Reply) → IsJou
     → is_handle r ≡ true → (lane call : ℕ) × (is_asked_by (asked_at past g) lane call ≡ true)
 handle_asked s [] g r j may is = absurd may
 handle_asked s (entry.Event (Submit by id q) ∷ past) g r j may is =
-    elim (eqb_tells g (asked past)) [
+    elim (eqb_tells g (count_submitted past)) [
       | inl t ↦ rw t.0 (by_owner by j (let m = rw t.0 at may in m.0))
       | inr t ↦ rw t.0 (handle_asked s past g r j.1 (rw t.0 at may) is)
     ]
@@ -82,7 +82,8 @@ handle_asked s (entry.Event (Submit by id q) ∷ past) g r j may is =
     by_owner : (o : Owner) → IsJournal s (entry.Event (Submit o id q) ∷ past) → may_answer q r ≡ true → (lane call : ℕ)
         × (is_asked_by (Some (record { by = o; id = id; request = q })) lane call ≡ true)
     by_owner (owner.Call l c) k m = (l, c, asks_itself l c)
-    by_owner owner.Setup k m = absurd (no_handle r is (subst (λ (w : Request). may_answer w r ≡ true) (setup_asks s past id q k) m))
+    by_owner owner.Setup k m = absurd (no_handle r is (subst (λ (w : Request). may_answer w r ≡ true)
+        (setup_asks s past id q k) m))
     by_owner owner.Close k m = absurd (no_handle_closes q r (session_bears s past id q k) is m)
 handle_asked s (_ ∷ past) g r j may is = handle_asked s past g r j.1 may is
 
@@ -113,16 +114,18 @@ pub holder_asked : (s : Setting) (past : List Entry) (g lane : ℕ) → IsJourna
 holder_asked s past g lane j h =
     elim (or_cases (has_grant (held_site s past lane) g) (is_unended_asker past lane g) h) [
       | inl has ↦ (let mine = slots_owned s past lane g j (held_less (current s past lane)
-          (own past lane (ended past lane)) (site_of s past lane) g has) in (mine.1.0, mine.1.1.1))
-      | inr asks ↦ (ended past lane, asks)
+          (own past lane (count_ended past lane)) (site_of s past lane) g has) in (mine.1.0, mine.1.1.1))
+      | inr asks ↦ (count_ended past lane, asks)
     ]
 
-asker_of : (s : Setting) (past : List Entry) (by : Owner) (g : ℕ) → IsJournal s past → is_grant past g ≡ true → MayUse s past by g → IsOfAsker past by g
+asker_of : (s : Setting) (past : List Entry) (by : Owner) (g : ℕ) → IsJournal s past → is_grant past g ≡ true
+    → MayUse s past by g → IsOfAsker past by g
 asker_of s past (owner.Call lane call) g j granted may = holder_asked s past g lane j may
 asker_of s past owner.Setup g j granted may = absurd may
 asker_of s past owner.Close g j granted may = grant_called s past g j granted
 
-asker_as : (before after : List Entry) (by : Owner) (g : ℕ) → asked_at after g ≡ asked_at before g → IsOfAsker before by g → IsOfAsker after by g
+asker_as : (before after : List Entry) (by : Owner) (g : ℕ) → asked_at after g ≡ asked_at before g
+    → IsOfAsker before by g → IsOfAsker after by g
 asker_as before after (owner.Call lane call) g same x = (x.0, ap (λ a. is_asked_by a lane x.0) same ∙ x.1)
 asker_as before after owner.Setup g same x = absurd x
 asker_as before after owner.Close g same x = (x.0, x.1, ap (λ a. is_asked_by a x.0 x.1) same ∙ x.2)
@@ -130,12 +133,13 @@ asker_as before after owner.Close g same x = (x.0, x.1, ap (λ a. is_asked_by a 
 -- ---- the grant of each request
 
 uses_new : (s : Setting) (past : List Entry) (by : Owner) (id : ℕ) (r : Request) (place : ℕ) (h : List ℕ)
-    → IsJournal s (entry.Event (Submit by id r) ∷ past) → (place == asked past) ≡ true → place ≡ asked past → Bears r h
+    → IsJournal s (entry.Event (Submit by id r) ∷ past) → (place == count_submitted past) ≡ true → place
+    ≡ count_submitted past → BearsHandle r h
     → UsesGrant s (entry.Event (Submit by id r) ∷ past) place by h
 uses_new s past by id r place h j test here b =
     let k : BearsGrant s past by r h = bears_grant s past by id r h j b in
     let granted : is_grant past k.grant ≡ true = ap is_granted k.came in
-    let below : k.grant < asked past = granted_below past k.grant granted in
+    let below : k.grant < count_submitted past = granted_below past k.grant granted in
     record {
       grant = k.grant;
       is = rw test k.is;
@@ -149,13 +153,15 @@ pub some_is : {X : Type 0} (x y : X) → (◌≡◌ {A = Option X} (Some x) (Som
 some_is x y e = cc
 
 pub uses_grant : (s : Setting) (past : List Entry) (place : ℕ) (a : AskedRequest) (h : List ℕ) → IsJournal s past
-    → asked_at past place ≡ Some a → Bears a.request h → UsesGrant s past place a.by h
+    → asked_at past place ≡ Some a → BearsHandle a.request h → UsesGrant s past place a.by h
 uses_grant s [] place a h j is b = absurd cc
 uses_grant s (entry.Event (Submit by id r) ∷ past) place a h j is b =
-    elim (eqb_tells place (asked past)) [
+    elim (eqb_tells place (count_submitted past)) [
       | inl t ↦ (let same = some_is (record { by = by; id = id; request = r }) a (rw t.0 at is) in
-          subst (λ (o : Owner). UsesGrant s (entry.Event (Submit by id r) ∷ past) place o h) (ap (λ (x : AskedRequest). x.by) same)
-          (uses_new s past by id r place h j t.0 t.1 (subst (λ (q : Request). Bears q h) (sym (ap (λ (x : AskedRequest). x.request) same)) b)))
+          subst (λ (o : Owner). UsesGrant s (entry.Event (Submit by id r) ∷ past) place o h)
+          (ap (λ (x : AskedRequest). x.by) same)
+          (uses_new s past by id r place h j t.0 t.1 (subst (λ (q : Request). BearsHandle q h)
+          (sym (ap (λ (x : AskedRequest). x.request) same)) b)))
       | inr t ↦ (let old = uses_grant s past place a h j.1 (rw t.0 at is) b in
           record {
             grant = old.grant;
@@ -177,80 +183,101 @@ uses_grant s (entry.Event (Take id r) ∷ past) place a h j is b =
     }
 uses_grant s (e ∷ past) place a h j is b =
     let old = uses_grant s past place a h j.1 is b in
-    record { grant = old.grant; is = old.is; before = old.before; came = old.came; asker = asker_as past (e ∷ past) a.by old.grant refl old.asker }
+    record {
+      grant = old.grant;
+      is = old.is;
+      before = old.before;
+      came = old.came;
+      asker =
+          asker_as past (e ∷ past) a.by old.grant refl old.asker;
+    }
 
 -- ---- a CLOSE stands last
 
-stays_closed : (b : Bool) (x : Option ℕ) (gone : List (Option ℕ)) (g : ℕ) → is_one_of gone g ≡ true → is_one_of (with_closed b x gone) g ≡ true
+stays_closed : (b : Bool) (x : Option ℕ) (gone : List (Option ℕ)) (g : ℕ) → is_one_of gone g ≡ true
+    → is_one_of (with_closed b x gone) g ≡ true
 stays_closed false x gone g e = e
 stays_closed true x gone g e = or_right _ (is_one_of gone g) e
 
-new_closed : (b : Bool) (x y : Option ℕ) (gone : List (Option ℕ)) (g : ℕ) → b ≡ true → (if b then x else y) ≡ Some g → is_one_of (with_closed b x gone) g ≡ true
+new_closed : (b : Bool) (x y : Option ℕ) (gone : List (Option ℕ)) (g : ℕ) → b ≡ true → (if b then x else y) ≡ Some g
+    → is_one_of (with_closed b x gone) g ≡ true
 new_closed false x y gone g closes is = absurd cc
-new_closed true x y gone g closes is = ap (λ (w : Option ℕ). is_one_of (w ∷ gone) g) is ∙ or_left (g == g) (is_one_of gone g) (eq-eqb g g refl)
+new_closed true x y gone g closes is = ap (λ (w : Option ℕ). is_one_of (w ∷ gone) g) is
+    ∙ or_left (g == g) (is_one_of gone g) (eq-eqb g g refl)
 
 -- a grant of which a request is the CLOSE has one
 pub close_counts : (s : Setting) (past : List Entry) (place g : ℕ) (a : AskedRequest) (h : List ℕ) → asked_at past place
-    ≡ Some a → is_close a.request ≡ true → used s past place h ≡ Some g → is_one_of (closed s past) g ≡ true
+    ≡ Some a → is_close a.request ≡ true → grant_used_at s past place h ≡ Some g → is_one_of (closed_grants s past) g
+    ≡ true
 close_counts s [] place g a h is closes uses = absurd cc
 close_counts s (entry.Event (Submit by id r) ∷ past) place g a h is closes_it uses =
-    elim (eqb_tells place (asked past)) [
+    elim (eqb_tells place (count_submitted past)) [
       | inl t ↦ (let same = some_is (record { by = by; id = id; request = r }) a (rw t.0 at is) in
-          new_closed (is_close r) (closes s past (closed s past) by) (used_by s past by h) (closed s past) g
+          new_closed (is_close r) (closes s past (closed_grants s past) by) (used_by s past by h) (closed_grants s past)
+          g
           (ap (λ (x : AskedRequest). is_close x.request) same ∙ closes_it) (rw t.0 at uses))
-      | inr t ↦ stays_closed (is_close r) (closes s past (closed s past) by) (closed s past) g
+      | inr t ↦ stays_closed (is_close r) (closes s past (closed_grants s past) by) (closed_grants s past) g
           (close_counts s past place g a h (rw t.0 at is) closes_it (rw t.0 at uses))
     ]
 close_counts s (_ ∷ past) place g a h is closes_it uses = close_counts s past place g a h is closes_it uses
 
-pub asked_there : (past : List Entry) (place : ℕ) (a : AskedRequest) → asked_at past place ≡ Some a → place < asked past
-asked_there past place a is = elim (cases_lt place (asked past))
+pub asked_there : (past : List Entry) (place : ℕ) (a : AskedRequest) → asked_at past place ≡ Some a
+    → place < count_submitted past
+asked_there past place a is = elim (cases_lt place (count_submitted past))
     [ inl lt ↦ lt | inr le ↦ absurd (let none : asked_at past place ≡ None = asked_beyond past place le in cc) ]
 
 -- the grants that had a CLOSE as the request at a place was submitted
 abbrev pub closed_before : Setting → List Entry → ℕ → List (Option ℕ)
 closed_before s [] place = []
-closed_before s (entry.Event (Submit by id r) ∷ past) place = if place == asked past then closed s past else closed_before s past place
+closed_before s (entry.Event (Submit by id r) ∷ past) place = if place == count_submitted past then
+    closed_grants s past else closed_before s past place
 closed_before s (_ ∷ past) place = closed_before s past place
 
 -- a grant whose handle a request bears had none then
 pub open_used : (s : Setting) (past : List Entry) (place g : ℕ) (a : AskedRequest) (h : List ℕ) → IsJournal s past
-    → asked_at past place ≡ Some a → Bears a.request h → used s past place h ≡ Some g
+    → asked_at past place ≡ Some a → BearsHandle a.request h → grant_used_at s past place h ≡ Some g
     → is_one_of (closed_before s past place) g ≡ false
 open_used s [] place g a h j is b uses = absurd cc
 open_used s (entry.Event (Submit by id r) ∷ past) place g a h j is b uses =
-    elim (eqb_tells place (asked past)) [
+    elim (eqb_tells place (count_submitted past)) [
       | inl t ↦ rw t.0 (let same = some_is (record { by = by; id = id; request = r }) a (rw t.0 at is) in
-          let x : BearsGrant s past by r h = bears_grant s past by id r h j (subst (λ (w : Request). Bears w h) (sym (ap (λ (y : AskedRequest). y.request) same)) b) in
+          let x : BearsGrant s past by r h = bears_grant s past by id r h j
+          (subst (λ (w : Request). BearsHandle w h) (sym (ap (λ (y : AskedRequest). y.request) same)) b) in
           let both : Some x.grant ≡ Some g = sym x.is ∙ (rw t.0 at uses) in
-          subst (λ (k : ℕ). is_one_of (closed s past) k ≡ false) (some_is x.grant g both) x.unclosed)
+          subst (λ (k : ℕ). is_one_of (closed_grants s past) k ≡ false) (some_is x.grant g both) x.unclosed)
       | inr t ↦ rw t.0 (open_used s past place g a h j.1 (rw t.0 at is) b (rw t.0 at uses))
     ]
 open_used s (_ ∷ past) place g a h j is b uses = open_used s past place g a h j.1 is b uses
 
 -- and the CLOSE of a grant that had none then doesn't stand before
-pub open_last : (s : Setting) (past : List Entry) (p q g : ℕ) (b : AskedRequest) (k : List ℕ) → p < asked past
+pub open_last : (s : Setting) (past : List Entry) (p q g : ℕ) (b : AskedRequest) (k : List ℕ) → p < count_submitted past
     → is_one_of (closed_before s past p) g ≡ false → asked_at past q ≡ Some b → is_close b.request ≡ true
-    → used s past q k ≡ Some g → p ≤ q
+    → grant_used_at s past q k ≡ Some g → p ≤ q
 open_last s [] p q g b k below unclosed at closes_it uses = absurd cc
 open_last s (entry.Event (Submit by id r) ∷ past) p q g b k below unclosed at closes_it uses =
-    elim (eqb_tells q (asked past)) [
-      | inl u ↦ (let here : q ≡ asked past = u.1 in omega (arith, below, here))
-      | inr u ↦ elim (eqb_tells p (asked past)) [
-        | inl t ↦ absurd (both_ways (is_one_of (closed s past) g) (rw t.0 at unclosed) (close_counts s past q g b k (rw u.0 at at) closes_it (rw u.0 at uses)))
-        | inr t ↦ (let lt : p < asked past = (let ne : p ≢ asked past = t.1 in omega (arith, below, ne)) in
+    elim (eqb_tells q (count_submitted past)) [
+      | inl u ↦ (let here : q ≡ count_submitted past = u.1 in omega (arith, below, here))
+      | inr u ↦ elim (eqb_tells p (count_submitted past)) [
+        | inl t ↦ absurd (both_ways (is_one_of (closed_grants s past) g) (rw t.0 at unclosed)
+            (close_counts s past q g b k (rw u.0 at at) closes_it (rw u.0 at uses)))
+        | inr t ↦ (let lt : p < count_submitted past = (let ne : p ≢ count_submitted past = t.1 in
+            omega (arith, below, ne)) in
             open_last s past p q g b k lt (rw t.0 at unclosed) (rw u.0 at at) closes_it (rw u.0 at uses))
       ]
     ]
-open_last s (_ ∷ past) p q g b k below unclosed at closes_it uses = open_last s past p q g b k below unclosed at closes_it uses
+open_last s (_ ∷ past) p q g b k below unclosed at closes_it uses =
+    open_last s past p q g b k below unclosed at closes_it uses
 
-pub closes_stand_last : (s : Setting) (past : List Entry) (p q g : ℕ) → IsJournal s past → UsesAt s past p g → ClosesAt s past q g → p ≤ q
+pub closes_stand_last : (s : Setting) (past : List Entry) (p q g : ℕ) → IsJournal s past → UsesAt s past p g
+    → ClosesAt s past q g → p ≤ q
 closes_stand_last s past p q g j u c =
-    open_last s past p q g c.a c.handle (asked_there past p u.a u.at) (open_used s past p g u.a u.handle j u.at u.bears u.is) c.at (ap is_close c.closes) c.is
+    open_last s past p q g c.a c.handle (asked_there past p u.a u.at)
+    (open_used s past p g u.a u.handle j u.at u.bears u.is) c.at (ap is_close c.closes) c.is
 
 -- ---- the grant of a call's first request
 
-pub front_of : (xs : Own) (y first : ℕ × Request) (later : Own) → xs ++ y ∷ [] ≡ first ∷ later → ((xs ≡ []) × (y ≡ first)) ⊎ ((l : Own) × (xs ≡ first ∷ l))
+pub front_of : (xs : Own) (y first : ℕ × Request) (later : Own) → xs ++ y ∷ [] ≡ first ∷ later
+    → ((xs ≡ []) × (y ≡ first)) ⊎ ((l : Own) × (xs ≡ first ∷ l))
 front_of [] y first later e = inl (refl, (let same : y ∷ [] ≡ first ∷ later = e in cc))
 front_of (x ∷ xs) y first later e = inr (
   xs,
@@ -259,20 +286,24 @@ front_of (x ∷ xs) y first later e = inr (
 )
 
 -- what isn't asked yet has no CLOSE
-none_closed : (s : Setting) (past : List Entry) (g : ℕ) → IsJournal s past → asked past ≤ g → is_one_of (closed s past) g ≡ false
+none_closed : (s : Setting) (past : List Entry) (g : ℕ) → IsJournal s past → count_submitted past ≤ g
+    → is_one_of (closed_grants s past) g ≡ false
 none_closed s past g j le =
-    false_from_ne_true (is_one_of (closed s past) g) (λ e. let below : g < asked past =
+    false_from_ne_true (is_one_of (closed_grants s past) g) (λ e. let below : g < count_submitted past =
     granted_below past g (gone_unheld s past g j e).0 in absurd (omega (arith, below, le)))
 
 call_first : (s : Setting) (past : List Entry) (lane n id : ℕ) (r : Request) (first : ℕ × Request) (later : Own)
-    → IsJournal s (entry.Event (Submit (owner.Call lane n) id r) ∷ past) → own past lane n ++ (asked past, r) ∷ []
+    → IsJournal s (entry.Event (Submit (owner.Call lane n) id r) ∷ past) → own past lane n
+    ++ (count_submitted past, r) ∷ []
     ≡ first ∷ later
-    → is_one_of (closed s past) first.0 ≡ false
+    → is_one_of (closed_grants s past) first.0 ≡ false
 call_first s past lane n id r first later j is =
-    elim (front_of (own past lane n) (asked past, r) first later is) [
-      | inl new ↦ none_closed s past first.0 j.1 (let same : asked past ≡ first.0 = ap (λ (x : ℕ × Request). x.0) new.1 in omega (arith, same))
-      | inr old ↦ (let now : n ≡ ended past lane = (next_submit s past lane n id r j.0).0 in
-          unclosed_held s past first.0 lane j.1 (asker_there s past lane n id r j) (first_held s past lane first old.0 (ap (own past lane) (sym now) ∙ old.1)))
+    elim (front_of (own past lane n) (count_submitted past, r) first later is) [
+      | inl new ↦ none_closed s past first.0 j.1 (let same : count_submitted past ≡ first.0 =
+          ap (λ (x : ℕ × Request). x.0) new.1 in omega (arith, same))
+      | inr old ↦ (let now : n ≡ count_ended past lane = (next_submit s past lane n id r j.0).0 in
+          unclosed_held s past first.0 lane j.1 (asker_there s past lane n id r j)
+          (first_held s past lane first old.0 (ap (own past lane) (sym now) ∙ old.1)))
     ]
 
 -- no request of a call stands behind the CLOSE of what the call's first request brought
@@ -281,14 +312,16 @@ pub open_own : (s : Setting) (past : List Entry) (lane n place : ℕ) (first : �
     → is_one_of (closed_before s past place) first.0 ≡ false
 open_own s [] lane n place first later j is mine = absurd cc
 open_own s (entry.Event (Submit by id r) ∷ past) lane n place first later j is mine =
-    elim (eqb_tells place (asked past)) [
+    elim (eqb_tells place (count_submitted past)) [
       | inl t ↦ rw t.0 (by_owner by j (rw t.0 at mine) is)
-      | inr t ↦ rw t.0 (by_test (is_by by lane n) is (rw t.0 at mine) (λ l e old. open_own s past lane n place first l j.1 e old))
+      | inr t ↦ rw t.0 (by_test (is_by by lane n) is (rw t.0 at mine)
+          (λ l e old. open_own s past lane n place first l j.1 e old))
     ]
   where
     by_owner : (o : Owner) → IsJournal s (entry.Event (Submit o id r) ∷ past) → is_by o lane n ≡ true
-        → (if is_by o lane n then own past lane n ++ (asked past, r) ∷ [] else own past lane n) ≡ first ∷ later
-        → is_one_of (closed s past) first.0 ≡ false
+        → (if is_by o lane n then own past lane n ++ (count_submitted past, r) ∷ [] else own past lane n)
+        ≡ first ∷ later
+        → is_one_of (closed_grants s past) first.0 ≡ false
     by_owner (owner.Call l c) k test is =
         let both = and_parts (l == lane) (c == n) test in
         let at_lane : l ≡ lane = eqb-true l lane both.0 in
@@ -300,14 +333,15 @@ open_own s (entry.Event (Submit by id r) ∷ past) lane n place first later j is
     by_owner owner.Setup k test is = absurd cc
     by_owner owner.Close k test is = absurd cc
 
-    by_test : (b : Bool) → (if b then own past lane n ++ (asked past, r) ∷ [] else own past lane n) ≡ first ∷ later
+    by_test : (b : Bool) → (if b then own past lane n ++ (count_submitted past, r) ∷ [] else own past lane n)
+        ≡ first ∷ later
         → is_asked_by (asked_at past place) lane n ≡ true
         → ((l : Own) → own past lane n ≡ first ∷ l → is_asked_by (asked_at past place) lane n ≡ true
         → is_one_of (closed_before s past place) first.0 ≡ false) → is_one_of (closed_before s past place) first.0
         ≡ false
     by_test false is old again = again later is old
     by_test true is old again =
-        elim (front_of (own past lane n) (asked past, r) first later is) [
+        elim (front_of (own past lane n) (count_submitted past, r) first later is) [
           | inl none ↦ absurd (let has = asker_owns past lane n place old in let clash : false ≡ true =
               sym (ap (λ (o : Own). has_place o place) none.0) ∙ has in cc)
           | inr some ↦ again some.0 some.1 old

@@ -14,7 +14,7 @@ use Rattle.sftp_model.specs.declared.slot.Move.TheVariants.{Ask, Done}
 use Rattle.sftp_model.specs.declared.slot.Site.{Site}
 use Rattle.plan_model.specs.declared.call.Call.TheVariants as call
 use Rattle.plan_model.specs.FilePlans.{opened_file}
-use Rattle.plan_model.specs.Moves.{Answers, Own, further, handle_of, overflows, refuses}
+use Rattle.plan_model.specs.Moves.{Answers, Own, further, handle_of, overflows, refuse_locally}
 use Rattle.plan_model.specs.TransferPlans.{next_part, part_len, rest_next}
 use Rattle.plan_model.specs.WholePlans.{nowhere, to_replace}
 use Rattle.plan_model.specs.WindowPlans.{
@@ -64,8 +64,9 @@ rest_asks : (file : FileAt) (bytes : List ℕ) (site : Site) (facts : Facts) (ow
     → AsksSo (IsWriteBy (handle_of (answers file.grant))) (rest_next nowhere file bytes site facts own answers)
 rest_asks file bytes site facts [] answers =
     either (AsksSo P) (length bytes == 0) (Done outcome.Done site) _ (λ z. tt)
-    (λ z. either (AsksSo P) (not file.writable) (refuses kind.NotWritable site) _ (λ e. tt)
-    (λ e. either (AsksSo P) (overflows file.offset (length (next_part facts bytes))) (refuses kind.OffsetOverflow site)
+    (λ z. either (AsksSo P) (not file.writable) (refuse_locally kind.NotWritable site) _ (λ e. tt)
+    (λ e. either (AsksSo P) (overflows file.offset (length (next_part facts bytes)))
+    (refuse_locally kind.OffsetOverflow site)
     (Ask (request.Write (handle_of (answers file.grant)) file.offset (next_part facts bytes))) (λ o. tt)
     (λ o. refl)))
   where
@@ -119,12 +120,14 @@ window_asks handle bound reads replies waiting site facts = by_refused (first_re
         (λ e. either (AsksSo IsRead) (nat_lt (length waiting) facts.read_window)
         (ask_more handle reads replies waiting site facts (least (gaps reads replies waiting)) (least_end replies))
         (await_first waiting site)
-        (λ f. more_asks handle reads replies waiting site facts (least (gaps reads replies waiting)) (least_end replies)) (λ f. awaits_asks waiting site))
+        (λ f. more_asks handle reads replies waiting site facts (least (gaps reads replies waiting))
+        (least_end replies)) (λ f. awaits_asks waiting site))
 
     by_refused : (o : Option (ℕ × Reply)) → AsksSo IsRead (unless_refused o site
         (ends_or (gaps reads replies waiting) replies waiting site (least_end replies)
         (go_on handle bound reads replies waiting site facts)))
-    by_refused None = ends_asks (gaps reads replies waiting) replies waiting site (least_end replies) (go_on handle bound reads replies waiting site facts) goes
+    by_refused None = ends_asks (gaps reads replies waiting) replies waiting site (least_end replies)
+        (go_on handle bound reads replies waiting site facts) goes
     by_refused (Some got) = by_refusal (AsksSo IsRead) got.1 site (λ o. tt)
 
 -- a whole read that goes on asks a READ

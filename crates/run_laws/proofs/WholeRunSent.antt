@@ -37,7 +37,7 @@ use Rattle.session_model.specs.declared.event.Event.TheVariants.{Send, Take}
 use Rattle.session_model.specs.declared.turn.Turn.{Turn}
 use Rattle.session_model.specs.Calls.{Setting}
 use Rattle.session_model.specs.Journals.{IsJournal}
-use Rattle.session_model.specs.Readings.{answer, asked, count_below, own, sent, unanswered}
+use Rattle.session_model.specs.Readings.{answer, count_submitted, count_below, own, count_sent, count_unanswered}
 use Rattle.session_model.specs.Runs.{IsRun}
 use Rattle.session_model.proofs.CallLaws.{next_take}
 use Rattle.session_model.proofs.OverLaws.{runs_are_journals, runs_are_over}
@@ -46,7 +46,8 @@ use Rattle.run_laws.specs.InJournals.{AreBelow}
 use Rattle.run_laws.proofs.OwnLaws.{own_listed}
 use Rattle.run_laws.proofs.SentLaws.{AreKnown}
 
-some_below : (past : List Entry) (place n : ℕ) (q : Reply) → answer past place ≡ Some q → asked past ≤ n → place < n
+some_below : (past : List Entry) (place n : ℕ) (q : Reply) → answer past place ≡ Some q → count_submitted past ≤ n
+    → place < n
 some_below past place n q got le = by_test (answer past place) refl got
   where
     by_test : (o : Option Reply) → answer past place ≡ o → o ≡ Some q → place < n
@@ -59,13 +60,16 @@ some_below past place n q got le = by_test (answer past place) refl got
     ]
 
 -- a request that was answered was sent
-pub answered_sent : (s : Setting) (past : List Entry) (place : ℕ) (q : Reply) → IsJournal s past → answer past place ≡ Some q → place < sent past
+pub answered_sent : (s : Setting) (past : List Entry) (place : ℕ) (q : Reply) → IsJournal s past → answer past place
+    ≡ Some q → place < count_sent past
 answered_sent s [] place q j got = absurd cc
-answered_sent s (entry.Event Send ∷ past) place q j got = some_below past place (asked past) q got (omega arith)
+answered_sent s (entry.Event Send ∷ past) place q j got = some_below past place (count_submitted past) q got
+    (omega arith)
 answered_sent s (entry.Event (Take id r) ∷ past) place q j got =
     let may = (next_take s past id r j.0).0 in
     elim (eqb_tells may.0 place) [
-      | inl t ↦ (let lt : may.0 < sent past = may.1.0.1 in let same : may.0 ≡ place = t.1 in omega (arith, lt, same))
+      | inl t ↦ (let lt : may.0 < count_sent past = may.1.0.1 in let same : may.0 ≡ place = t.1 in
+          omega (arith, lt, same))
       | inr t ↦ answered_sent s past place q j.1 (sym (answer_other past id may.0 place r may.1.0.0 t.1) ∙ got)
     ]
 answered_sent s (_ ∷ past) place q j got = answered_sent s past place q j.1 got
@@ -74,7 +78,8 @@ none_counts : (f : ℕ → Bool) (n place : ℕ) → count_below f n ≡ 0 → p
 none_counts f zero place e lt = absurd (omega (arith, lt))
 none_counts f (suc n) place e lt = by_test (f n) refl e (λ none below. none_counts f n place none below)
   where
-    by_test : (b : Bool) → f n ≡ b → (if b then 1 else 0) + count_below f n ≡ 0 → (count_below f n ≡ 0 → place < n → f place ≡ false) → f place ≡ false
+    by_test : (b : Bool) → f n ≡ b → (if b then 1 else 0) + count_below f n ≡ 0
+        → (count_below f n ≡ 0 → place < n → f place ≡ false) → f place ≡ false
     by_test true is e again = absurd (omega (arith, e))
     by_test false is e again = elim (eqb_tells place n) [
       | inl t ↦ ap f t.1 ∙ is
@@ -86,15 +91,17 @@ is_answered : (o : Option Reply) → is_none o ≡ false → (q : Reply) × (o �
 is_answered None e = absurd cc
 is_answered (Some q) e = (q, refl)
 
-sent_all : (s : Setting) (past : List Entry) (n : ℕ) (requests : Own) → IsJournal s past → unanswered past ≡ 0
-    → n ≤ asked past → AreKnown past n requests → AreBelow (sent past) requests
+sent_all : (s : Setting) (past : List Entry) (n : ℕ) (requests : Own) → IsJournal s past → count_unanswered past ≡ 0
+    → n ≤ count_submitted past → AreKnown past n requests → AreBelow (count_sent past) requests
 sent_all s past n [] j none le known = tt
 sent_all s past n (r ∷ requests) j none le known =
     let lt : r.0 < n = known.0.0 in
-    let got = is_answered (answer past r.0) (none_counts (λ place. is_none (answer past place)) (asked past) r.0 none (omega (arith, lt, le))) in
+    let got = is_answered (answer past r.0) (none_counts (λ place. is_none (answer past place)) (count_submitted past)
+    r.0 none (omega (arith, lt, le))) in
     (answered_sent s past r.0 got.0 j got.1, sent_all s past n requests j none le known.1)
 
-pub whole_run_sent : (s : Setting) (turns : List Turn) (past : List Entry) (lane call : ℕ) → IsRun s turns past → AreBelow (sent past) (own past lane call)
+pub whole_run_sent : (s : Setting) (turns : List Turn) (past : List Entry) (lane call : ℕ) → IsRun s turns past
+    → AreBelow (count_sent past) (own past lane call)
 whole_run_sent s turns past lane call run =
-    sent_all s past (asked past) (own past lane call) (runs_are_journals s turns past run)
+    sent_all s past (count_submitted past) (own past lane call) (runs_are_journals s turns past run)
     (runs_are_over s turns past run).2 (omega arith) (own_listed past lane call).1

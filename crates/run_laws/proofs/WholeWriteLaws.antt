@@ -49,11 +49,11 @@ use Rattle.machine_model.specs.FileTree.{FileTree, node_at}
 use Rattle.machine_model.specs.HandleRequests.{Answer, after_open}
 use Rattle.plan_model.specs.declared.call.Call.TheVariants as call
 use Rattle.plan_model.specs.FilePlans.{opened_file}
-use Rattle.plan_model.specs.Moves.{Answers, Own, ask_write, further, handle_of, on_handle, on_status, once_answered, overflows, refused, refuses}
+use Rattle.plan_model.specs.Moves.{Answers, Own, ask_write, further, handle_of, on_handle, on_status, once_answered, overflows, refusal_move, refuse_locally}
 use Rattle.plan_model.specs.PathPlans.{from_directory}
 use Rattle.plan_model.specs.TransferPlans.{next_part, part_len, rest_next}
 use Rattle.plan_model.specs.WholePlans.{fs_write_next, nowhere, to_replace}
-use Rattle.run_laws.specs.CallsAmong.{HasEnded, IsOpenTo, Stand, StandsOnName, ToWrite, asked_by}
+use Rattle.run_laws.specs.CallsAmong.{HasEnded, IsOpenTo, AreAmongSteps, StandsOnName, ToWrite, asked_by}
 use Rattle.run_laws.specs.Steps.{Step, answer_to, after, AllSpare, AreServed, HasBytes}
 use Rattle.run_laws.proofs.AskedInOrder.{Follow, asked_in_order, follow_as}
 use Rattle.run_laws.proofs.MoveWords.{asked_of, code_of, is_all_done, is_ask, is_done, outcome_of}
@@ -70,7 +70,7 @@ pub write_is : (file : FileAt) (part : List ℕ) (site : Site) (answers : Answer
 write_is file part site answers r e = by_tests (not file.writable) (overflows file.offset (length part)) e
   where
     by_tests : (a b : Bool)
-        → (if a then refuses kind.NotWritable site else if b then refuses kind.OffsetOverflow site else
+        → (if a then refuse_locally kind.NotWritable site else if b then refuse_locally kind.OffsetOverflow site else
         Ask (request.Write (handle_of (answers file.grant)) file.offset part)) ≡ Ask r
         → r ≡ request.Write (handle_of (answers file.grant)) file.offset part
     by_tests true b e = absurd (let both : false ≡ true = ap is_ask e in cc)
@@ -83,7 +83,7 @@ pub write_not_done : (file : FileAt) (part : List ℕ) (site : Site) (answers : 
 write_not_done file part site answers left e = by_tests (not file.writable) (overflows file.offset (length part)) e
   where
     by_tests : (a b : Bool)
-        → (if a then refuses kind.NotWritable site else if b then refuses kind.OffsetOverflow site else
+        → (if a then refuse_locally kind.NotWritable site else if b then refuse_locally kind.OffsetOverflow site else
         Ask (request.Write (handle_of (answers file.grant)) file.offset part)) ≡ Done outcome.Done left → ⊥
     by_tests true b e = (let both : false ≡ true = ap (λ (w : Move). is_all_done (outcome_of w)) e in cc)
     by_tests false true e = (let both : false ≡ true = ap (λ (w : Move). is_all_done (outcome_of w)) e in cc)
@@ -121,17 +121,28 @@ went_on : (place : ℕ) (o : Option Reply) (site : Site) (go : Move) (left : Sit
 went_on place None site go left e = absurd (let both : false ≡ true = ap is_done e in cc)
 went_on place (Some (reply.Status code message language)) site go left e =
     elim (eqb_tells code 0) [
-      | inl t ↦ record { message = message; language = language; taken = ap (λ (w : ℕ). Some (reply.Status w message language)) t.1; goes = rw (t.0) at e }
-      | inr t ↦ absurd (let stays : refused (reply.Status code message language) site ≡ Done outcome.Done left =
+      | inl t ↦ record {
+        message = message;
+        language = language;
+        taken =
+            ap (λ (w : ℕ). Some (reply.Status w message language)) t.1;
+        goes = rw (t.0) at e;
+      }
+      | inr t ↦ absurd (let stays : refusal_move (reply.Status code message language) site ≡ Done outcome.Done left =
           rw (t.0) at e in let both : false ≡ true = ap (λ (w : Move). is_all_done (outcome_of w)) stays in cc)
     ]
 went_on place (Some (reply.Version version extensions)) site go left e =
     absurd (let both : false ≡ true = ap (λ (w : Move). is_all_done (outcome_of w)) e in cc)
-went_on place (Some (reply.Handle handle)) site go left e = absurd (let both : false ≡ true = ap (λ (w : Move). is_all_done (outcome_of w)) e in cc)
-went_on place (Some (reply.Content content)) site go left e = absurd (let both : false ≡ true = ap (λ (w : Move). is_all_done (outcome_of w)) e in cc)
-went_on place (Some (reply.Names names)) site go left e = absurd (let both : false ≡ true = ap (λ (w : Move). is_all_done (outcome_of w)) e in cc)
-went_on place (Some (reply.Attrs attrs)) site go left e = absurd (let both : false ≡ true = ap (λ (w : Move). is_all_done (outcome_of w)) e in cc)
-went_on place (Some (reply.Extended content)) site go left e = absurd (let both : false ≡ true = ap (λ (w : Move). is_all_done (outcome_of w)) e in cc)
+went_on place (Some (reply.Handle handle)) site go left e = absurd
+    (let both : false ≡ true = ap (λ (w : Move). is_all_done (outcome_of w)) e in cc)
+went_on place (Some (reply.Content content)) site go left e =
+    absurd (let both : false ≡ true = ap (λ (w : Move). is_all_done (outcome_of w)) e in cc)
+went_on place (Some (reply.Names names)) site go left e = absurd
+    (let both : false ≡ true = ap (λ (w : Move). is_all_done (outcome_of w)) e in cc)
+went_on place (Some (reply.Attrs attrs)) site go left e = absurd
+    (let both : false ≡ true = ap (λ (w : Move). is_all_done (outcome_of w)) e in cc)
+went_on place (Some (reply.Extended content)) site go left e =
+    absurd (let both : false ≡ true = ap (λ (w : Move). is_all_done (outcome_of w)) e in cc)
 
 -- ---- the WRITEs
 
@@ -154,14 +165,17 @@ part_length facts rest = let l : length (next_part facts rest) ≡ min (part_len
 writes_rest : (config : ServerConfig) (answers : Answers) (name : Name) (h : List ℕ) (facts : Facts) (site left : Site)
     (steps : List Step) (own : Own) (tree : FileTree) (file : FileAt) (bytes rest : List ℕ)
     → IsWellFormed tree → handle_of (answers file.grant) ≡ h → file.offset ≡ length bytes
-    → IsOpenTo ToWrite tree name h bytes → AreServed config answers tree steps → Stand config name h own tree steps
+    → IsOpenTo ToWrite tree name h bytes → AreServed config answers tree steps
+    → AreAmongSteps config name h own tree steps
     → Follow (λ later. rest_next nowhere file rest site facts later answers) own
     → rest_next nowhere file rest site facts own answers ≡ Done outcome.Done left
     → HasBytes (after config tree steps) name (bytes ++ rest)
 writes_rest config answers name h facts site left steps [] tree file bytes rest well_formed bears at has served stand
     follow e = ends config name tree steps h file site facts answers bytes rest left well_formed has stand e
-writes_rest config answers name h facts site left [] (asked ∷ later) tree file bytes rest well_formed bears at has served stand follow e = absurd stand
-writes_rest config answers name h facts site left (s ∷ steps) (asked ∷ later) tree file bytes rest well_formed bears at has served stand follow e =
+writes_rest config answers name h facts site left [] (asked ∷ later) tree file bytes rest well_formed bears at has
+    served stand follow e = absurd stand
+writes_rest config answers name h facts site left (s ∷ steps) (asked ∷ later) tree file bytes rest well_formed bears at
+    has served stand follow e =
     elim stand [
       | inl own ↦
           (let n : ℕ = part_len facts rest in
@@ -187,7 +201,8 @@ writes_rest config answers name h facts site left (s ∷ steps) (asked ∷ later
           (writes_rest config answers name h facts site left steps later (answer_to config tree s).1 moved
           (bytes ++ part) (drop n rest) (step_well_formed config tree s well_formed) bears stands_at now served.2
           own.2
-          (follow_as _ more later (λ own. goes_on (answers asked.0) on.message on.language (more own) on.taken) follow.1)
+          (follow_as _ more later (λ own. goes_on (answers asked.0) on.message on.language (more own) on.taken)
+          follow.1)
           on.goes))
       | inr other ↦
           writes_rest config answers name h facts site left steps (asked ∷ later) (answer_to config tree s).1 file bytes
@@ -215,17 +230,23 @@ was_granted place (Some (reply.Version version extensions)) site go left e =
     absurd (let both : false ≡ true = ap (λ (w : Move). is_all_done (outcome_of w)) e in cc)
 was_granted place (Some (reply.Status code message language)) site go left e =
     absurd (let both : false ≡ true = ap (λ (w : Move). is_all_done (outcome_of w)) e in cc)
-was_granted place (Some (reply.Content content)) site go left e = absurd (let both : false ≡ true = ap (λ (w : Move). is_all_done (outcome_of w)) e in cc)
-was_granted place (Some (reply.Names names)) site go left e = absurd (let both : false ≡ true = ap (λ (w : Move). is_all_done (outcome_of w)) e in cc)
-was_granted place (Some (reply.Attrs attrs)) site go left e = absurd (let both : false ≡ true = ap (λ (w : Move). is_all_done (outcome_of w)) e in cc)
-was_granted place (Some (reply.Extended content)) site go left e = absurd (let both : false ≡ true = ap (λ (w : Move). is_all_done (outcome_of w)) e in cc)
+was_granted place (Some (reply.Content content)) site go left e =
+    absurd (let both : false ≡ true = ap (λ (w : Move). is_all_done (outcome_of w)) e in cc)
+was_granted place (Some (reply.Names names)) site go left e =
+    absurd (let both : false ≡ true = ap (λ (w : Move). is_all_done (outcome_of w)) e in cc)
+was_granted place (Some (reply.Attrs attrs)) site go left e =
+    absurd (let both : false ≡ true = ap (λ (w : Move). is_all_done (outcome_of w)) e in cc)
+was_granted place (Some (reply.Extended content)) site go left e =
+    absurd (let both : false ≡ true = ap (λ (w : Move). is_all_done (outcome_of w)) e in cc)
 
--- The first request of the call is the first step, its further ones stand among the others, which spare the name. Where it
--- ended well, the name has a file with the bytes that it was given.
+-- The first request of the call is the first step, its further ones stand among the others, which spare the name. Where
+-- it ended well, the name has a file with the bytes that it was given.
 pub whole_writes : (config : ServerConfig) (answers : Answers) (name : Name) (path bytes : List ℕ) (site : Site)
     (facts : Facts) (later : Own) (tree : FileTree) (first : Step) (steps : List Step)
-    → IsWellFormed tree → components (from_directory site path) ≡ name → StandsOnName config answers name later tree first steps
-    → HasEnded (call.FsWrite path bytes) site facts (asked_by first ∷ later) answers outcome.Done → HasBytes (after config tree (first ∷ steps)) name bytes
+    → IsWellFormed tree → components (from_directory site path) ≡ name
+    → StandsOnName config answers name later tree first steps
+    → HasEnded (call.FsWrite path bytes) site facts (asked_by first ∷ later) answers outcome.Done
+    → HasBytes (after config tree (first ∷ steps)) name bytes
 whole_writes config answers name path bytes site facts later tree first steps well_formed denotes stands ended =
     let by : Answers = ended.by in
     let file : FileAt = opened_file to_replace first.place in
@@ -236,11 +257,15 @@ whole_writes config answers name path bytes site facts later tree first steps we
     (asked_in_order (fs_write_next path bytes site facts) ended.requests by (fs_write_stays path bytes site facts)
     ended.so_far.asked)
     in
-    let served : AreServed config by tree (first ∷ steps) = served_before config by answers tree (first ∷ steps) ended.stay stands.served in
+    let served : AreServed config by tree (first ∷ steps) = served_before config by answers tree (first ∷ steps)
+    ended.stay stands.served in
     let on = was_granted first.place (by first.place) site (λ handle. go later) ended.left ended.ends in
-    let said : reply.Handle on.handle ≡ (answer_to config tree first).0 = reply_is (by first.place) _ _ on.taken served.1 in
-    let is : answer_to config tree first ≡ after_open tree first.handle to_replace.0 (components whole) (node_at tree (components whole)) =
-    step_opens config tree first to_replace whole (open_is to_replace whole site first.request follow.0) (handle_unrefused config tree first on.handle said) in
+    let said : reply.Handle on.handle ≡ (answer_to config tree first).0 =
+    reply_is (by first.place) _ _ on.taken served.1 in
+    let is : answer_to config tree first ≡ after_open tree first.handle to_replace.0 (components whole)
+    (node_at tree (components whole)) =
+    step_opens config tree first to_replace whole (open_is to_replace whole site first.request follow.0)
+    (handle_unrefused config tree first on.handle said) in
     let held : IsOpenTo ToWrite (answer_to config tree first).1 name on.handle [] =
     subst (λ (w : Name). IsOpenTo ToWrite (answer_to config tree first).1 w on.handle []) denotes
     (subst (λ (w : Answer). IsOpenTo ToWrite w.1 (components whole) on.handle []) (sym is)
@@ -248,7 +273,8 @@ whole_writes config answers name path bytes site facts later tree first steps we
     served.0.1 (sym (said ∙ ap (λ (w : Answer). w.0) is)))) in
     writes_rest config by name on.handle facts site ended.left steps later (answer_to config tree first).1 file [] bytes
     (step_well_formed config tree first well_formed) (ap handle_of on.taken) refl held served.2
-    (subst (λ (w : List ℕ). Stand config name w later (answer_to config tree first).1 steps)
+    (subst (λ (w : List ℕ). AreAmongSteps config name w later (answer_to config tree first).1 steps)
     (ap handle_of (ended.stay first.place (reply.Handle on.handle) on.taken)) stands.stands)
-    (follow_as _ go later (λ own. ap (λ (w : Option Reply). once_answered first.place w (λ r. on_handle r site (λ handle. go own))) on.taken) follow.1)
+    (follow_as _ go later (λ own. ap (λ (w : Option Reply). once_answered first.place w
+    (λ r. on_handle r site (λ handle. go own))) on.taken) follow.1)
     on.goes

@@ -49,7 +49,8 @@ use Rattle.run_laws.proofs.ReadLaws.{AreParts, IsPart, IsTakenPart}
 pub prefix_parts : (bytes : List ℕ) (reads : Own) (answers : Answers) → AreParts bytes reads answers → (got : ℕ × Reply)
     → Among got (answered_prefix reads answers) → IsPart bytes got.0 got.1
 prefix_parts bytes [] answers parts got h = absurd h
-prefix_parts bytes (asked ∷ later) answers parts got h = by_answer (answers asked.0) parts.0 h (λ k. prefix_parts bytes later answers parts.1 got k)
+prefix_parts bytes (asked ∷ later) answers parts got h = by_answer (answers asked.0) parts.0 h
+    (λ k. prefix_parts bytes later answers parts.1 got k)
   where
     by_answer : (o : Option Reply) → IsTakenPart bytes (begins asked) o
         → Among got (answered_then (begins asked) o (answered_prefix later answers))
@@ -64,29 +65,38 @@ record HasReply (a : ℕ × Request) (replies : List (ℕ × Reply)) : Type 0 wh
   got : Reply
   there : Among (begins a, got) replies
 
-all_answered : (reads : Own) (answers : Answers) → outside reads answers ≡ [] → (a : ℕ × Request) → Among a reads → HasReply a (answered_prefix reads answers)
+all_answered : (reads : Own) (answers : Answers) → outside reads answers ≡ [] → (a : ℕ × Request) → Among a reads
+    → HasReply a (answered_prefix reads answers)
 all_answered [] answers none a h = absurd h
-all_answered (asked ∷ later) answers none a h = by_answer (answers asked.0) none h (λ n k. all_answered later answers n a k)
+all_answered (asked ∷ later) answers none a h = by_answer (answers asked.0) none h
+    (λ n k. all_answered later answers n a k)
   where
     by_answer : (o : Option Reply) → (if is_some o then outside later answers else asked ∷ later) ≡ []
         → Among a (asked ∷ later) → (outside later answers ≡ [] → Among a later
         → HasReply a (answered_prefix later answers))
         → HasReply a (answered_then (begins asked) o (answered_prefix later answers))
     by_answer None none h rest = absurd cc
-    by_answer (Some r) none (inl e) rest = record { got = r; there = inl (ap (λ (w : ℕ × Request). (let p : ℕ × Reply = (begins w, r) in p)) e) }
+    by_answer (Some r) none (inl e) rest = record {
+      got = r;
+      there =
+          inl (ap (λ (w : ℕ × Request). (let p : ℕ × Reply = (begins w, r) in p)) e);
+    }
     by_answer (Some r) none (inr k) rest = let m = rest none k in record { got = m.got; there = inr m.there }
 
 -- parts are no refusals
 pub no_refusal : (bytes : List ℕ) (replies : List (ℕ × Reply))
     → ((got : ℕ × Reply) → Among got replies → IsPart bytes got.0 got.1) → first_refusal replies ≡ None
 no_refusal bytes [] parts = refl
-no_refusal bytes (got ∷ rest) parts = by_reply got.0 got.1 (parts got (inl refl)) (no_refusal bytes rest (λ g h. parts g (inr h)))
+no_refusal bytes (got ∷ rest) parts = by_reply got.0 got.1 (parts got (inl refl))
+    (no_refusal bytes rest (λ g h. parts g (inr h)))
   where
-    by_reply : (offset : ℕ) (r : Reply) → IsPart bytes offset r → first_refusal rest ≡ None → first_refusal ((offset, r) ∷ rest) ≡ None
+    by_reply : (offset : ℕ) (r : Reply) → IsPart bytes offset r → first_refusal rest ≡ None
+        → first_refusal ((offset, r) ∷ rest) ≡ None
     by_reply offset (reply.Content content) part later = later
     by_reply offset (reply.Status code message language) part later = by_code (code == 1) (eq-eqb code 1 part.0)
       where
-        by_code : (b : Bool) → b ≡ true → cond (not b) (Some (offset, reply.Status code message language)) (first_refusal rest) ≡ None
+        by_code : (b : Bool) → b ≡ true → cond (not b) (Some (offset, reply.Status code message language))
+            (first_refusal rest) ≡ None
         by_code true is = later
         by_code false is = absurd cc
     by_reply offset (reply.Handle handle) part later = absurd part
@@ -97,14 +107,16 @@ no_refusal bytes (got ∷ rest) parts = by_reply got.0 got.1 (parts got (inl ref
 
 -- ---- the DATA of the prefix
 
-contents_from : (x : Piece) (replies : List (ℕ × Reply)) → Among x (contents replies) → Among (x.0, reply.Content x.1) replies
+contents_from : (x : Piece) (replies : List (ℕ × Reply)) → Among x (contents replies)
+    → Among (x.0, reply.Content x.1) replies
 contents_from x [] h = absurd h
 contents_from x (got ∷ rest) h = by_reply got.0 got.1 h (contents_from x rest)
   where
     by_reply : (offset : ℕ) (r : Reply) → Among x (contents ((offset, r) ∷ rest))
         → (Among x (contents rest) → Among (x.0, reply.Content x.1) rest)
         → Among (x.0, reply.Content x.1) ((offset, r) ∷ rest)
-    by_reply offset (reply.Content bytes) (inl e) later = inl (ap (λ (w : Piece). (let p : ℕ × Reply = (w.0, reply.Content w.1) in p)) e)
+    by_reply offset (reply.Content bytes) (inl e) later = inl (ap
+        (λ (w : Piece). (let p : ℕ × Reply = (w.0, reply.Content w.1) in p)) e)
     by_reply offset (reply.Content bytes) (inr k) later = inr (later k)
     by_reply offset (reply.Status code message language) k later = inr (later k)
     by_reply offset (reply.Handle handle) k later = inr (later k)
@@ -126,15 +138,18 @@ contents_into : (offset : ℕ) (bytes : List ℕ) (replies : List (ℕ × Reply)
 contents_into offset bytes [] h = absurd h
 contents_into offset bytes (got ∷ rest) h = by_reply got.0 got.1 h (contents_into offset bytes rest)
   where
-    not_content : (r : Reply) (at : ℕ) → is_content r ≡ false → (let p : ℕ × Reply = (offset, reply.Content bytes) in p) ≡ (at, r) → ⊥
+    not_content : (r : Reply) (at : ℕ) → is_content r ≡ false → (let p : ℕ × Reply = (offset, reply.Content bytes) in p)
+        ≡ (at, r) → ⊥
     not_content r at other e = (let both : true ≡ false = ap (λ (w : ℕ × Reply). is_content w.1) e ∙ other in cc)
 
     by_reply : (at : ℕ) (r : Reply) → Among (offset, reply.Content bytes) ((at, r) ∷ rest)
         → (Among (offset, reply.Content bytes) rest → Among (offset, bytes) (contents rest))
         → Among (offset, bytes) (contents ((at, r) ∷ rest))
-    by_reply at (reply.Content content) (inl e) later = inl (ap (λ (w : ℕ × Reply). (let p : Piece = (w.0, content_of w.1) in p)) e)
+    by_reply at (reply.Content content) (inl e) later = inl (ap
+        (λ (w : ℕ × Reply). (let p : Piece = (w.0, content_of w.1) in p)) e)
     by_reply at (reply.Content content) (inr k) later = inr (later k)
-    by_reply at (reply.Status code message language) (inl e) later = absurd (not_content (reply.Status code message language) at refl e)
+    by_reply at (reply.Status code message language) (inl e) later =
+        absurd (not_content (reply.Status code message language) at refl e)
     by_reply at (reply.Status code message language) (inr k) later = later k
     by_reply at (reply.Handle handle) (inl e) later = absurd (not_content (reply.Handle handle) at refl e)
     by_reply at (reply.Handle handle) (inr k) later = later k
@@ -144,15 +159,18 @@ contents_into offset bytes (got ∷ rest) h = by_reply got.0 got.1 h (contents_i
     by_reply at (reply.Attrs attrs) (inr k) later = later k
     by_reply at (reply.Extended content) (inl e) later = absurd (not_content (reply.Extended content) at refl e)
     by_reply at (reply.Extended content) (inr k) later = later k
-    by_reply at (reply.Version version extensions) (inl e) later = absurd (not_content (reply.Version version extensions) at refl e)
+    by_reply at (reply.Version version extensions) (inl e) later =
+        absurd (not_content (reply.Version version extensions) at refl e)
     by_reply at (reply.Version version extensions) (inr k) later = later k
 
 -- each begins where a READ does
-contents_begin : (reads : Own) (answers : Answers) (x : Piece) → Among x (contents (answered_prefix reads answers)) → Among x.0 (map begins reads)
+contents_begin : (reads : Own) (answers : Answers) (x : Piece) → Among x (contents (answered_prefix reads answers))
+    → Among x.0 (map begins reads)
 contents_begin reads answers x h =
     let s : HasSpan (x.0, reply.Content x.1) reads answers = prefix_span (x.0, reply.Content x.1) reads answers
     (contents_from x (answered_prefix reads answers) h) in
-    subst (λ (n : ℕ). Among n (map begins reads)) s.is.at (among_map begins s.of.asked reads (span_read s.of reads answers s.is.there))
+    subst (λ (n : ℕ). Among n (map begins reads)) s.is.at (among_map begins s.of.asked reads
+    (span_read s.of reads answers s.is.there))
 
 -- a READ begins after none of them ends, or before it begins
 abbrev pub LieApart : List Piece → List ℕ → Type 0
@@ -192,8 +210,10 @@ stand_apart (asked ∷ later) answers distinct lie = by_answer (answers asked.0)
           ]
         ]
 
-    by_answer : (o : Option Reply) → LieApart (contents (answered_then (begins asked) o (answered_prefix later answers))) (begins asked ∷ map begins later)
-        → (LieApart (contents (answered_prefix later answers)) (begins asked ∷ map begins later) → StandApart (contents (answered_prefix later answers)))
+    by_answer : (o : Option Reply) → LieApart (contents (answered_then (begins asked) o
+        (answered_prefix later answers))) (begins asked ∷ map begins later)
+        → (LieApart (contents (answered_prefix later answers)) (begins asked ∷ map begins later)
+        → StandApart (contents (answered_prefix later answers)))
         → StandApart (contents (answered_then (begins asked) o (answered_prefix later answers)))
     by_answer None lie rest = tt
     by_answer (Some (reply.Content bytes)) lie rest = (first bytes lie, rest (λ x h s k. lie x (inr h) s k))
@@ -239,7 +259,8 @@ any_begins p (asked ∷ later) e = by_head (begins asked == p) refl e (any_begin
 
 -- ---- all of it
 
--- The READs of a whole read that has got all: each is answered by a part of the bytes, an end was told, and there is no gap.
+-- The READs of a whole read that has got all: each is answered by a part of the bytes, an end was told, and there is no
+-- gap.
 pub record AllGot (bytes : List ℕ) (end : ℕ) (reads : Own) (answers : Answers) : Type 0 where
   pub parts : AreParts bytes reads answers
   pub lie : LieApart (contents (answered_prefix reads answers)) (map begins reads)
@@ -264,18 +285,22 @@ begins_piece bytes end reads answers all p lt h =
     by_reply got.got got.there (prefix_parts bytes reads answers all.parts (begins m.of, got.got) got.there) m.gives
   where
     under : p < end
-    under = (let le = end_after bytes (answered_prefix reads answers) end (prefix_parts bytes reads answers all.parts) all.ends in omega (arith, le, lt))
+    under = (let le = end_after bytes (answered_prefix reads answers) end (prefix_parts bytes reads answers all.parts)
+        all.ends in omega (arith, le, lt))
 
-    by_reply : {at : ℕ} (r : Reply) → Among (at, r) (answered_prefix reads answers) → IsPart bytes at r → p ≡ at → BeginsAt (got_pieces end reads answers) p
+    by_reply : {at : ℕ} (r : Reply) → Among (at, r) (answered_prefix reads answers) → IsPart bytes at r → p ≡ at
+        → BeginsAt (got_pieces end reads answers) p
     by_reply {at} (reply.Content content) there part same =
         record {
           piece = (at, content);
           there = into_filter (below_end end) (at, content) (contents (answered_prefix reads answers))
               (contents_into at content (answered_prefix reads answers) there)
-              (let below : at < end = let u = under in omega (arith, u, same) in let test : nat_lt at end ≡ true = grind (arith, nat_tests) in test);
+              (let below : at < end = let u = under in omega (arith, u, same) in let test : nat_lt at end ≡ true =
+              grind (arith, nat_tests) in test);
           at = sym same;
         }
-    by_reply (reply.Status code message language) there part same = absurd (let le = part.1 in omega (arith, le, lt, same))
+    by_reply (reply.Status code message language) there part same =
+        absurd (let le = part.1 in omega (arith, le, lt, same))
     by_reply (reply.Handle handle) there part same = absurd part
     by_reply (reply.Names names) there part same = absurd part
     by_reply (reply.Attrs attrs) there part same = absurd part
@@ -290,14 +315,17 @@ next_begins bytes end reads answers all x h lt = by_test (list_any (λ asked. be
   where
     under : nat_lt (content_end x) end ≡ true
     under =
-        (let le = end_after bytes (answered_prefix reads answers) end (prefix_parts bytes reads answers all.parts) all.ends in
+        (let le = end_after bytes (answered_prefix reads answers) end (prefix_parts bytes reads answers all.parts)
+        all.ends in
         let below : content_end x < end = omega (arith, le, lt) in
         let test : nat_lt (content_end x) end ≡ true = grind (arith, nat_tests) in test)
 
-    by_test : (b : Bool) → list_any (λ asked. begins asked == content_end x) reads ≡ b → Among (content_end x) (map begins reads)
+    by_test : (b : Bool) → list_any (λ asked. begins asked == content_end x) reads ≡ b
+        → Among (content_end x) (map begins reads)
     by_test true is = any_begins (content_end x) reads is
     by_test false is =
-        (let g : Gap reads (answered_prefix reads answers) (outside reads answers) (content_end x) = record { free = is; within = rw (all.ends) under } in
+        (let g : Gap reads (answered_prefix reads answers) (outside reads answers) (content_end x) =
+        record { free = is; within = rw (all.ends) under } in
         let there : Among (content_end x) (gaps reads (answered_prefix reads answers) (outside reads answers)) =
         into_filter (is_gap reads (answered_prefix reads answers) (outside reads answers)) (content_end x)
         (map content_end (contents (answered_prefix reads answers)))
@@ -316,14 +344,18 @@ all_joined bytes end reads answers all = pieces_join bytes (got_pieces end reads
     whence x h = (from_filter (below_end end) x (contents (answered_prefix reads answers)) h).0
 
     pieces : (x : Piece) → Among x (got_pieces end reads answers) → IsPiece bytes x
-    pieces x h = prefix_parts bytes reads answers all.parts (x.0, reply.Content x.1) (contents_from x (answered_prefix reads answers) (whence x h))
+    pieces x h = prefix_parts bytes reads answers all.parts (x.0, reply.Content x.1)
+        (contents_from x (answered_prefix reads answers) (whence x h))
 
     here : 0 < length bytes → BeginsAt (got_pieces end reads answers) 0
     here lt = by_case all.starts
       where
         by_case : (reads ≡ []) ⊎ Among 0 (map begins reads) → BeginsAt (got_pieces end reads answers) 0
-        by_case (inl none) = absurd (subst (λ (l : Own). Among end (map begins l)) none (end_begins end reads answers all.ends))
+        by_case (inl none) = absurd (subst (λ (l : Own). Among end (map begins l)) none
+            (end_begins end reads answers all.ends))
         by_case (inr there) = begins_piece bytes end reads answers all 0 lt there
 
-    next : (x : Piece) → Among x (got_pieces end reads answers) → content_end x < length bytes → BeginsAt (got_pieces end reads answers) (content_end x)
-    next x h lt = begins_piece bytes end reads answers all (content_end x) lt (next_begins bytes end reads answers all x (whence x h) lt)
+    next : (x : Piece) → Among x (got_pieces end reads answers) → content_end x < length bytes
+        → BeginsAt (got_pieces end reads answers) (content_end x)
+    next x h lt = begins_piece bytes end reads answers all (content_end x) lt
+        (next_begins bytes end reads answers all x (whence x h) lt)

@@ -13,7 +13,7 @@ use Rattle.sftp_model.specs.declared.slot.Move.TheVariants.{Ask}
 use Rattle.sftp_model.specs.declared.slot.Site.{Site}
 use Rattle.plan_model.specs.FilePlans.{open_request}
 use Rattle.plan_model.specs.Moves.{Answers, Own, ask_path, handle_of, on_handle, once_answered}
-use Rattle.plan_model.specs.OwnRequests.{AreAsked, Extends, MayBeAnswered, oldest_first}
+use Rattle.plan_model.specs.OwnRequests.{AreAsked, ExtendsAnswers, MayBeAnswered, oldest_first}
 use Rattle.plan_model.specs.PathPlans.{from_directory}
 use Rattle.plan_model.specs.WindowPlans.{answered_prefix, begins, fs_read_next, len_asked, outside, to_read, window_next}
 use Rattle.plan_model.proofs.Among.{Among, MadeOf, among_map, at_end, before_end, from_map, last_end}
@@ -25,9 +25,13 @@ use Rattle.run_laws.proofs.ReadLaws.{AreReads}
 
 -- ---- replies that may answer
 
-may_earlier : (past : Own) (before answers : Answers) → Extends before answers → MayBeAnswered past answers → MayBeAnswered past before
+may_earlier : (past : Own) (before answers : Answers) → ExtendsAnswers before answers → MayBeAnswered past answers
+    → MayBeAnswered past before
 may_earlier [] before answers stays may = tt
-may_earlier (a ∷ past) before answers stays may = (by_answer (before a.0) refl, may_earlier past before answers stays may.1)
+may_earlier (a ∷ past) before answers stays may = (
+  by_answer (before a.0) refl,
+  may_earlier past before answers stays may.1,
+)
   where
     by_answer : (o : Option Reply) → before a.0 ≡ o → IfSome o (MayAnswer a.1)
     by_answer None is = tt
@@ -41,7 +45,8 @@ may_reads past answers first reads are may = let both : MayBeAnswered (first ∷
 -- ---- what the window asks
 
 -- the window asks on the handle that the OPEN brought
-pub record WindowAsked (bound : Option ℕ) (first : ℕ × Request) (reads : Own) (answers : Answers) (facts : Facts) (r : Request) : Type 0 where
+pub record WindowAsked (bound : Option ℕ) (first : ℕ × Request) (reads : Own) (answers : Answers) (facts : Facts)
+    (r : Request) : Type 0 where
   pub handle : List ℕ
   pub brought : answers first.0 ≡ Some (reply.Handle handle)
   pub asks : Asking handle bound reads (answered_prefix reads answers) (outside reads answers) facts r
@@ -63,12 +68,14 @@ window_asked path bound site facts first reads answers r e = by_answer (answers 
       asks =
           asking handle bound reads (answered_prefix reads answers) (outside reads answers) site facts r e;
     }
-    by_answer (Some (reply.Status code message language)) is e = absurd (ends_no_ask (reply.Status code message language) site r e)
+    by_answer (Some (reply.Status code message language)) is e =
+        absurd (ends_no_ask (reply.Status code message language) site r e)
     by_answer (Some (reply.Content bytes)) is e = absurd (ends_no_ask (reply.Content bytes) site r e)
     by_answer (Some (reply.Names names)) is e = absurd (ends_no_ask (reply.Names names) site r e)
     by_answer (Some (reply.Attrs attrs)) is e = absurd (ends_no_ask (reply.Attrs attrs) site r e)
     by_answer (Some (reply.Extended content)) is e = absurd (ends_no_ask (reply.Extended content) site r e)
-    by_answer (Some (reply.Version version extensions)) is e = absurd (ends_no_ask (reply.Version version extensions) site r e)
+    by_answer (Some (reply.Version version extensions)) is e =
+        absurd (ends_no_ask (reply.Version version extensions) site r e)
 
 -- a READ by the handle
 pub record ByHandle (handle : List ℕ) (r : Request) : Type 0 where
@@ -106,7 +113,8 @@ abbrev pub StartsAtStart : Own → Type 0
 StartsAtStart reads = (reads ≡ []) ⊎ Among 0 (map begins reads)
 
 -- the OPEN and the READs of a whole read that has asked
-pub record ReadsAsked (path : List ℕ) (bound : Option ℕ) (site : Site) (facts : Facts) (past : Own) (answers : Answers) : Type 0 where
+pub record ReadsAsked (path : List ℕ) (bound : Option ℕ) (site : Site) (facts : Facts) (past : Own) (answers : Answers)
+    : Type 0 where
   pub first : ℕ × Request
   pub reads : Own
   pub are : oldest_first past ≡ first ∷ reads
@@ -115,12 +123,14 @@ pub record ReadsAsked (path : List ℕ) (bound : Option ℕ) (site : Site) (fact
   pub starts : StartsAtStart reads
   pub window : Windowed facts (length past * facts.read_len) reads answers
 
-starts_more : (a : ℕ × Request) (reads : Own) → (reads ≡ [] → begins a ≡ 0) → StartsAtStart reads → StartsAtStart (reads ++ a ∷ [])
+starts_more : (a : ℕ × Request) (reads : Own) → (reads ≡ [] → begins a ≡ 0) → StartsAtStart reads
+    → StartsAtStart (reads ++ a ∷ [])
 starts_more a reads first (inl none) = inr (subst (λ (n : ℕ). Among n (map begins (reads ++ a ∷ []))) (first none)
     (among_map begins a (reads ++ a ∷ []) (last_end a reads)))
 starts_more a reads first (inr there) =
     let m : MadeOf begins reads 0 = from_map begins 0 reads there in
-    inr (subst (λ (n : ℕ). Among n (map begins (reads ++ a ∷ []))) (sym m.gives) (among_map begins m.of (reads ++ a ∷ []) (before_end m.of a reads m.there)))
+    inr (subst (λ (n : ℕ). Among n (map begins (reads ++ a ∷ []))) (sym m.gives)
+    (among_map begins m.of (reads ++ a ∷ []) (before_end m.of a reads m.there)))
 
 pub reads_asked : (path : List ℕ) (bound : Option ℕ) (site : Site) (facts : Facts) (a : ℕ × Request) (past : Own)
     (answers : Answers) → 1 ≤ facts.read_len → AreAsked (fs_read_next path bound site facts) (a ∷ past) answers
@@ -138,14 +148,17 @@ reads_asked path bound site facts a [] answers one (before, earlier, is, none, s
     }
 reads_asked path bound site facts a (b ∷ past) answers one (before, earlier, is, none, stays) may =
     let old : MayBeAnswered (b ∷ past) before = may_earlier (b ∷ past) before answers stays may.1 in
-    let m : ReadsAsked path bound site facts (b ∷ past) before = reads_asked path bound site facts b past before one earlier old in
+    let m : ReadsAsked path bound site facts (b ∷ past) before =
+    reads_asked path bound site facts b past before one earlier old in
     let are : oldest_first (a ∷ b ∷ past) ≡ m.first ∷ (m.reads ++ a ∷ []) = ap (λ (l : Own). l ++ a ∷ []) m.are in
     let w : WindowAsked bound m.first m.reads before facts a.1 =
-    window_asked path bound site facts m.first m.reads before a.1 (subst (λ (l : Own). fs_read_next path bound site facts l before ≡ Ask a.1) m.are is) in
+    window_asked path bound site facts m.first m.reads before a.1
+    (subst (λ (l : Own). fs_read_next path bound site facts l before ≡ Ask a.1) m.are is) in
     let added : Windowed facts (length (b ∷ past) * facts.read_len + facts.read_len) (m.reads ++ a ∷ []) before =
     windowed_added w.handle bound facts (length (b ∷ past) * facts.read_len) a m.reads before none one
     (may_reads (b ∷ past) before m.first m.reads m.are old) m.window w.asks in
-    let now : handle_of (answers m.first.0) ≡ w.handle = ap handle_of (stays m.first.0 (reply.Handle w.handle) w.brought) in
+    let now : handle_of (answers m.first.0) ≡ w.handle = ap handle_of
+    (stays m.first.0 (reply.Handle w.handle) w.brought) in
     let then : handle_of (before m.first.0) ≡ w.handle = ap handle_of w.brought in
     record {
       first = m.first;
@@ -164,20 +177,25 @@ reads_asked path bound site facts a (b ∷ past) answers one (before, earlier, i
           w.asks)) m.starts;
       window = windowed_later facts (length (a ∷ b ∷ past) * facts.read_len) (m.reads ++ a ∷ []) before answers stays
           (may_reads (a ∷ b ∷ past) answers m.first (m.reads ++ a ∷ []) are may)
-          (subst (λ (n : ℕ). Windowed facts n (m.reads ++ a ∷ []) before) (sym (suc-mul (length (b ∷ past)) facts.read_len)) added);
+          (subst (λ (n : ℕ). Windowed facts n (m.reads ++ a ∷ []) before)
+          (sym (suc-mul (length (b ∷ past)) facts.read_len)) added);
     }
 
 -- they are READs of some bytes by the handle of the OPEN
-are_reads : (handle : List ℕ) (reads : Own) → ((a : ℕ × Request) → Among a reads → ByHandle handle a.1 × (1 ≤ len_asked a.1)) → AreReads handle reads
+are_reads : (handle : List ℕ) (reads : Own) → ((a : ℕ × Request) → Among a reads → ByHandle handle a.1
+    × (1 ≤ len_asked a.1)) → AreReads handle reads
 are_reads handle [] each = tt
 are_reads handle (a ∷ reads) each =
     let k = each a (inl refl) in
     let by = k.0 in
     let is = by.is in
     let same : len_asked a.1 ≡ by.len = ap len_asked is in
-    let some = k.1 in
-    (record { offset = by.offset; len = by.len; is = is; some = omega (arith, same, some) }, are_reads handle reads (λ b h. each b (inr h)))
+    let some = k.1 in (
+      record { offset = by.offset; len = by.len; is = is; some = omega (arith, same, some) },
+      are_reads handle reads (λ b h. each b (inr h)),
+    )
 
 pub reads_by_handle : (path : List ℕ) (bound : Option ℕ) (site : Site) (facts : Facts) (past : Own) (answers : Answers)
     → (m : ReadsAsked path bound site facts past answers) → AreReads (handle_of (answers m.first.0)) m.reads
-reads_by_handle path bound site facts past answers m = are_reads (handle_of (answers m.first.0)) m.reads (λ a h. (m.by_handle a h, (m.window.tiled.some a h).0))
+reads_by_handle path bound site facts past answers m = are_reads (handle_of (answers m.first.0)) m.reads
+    (λ a h. (m.by_handle a h, (m.window.tiled.some a h).0))

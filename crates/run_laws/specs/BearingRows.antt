@@ -1,5 +1,4 @@
--- A worked journal in which a handle is granted twice, and beside it requests that bear the handle of no grant of their
--- lane.
+-- A worked journal in which a handle is granted twice, beside requests that have the handle of no grant of their lane.
 use Rattle.std.specs.Prelude.{◌≡◌, ℕ, List, [], ◌∷◌, codes, drop, Option, Some, None, refl}
 use Rattle.std.proofs.Common.{arith}
 use Rattle.ssh_encoding.specs.Writing.{string, uint32}
@@ -15,9 +14,18 @@ use Rattle.session_model.specs.Calls.{Setting}
 use Rattle.session_model.specs.Journals.{IsJournal}
 use Rattle.session_model.specs.Readings.{AskedRequest}
 use Rattle.session_model.specs.RowWords.{end, granted, handle, ok, open_of, send, setting_with, submit, take, to_read}
-use Rattle.run_laws.specs.Bearing.{Bears, BearsGrant, ClosesAt, UsesAt, UsesGrant, grant_at, used, used_now}
+use Rattle.run_laws.specs.Bearing.{
+  BearsHandle,
+  BearsGrant,
+  ClosesAt,
+  UsesAt,
+  UsesGrant,
+  grant_at,
+  grant_used_at,
+  used_now,
+}
 
--- a lane reads a file, closes it, and reads it again; another one reads another file
+-- A lane reads a file, closes it, and reads it again; another lane reads another file.
 abbrev pub reads_twice : Setting
 reads_twice = setting_with (
     (call.OpenFile 0 to_read (codes "a") ∷ call.Read 0 4 ∷ call.Close 0 ∷ call.OpenFile 1 to_read (codes "a") ∷
@@ -29,7 +37,7 @@ reads_twice = setting_with (
 abbrev read_of : ℕ → Request
 read_of n = request.Read (handle n) 0 4
 
--- The handle 7 serves for the requests 0 and 4, and 8 for the request 1.
+-- The handle 7 is granted for the requests 0 and 4, and 8 for the request 1.
 abbrev pub read_again : List Entry
 read_again =
     submit 1 1 1 (read_of 8)
@@ -119,7 +127,7 @@ read_again_is = (
   ),
 )
 
--- ---- whose handles its requests bear
+-- ---- The grants of its requests' handles
 
 abbrev asked_for : ℕ → ℕ → ℕ → Request → AskedRequest
 asked_for lane call id r = record { by = owner.Call lane call; id = id; request = r }
@@ -145,33 +153,33 @@ second_read_is = record { grant = 4; is = refl; before = omega arith; came = ref
 pub others_read_uses : grant_at reads_twice read_again 6 ≡ Some 1
 others_read_uses = refl
 
--- an OPEN bears no handle
+-- An OPEN has no handle.
 pub open_uses_none : grant_at reads_twice read_again 4 ≡ None
 open_uses_none = refl
 
 pub next_read_bears : BearsGrant reads_twice (drop 1 read_again) (owner.Call 1 1) (read_of 8) (handle 8)
 next_read_bears = record { grant = 1; is = refl; came = refl; unclosed = refl; may = refl }
 
--- ---- what nearly is one
+-- ---- Cases that nearly are one
 
--- the READ behind the CLOSE uses the later grant alone
-pub not_the_first : (let o : Option ℕ = used reads_twice read_again 5 (handle 7) in o) ≡ Some 0 → ⊥
+-- The READ after the CLOSE uses only the later grant.
+pub not_the_first : (let o : Option ℕ = grant_used_at reads_twice read_again 5 (handle 7) in o) ≡ Some 0 → ⊥
 not_the_first e = cc
 
--- between the CLOSE and the next HANDLE no grant of the lane has the handle
+-- Between the CLOSE and the next HANDLE no grant of the lane has the handle.
 pub behind_its_close : used_now reads_twice (drop 6 read_again) (owner.Call 0 3) (read_of 7) (handle 7) ≡ None
 behind_its_close = refl
 
 pub bears_none_then : BearsGrant reads_twice (drop 6 read_again) (owner.Call 0 3) (read_of 7) (handle 7) → ⊥
 bears_none_then b = (let e : None ≡ Some b.grant = b.is in cc)
 
--- nor does another lane hold it
+-- Another lane does not hold it either.
 pub not_of_this_lane : used_now reads_twice read_again (owner.Call 1 2) (read_of 7) (handle 7) ≡ None
 not_of_this_lane = refl
 
 pub bears_none_there : BearsGrant reads_twice read_again (owner.Call 1 2) (read_of 7) (handle 7) → ⊥
 bears_none_there b = (let e : None ≡ Some b.grant = b.is in cc)
 
--- a path bears no handle
-pub paths_bear_none : Bears (request.Remove (codes "a")) (codes "a") → ⊥
+-- A path has no handle.
+pub paths_bear_none : BearsHandle (request.Remove (codes "a")) (codes "a") → ⊥
 paths_bear_none b = b

@@ -13,7 +13,7 @@ use Rattle.sftp_model.specs.declared.slot.FileAt.{FileAt}
 use Rattle.sftp_model.specs.declared.slot.Site.{Site}
 use Rattle.sftp_model.specs.declared.slot.Slot.TheVariants.{Buffered}
 use Rattle.machine_model.specs.Changes.{ClosesHandle}
-use Rattle.machine_model.specs.FileTree.{FileTree, bytes_of, opened_at, put}
+use Rattle.machine_model.specs.FileTree.{FileTree, bytes_of, opened_at, written_at}
 use Rattle.machine_model.specs.declared.opened.Held.{Held}
 use Rattle.machine_model.specs.declared.opened.Opened.TheVariants as opened
 use Rattle.plan_model.specs.declared.call.Call.TheVariants as call
@@ -25,36 +25,35 @@ use Rattle.run_laws.specs.GrantUses.{WritesBy}
 use Rattle.run_laws.specs.InJournals.{is_of_call}
 use Rattle.run_laws.specs.Steps.{Step, after, answer_to}
 
--- the bytes that a WRITE carries
+-- The bytes that a WRITE carries.
 abbrev pub content_in : Request → List ℕ
 content_in (request.Write handle offset content) = content
 content_in other = []
 
--- what these requests carry, joined
-abbrev pub carried : Own → List ℕ
-carried [] = []
-carried (asked ∷ later) = content_in asked.1 ++ carried later
+-- The bytes that these requests carry, joined.
+abbrev pub carried_bytes : Own → List ℕ
+carried_bytes [] = []
+carried_bytes (asked ∷ later) = content_in asked.1 ++ carried_bytes later
 
--- their places
+-- The places of the requests.
 abbrev pub places : Own → List ℕ
 places [] = []
 places (asked ∷ later) = asked.0 ∷ places later
 
--- each is a WRITE by the handle, the first at the offset and each after the one before it
+-- Each is a WRITE by the handle, the first at the offset and each after the one before it.
 abbrev pub AreWrites : List ℕ → ℕ → Own → Type 0
 AreWrites handle offset [] = Unit {0}
 AreWrites handle offset (asked ∷ later) = (asked.1 ≡ request.Write handle offset (content_in asked.1))
     × AreWrites handle (offset + length (content_in asked.1)) later
 
--- the requests at these places were each answered by a STATUS 0
+-- The requests at these places were each answered by a STATUS 0.
 abbrev pub AreWritten : Answers → List ℕ → Type 0
 AreWritten answers [] = Unit {0}
 AreWritten answers (place ∷ later) = ((message : List ℕ) × ((language : List ℕ)
     × (answers place ≡ Some (reply.Status SSH_FX_OK message language)))) × AreWritten answers later
 
--- These requests stand among the steps in their order, the last of them being the last step. Each writes by the handle.
--- No other step
--- changes the file or closes the handle.
+-- These requests are among the steps in their order, the last of them being the last step. Each writes by the handle.
+-- No other step changes the file or closes the handle.
 abbrev pub StandAlone : ServerConfig → ℕ → List ℕ → Own → FileTree → List Step → Type 0
 StandAlone config file handle [] tree [] = Unit {0}
 StandAlone config file handle [] tree (s ∷ steps) = ⊥
@@ -65,10 +64,9 @@ StandAlone config file handle (asked ∷ later) tree (s ∷ steps) =
     ⊎ ((bytes_of (answer_to config tree s).1 file ≡ bytes_of tree file) × (ClosesHandle s.request handle → ⊥)
     × StandAlone config file handle (asked ∷ later) (answer_to config tree s).1 steps)
 
--- ---- in journals
+-- ---- In journals
 
--- A call with these requests wrote the bytes to a buffered file, which stood at the offset, and a flush of what it left
--- ended well.
+-- A call with these requests wrote the bytes to a buffered file at the offset, and a flush of what it left ended well.
 pub record IsFlushedWrite (past : List Entry) (own : Own) (offset : ℕ) (bytes : List ℕ) : Type 0 where
   pub slot : ℕ
   pub file : FileAt
@@ -84,30 +82,30 @@ pub record IsFlushedWrite (past : List Entry) (own : Own) (offset : ℕ) (bytes 
   pub same : slot_at flush_site slot ≡ slot_at wrote.left slot
   pub flushed : HasEnded (call.BufFlush slot) flush_site flush_facts flush_own (answer past) outcome.Done
 
--- the tree as the request at a place came, in a run of the machine: what the steps before it left
+-- The tree when the request at a place came, in a run of the machine: the result of the steps before it.
 abbrev pub tree_at : ServerConfig → FileTree → List Step → ℕ → FileTree
 tree_at config first steps place = after config first (filter (λ s. nat_lt s.place place) steps)
 
--- the place behind these requests
+-- The place after these requests.
 abbrev pub place_behind : ℕ × Request → Own → ℕ
 place_behind r [] = r.0 + 1
 place_behind r (a ∷ later) = place_behind a later
 
--- each request of the call writes by the handle
+-- Each request of the call writes by the handle.
 abbrev pub AllWriteBy : List Entry → ℕ → ℕ → List ℕ → Type 0
 AllWriteBy past lane k handle = (place : ℕ) (a : AskedRequest) → is_of_call past (lane, k) place ≡ true
     → asked_at past place
     ≡ Some a → WritesBy a.request handle
 
--- From the first of these requests of a call up to the last of them each request of others leaves the bytes of the
--- file.
+-- From the first of these requests of a call up to the last of them, each request of others leaves the bytes of the
+-- file unchanged.
 abbrev pub OthersLeave : ServerConfig → FileTree → List Entry → List Step → ℕ × ℕ → ℕ × Request → Own → ℕ → Type 0
 OthersLeave config first past steps c w written file =
     (place : ℕ) → w.0 < place → place < place_behind w written → is_of_call past c place ≡ false
     → bytes_of (tree_at config first steps (place + 1)) file ≡ bytes_of (tree_at config first steps place) file
 
--- A handle had a file open to be written, and not to append, as the first of a call's requests came. Up to the last of
--- them each request of others leaves the bytes of the file.
+-- A handle had a file open to write, and not to append, when the first of a call's requests came. Up to the last of
+-- them each request of others leaves the bytes of the file unchanged.
 pub record WritesAlone (config : ServerConfig) (first : FileTree) (past : List Entry) (steps : List Step) (lane k : ℕ)
     (handle : List ℕ) : Type 0 where
   pub w : ℕ × Request
@@ -118,10 +116,10 @@ pub record WritesAlone (config : ServerConfig) (first : FileTree) (past : List E
   pub way : ToWrite held
   pub others : OthersLeave config first past steps (lane, k) w written held.file
 
--- The bytes were put into that file at an offset: behind the last of the call's requests it has what it had as the
--- first one came, with the bytes at the offset; zeros fill a gap.
+-- The bytes were put into that file at an offset. After the last of the call's requests it has the bytes that it had
+-- when the first one came, with these bytes at the offset; zeros fill a gap.
 abbrev pub ArePut : (config : ServerConfig) (first : FileTree) (past : List Entry) (steps : List Step) (lane k : ℕ)
     (handle : List ℕ) → WritesAlone config first past steps lane k handle → ℕ → List ℕ → Type 0
 ArePut config first past steps lane k handle t offset bytes =
     bytes_of (tree_at config first steps (place_behind t.w t.written)) t.held.file
-    ≡ put (bytes_of (tree_at config first steps t.w.0) t.held.file) offset bytes
+    ≡ written_at (bytes_of (tree_at config first steps t.w.0) t.held.file) offset bytes

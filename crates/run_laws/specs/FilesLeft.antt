@@ -1,4 +1,4 @@
--- What is left of a name, and the call that is the last to have to do with it.
+-- The final state of a name, and the last call that concerns it.
 use Rattle.std.specs.Prelude.{◌≡◌, ◌≢◌, ◌<◌, ℕ, true, List, [], ◌∷◌, Some}
 use Rattle.sftp_model.specs.declared.reply.Reply.TheVariants as reply
 use Rattle.sftp_model.specs.declared.request.Request.{Request}
@@ -15,21 +15,22 @@ use Rattle.run_laws.specs.GrantUses.{WritesBy}
 use Rattle.run_laws.specs.InJournals.{IsOfLane, PassesAt, is_of_call}
 use Rattle.run_laws.specs.Steps.{HasBytes}
 
--- A call of a lane to whom the name is, by its number, with its requests. What later calls ask passes the name by.
+-- A call of the lane that owns the name, by its number, with its requests. The requests of later calls pass the name
+-- by.
 pub record LaneLast (s : Setting) (past : List Entry) (name : Name) (lane call : ℕ) (w : ℕ × Request) (written : Own) :
     Type 0 where
   pub lanes : IsOfLane past name lane
   pub asks : own past lane call ≡ w ∷ written
   pub later : (place after : ℕ) → call < after → is_of_call past (lane, after) place ≡ true → PassesAt s past name place
 
--- A lane to whom the name is. What its calls ask passes the name by.
+-- A lane that owns the name. The requests of its calls pass the name by.
 pub record LaneNever (s : Setting) (past : List Entry) (name : Name) (lane : ℕ) : Type 0 where
   pub lanes : IsOfLane past name lane
   pub passes : (place call : ℕ) → is_of_call past (lane, call) place ≡ true → PassesAt s past name place
 
--- Two calls of a lane to whom the name is, by their numbers, with their requests: the first is an OPEN of the name to
--- be written anew, which brought a handle. The requests of the second write by this handle, and use this grant. What
--- the lane's other calls behind the first ask passes the name by.
+-- Two calls of the lane that owns the name, by their numbers, with their requests. The first is an OPEN of the name
+-- that creates or truncates its file, and it brought a handle. The requests of the second write by this handle, and use
+-- this grant. The requests of the lane's other calls after the first pass the name by.
 pub record LaneAnew (s : Setting) (past : List Entry) (name : Name) (lane opener writer : ℕ) (w : ℕ × Request)
     (written : Own) : Type 0 where
   pub lanes : IsOfLane past name lane
@@ -48,7 +49,7 @@ pub record LaneAnew (s : Setting) (past : List Entry) (name : Name) (lane opener
   pub others : (place call : ℕ) → opener < call → call ≢ writer → is_of_call past (lane, call) place ≡ true
       → PassesAt s past name place
 
--- a name has now what it had at first, and its file the bytes
+-- A name now has the file or directory that it had at first, and its file the same bytes.
 pub record IsUntouched (first now : FileTree) (name : Name) : Type 0 where
   pub node : node_at now name ≡ node_at first name
   pub bytes : (bytes : List ℕ) → HasBytes first name bytes → HasBytes now name bytes

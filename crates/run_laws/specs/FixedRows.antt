@@ -1,5 +1,5 @@
--- A worked run of which all is given but the ids of its requests, in which a file is opened and its handle closed, and
--- beside it what nearly is one.
+-- A worked run of which everything is given except the ids of its requests. A file is opened and its handle closed.
+-- Beside it is a case that nearly is one.
 use Rattle.std.specs.Prelude.{ℕ, ◌-◌, ◌≡◌, Bool, ◌∷◌, List, [], codes, drop, None, Some, refl}
 use Rattle.std.proofs.Common.{arith, inl, inr, sym}
 use Rattle.std.proofs.lemmas.Bool.Decides.{eqb_tells}
@@ -18,7 +18,7 @@ use Rattle.session_model.specs.JournalRows.{over}
 use Rattle.session_model.specs.RunRows.{zero_begun, zero_ended}
 use Rattle.session_model.specs.Runs.{IsRun}
 use Rattle.session_model.specs.RowWords.{close, end, handle, ok, open_of, send, submit, take, to_read}
-use Rattle.session_model.specs.Served.{IsNumbered, Serves}
+use Rattle.session_model.specs.Served.{IsNumbered, ServesJournal}
 use Rattle.session_model.specs.ServedRows.{config, hello_file}
 use Rattle.session_model.specs.Settings.{setting_of}
 use Rattle.session_model.specs.Turns.{RunProgress, none_begun}
@@ -30,11 +30,11 @@ opens_a = record { calls = call.OpenFile 0 to_read (codes "a") ∷ [] } ∷ []
 abbrev pub nothing_offered : Extensions
 nothing_offered = record { 0 = 0 }
 
--- the handle of the first grant
+-- The handle of the first grant.
 abbrev first_handle : List ℕ
 first_handle = 0 ∷ 0 ∷ 0 ∷ 0 ∷ []
 
--- the ids could be others
+-- The ids could be others.
 abbrev pub opened_once : List Entry
 opened_once =
     take 9 ok
@@ -47,7 +47,7 @@ opened_once =
     ∷ submit 0 0 7 (open_of (codes "a"))
     ∷ []
 
--- the journal after so many entries
+-- The journal after this many entries.
 abbrev so_far : ℕ → List Entry
 so_far n = drop (8 - n) opened_once
 
@@ -197,7 +197,7 @@ opened_once_runs = (
   ),
 )
 
-opened_once_served : Serves config [] hello_file opened_once hello_file
+opened_once_served : ServesJournal config [] hello_file opened_once hello_file
 unfolding components
 opened_once_served = ((first_handle, ((omega arith, refl), refl, (handle 8, ((omega arith, refl), refl, refl)))), tt)
 
@@ -222,7 +222,7 @@ opened_once_is_fixed = record {
   numbered = opened_once_numbered;
 }
 
--- a run that was granted another handle is none such
+-- A run that was granted another handle is not such a run.
 pub over_is_not_numbered : IsNumbered over → ⊥
 unfolding uint32
 over_is_not_numbered h = let e : handle 7 ≡ uint32 0 = h 0 (handle 7) refl in absurd cc

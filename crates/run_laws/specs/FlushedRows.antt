@@ -50,16 +50,16 @@ use Rattle.run_laws.specs.FlushesWrites.{PutsInto, WritesAndFlushes}
 use Rattle.run_laws.specs.ReadsBack.{call_in}
 use Rattle.run_laws.specs.SlotCalls.{leaves_slot}
 
--- ---- the run
+-- ---- The run
 
--- a file
+-- A file.
 abbrev pub hello : FileTree
 hello = record { names = (codes "a" ∷ [], node.File 0) ∷ []; files = codes "hello" ∷ []; handles = [] }
 
 abbrev pub to_write : OpenOptions
 to_write = record to_read { read = false; write = true }
 
--- a lane opens it to be written, buffers it, writes two bytes, changes its directory and flushes the bytes
+-- A lane opens it to write, buffers it, writes two bytes, changes its directory and flushes the bytes.
 abbrev pub writes_flushed : Setting
 writes_flushed =
     setting_with
@@ -85,7 +85,7 @@ flushed_run =
     ∷ submit 0 0 0 (open_request (record { 0 = 2 }) (codes "a"))
     ∷ []
 
--- a call that ends as it begins leaves no lane begun
+-- After a call that ends when it starts, no lane has a started call.
 none_ended : none_begun ≡ begun_but none_begun 0
 none_ended = λ i l. neither_way (0 == l) i
   where
@@ -363,9 +363,9 @@ flushed_is_run = (
   ),
 )
 
--- ---- what it is served by
+-- ---- The machine that serves it
 
--- the steps of the machine
+-- The steps of the machine.
 abbrev pub flushed_steps : List Step
 flushed_steps =
     record { place = 0; request = open_request (record { 0 = 2 }) (codes "a"); choice = choice 0 0; handle = handle 9 }
@@ -380,7 +380,7 @@ pub flushed_served : AreServed (config 0) (answer flushed_run) hello flushed_ste
 unfolding components
 flushed_served = ((omega arith, refl), refl, ((omega arith, refl), refl, ((omega arith, refl), refl, tt)))
 
--- ---- what is said of it
+-- ---- The statements about it
 
 abbrev pub flushed_reported : List (List Outcome)
 flushed_reported = (outcome.Opened ∷ outcome.Done ∷ outcome.Done ∷ outcome.Done ∷ outcome.Done ∷ []) ∷ []
@@ -415,7 +415,7 @@ flushed_calls =
       plain = refl;
     }
 
--- where no other request comes between
+-- If no other request comes between.
 pub none_between : OthersLeave (config 0) hello flushed_run flushed_steps (0, 2)
     (1, request.Write (handle 9) 0 (codes "hu")) [] 0
 none_between = λ place above below out. absurd (omega (arith, above, below))
@@ -450,9 +450,9 @@ flushed_puts =
       puts = λ others. refl;
     }
 
--- ---- what is no such write
+-- ---- Cases that are no such write
 
--- a lane that opens the file to append
+-- A lane that opens the file to append.
 abbrev pub to_append : List Lane
 to_append = record {
   calls = call.OpenFile 0 (record to_write { append = true }) (codes "a") ∷ call.Buffer 0 8 ∷ call.BufWriteAll 0
@@ -473,7 +473,7 @@ appends_none f = by_opener f.opener f.opens f.plain
     by_opener (suc (suc (suc (suc zero)))) opens plain = cc
     by_opener (suc (suc (suc (suc (suc n))))) opens plain = cc
 
--- ---- calls and slots
+-- ---- Calls and slots
 
 pub leaves_others : leaves_slot 0 (call.BufRead 1 8) ≡ true
 leaves_others = refl

@@ -1,5 +1,4 @@
--- Lanes that open a file in a slot, buffer it, write to it and flush it, by their calls and the outcomes that are
--- reported of these.
+-- Lanes that open a file in a slot, buffer it, write to it and flush it, by their calls and the reported outcomes.
 use Rattle.std.specs.Prelude.{◌≡◌, ◌≢◌, ◌<◌, ◌==◌, ◌||◌, ℕ, suc, Bool, true, false, List, [], take, drop, Some}
 use Rattle.sftp_model.specs.declared.outcome.Outcome.{Outcome}
 use Rattle.sftp_model.specs.declared.outcome.Outcome.TheVariants as outcome
@@ -20,22 +19,22 @@ pub record FlushNumbers : Type 0 where
   pub writer : ℕ
   pub flusher : ℕ
 
--- the calls are made one behind the other
+-- The calls are made in this order.
 abbrev pub AreInOrder : FlushNumbers → Type 0
 AreInOrder n = (n.opener < n.bufferer) × (n.bufferer < n.writer) × (n.writer < n.flusher)
 
--- the call with this number is one of the four
+-- True if the call with this number is one of the four.
 abbrev pub is_one_of_four : FlushNumbers → ℕ → Bool
 is_one_of_four n k = k == n.opener || k == n.bufferer || k == n.writer || k == n.flusher
 
--- A name is one lane's alone but for four calls of it: each of its other calls writes or reads a file as a whole, or
--- keeps off the name and opens no file, and the calls of all other lanes keep off the name.
+-- A name belongs to one lane alone, except for four calls of it. Each of the lane's other calls writes or reads a file
+-- as a whole, or keeps off the name and opens no file. The calls of all other lanes keep off the name.
 pub record IsAloneBut (lanes : List Lane) (name : Name) (lane : ℕ) (n : FlushNumbers) : Type 0 where
   pub own : (k : ℕ) (c : Call) → call_in lanes lane k ≡ Some c → is_one_of_four n k ≡ false → may_own name c ≡ true
   pub others : (other : ℕ) → other ≢ lane → all_keep_off name [] (calls_in lanes other) ≡ true
 
--- These four calls open the name's file in a slot to be written anew, buffer it, write bytes to it and flush it; all
--- ended well, and no other call writes the name's file between the first of them and a later call.
+-- These four calls open the name's file in a slot and create or truncate it, buffer it, write bytes to it and flush it.
+-- All ended well, and no other call writes the name's file between the first of them and a later call.
 pub record FlushesLast (lanes : List Lane) (outcomes : List (List Outcome)) (name : Name) (lane : ℕ) (n : FlushNumbers)
     (reader : ℕ) (bytes : List ℕ) : Type 0 where
   pub slot : ℕ

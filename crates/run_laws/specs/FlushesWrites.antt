@@ -1,5 +1,5 @@
--- Writes to buffered files that are flushed later, by the lanes that were handed in and the outcomes that are reported
--- of their calls.
+-- Writes to buffered files that are flushed later, by the lanes that were passed in and the reported outcomes of their
+-- calls.
 use Rattle.std.specs.Prelude.{◌≡◌, ◌<◌, ℕ, suc, true, false, List, ◌∷◌, Some, drop, length, take}
 use Rattle.std.specs.List.{list_all}
 use Rattle.sftp_model.specs.Slots.{slot_at}
@@ -30,9 +30,9 @@ use Rattle.run_laws.specs.ReadsBack.{call_in, calls_in, outcome_in}
 use Rattle.run_laws.specs.SlotCalls.{leaves_slot}
 use Rattle.run_laws.specs.Steps.{RunOf, Step}
 
--- A call of a lane writes bytes, of which there are some, to a slot that holds a buffered file as the call begins,
--- which this handle was granted for, and a later call of the lane flushes the slot, which the calls between the two
--- leave. Both ended well. An `open` of the lane asked for the file's grant, not to append.
+-- A call of a lane writes at least one byte to a slot that holds a buffered file when the call starts. This handle was
+-- granted for the file. A later call of the lane flushes the slot, which the calls between the two leave unchanged.
+-- Both ended well. An `open` of the lane asked for the file's grant, not to append.
 pub record WritesAndFlushes (lanes : List Lane) (s : Setting) (past : List Entry) (outcomes : List (List Outcome))
     (lane k : ℕ) (bytes : List ℕ) : Type 0 where
   pub slot : ℕ
@@ -57,9 +57,9 @@ pub record WritesAndFlushes (lanes : List Lane) (s : Setting) (past : List Entry
   pub asked_by : is_of_call past (lane, opener) file.grant ≡ true
   pub plain : options.append ≡ false
 
--- What the requests of such a call did, of which there are some: as the first of them came, the handle had a file open
--- to be written, and not to append; and where no other request changes this file up to the last of them, the bytes were
--- put into it at an offset.
+-- The effect of the requests of such a call, of which there is at least one. When the first of them came, the handle
+-- had a file open to write, and not to append. If no other request changes this file up to the last of them, the bytes
+-- were put into it at an offset.
 pub record PutsInto (config : ServerConfig) (first : FileTree) (past : List Entry) (steps : List Step) (lane k : ℕ)
     (handle : List ℕ) (offset : ℕ) (bytes : List ℕ) : Type 0 where
   pub w : ℕ × Request
@@ -73,8 +73,8 @@ pub record PutsInto (config : ServerConfig) (first : FileTree) (past : List Entr
       (record { w = w; written = written; asks = asks; held = held; is_open = is_open; way = way; others = others })
       offset bytes
 
--- What a whole run leaves of such writes: where no other request changes the file from the first of the call's WRITEs
--- to the last, the bytes were put into it at the offset at which it stood.
+-- The effect of such writes in a whole run. If no other request changes the file from the first of the call's WRITEs to
+-- the last, the bytes were put into it at the file's offset.
 abbrev pub FlushesWrites : List Lane → ServerConfig → List Choice → FileTree → Setting → List Entry → FileTree
     → List (List Outcome) → Type 0
 FlushesWrites lanes config choices tree s past left outcomes =

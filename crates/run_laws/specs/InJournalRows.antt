@@ -1,5 +1,5 @@
--- A worked journal in which a call makes a file and a later one opens it to read, and beside it requests that don't
--- pass the name by.
+-- A worked journal in which a call creates a file and a later one opens it to read, beside requests that do not pass
+-- the name by.
 use Rattle.std.specs.Prelude.{
   ◌≡◌,
   ◌≢◌,
@@ -53,7 +53,7 @@ use Rattle.session_model.specs.RowWords.{
   take,
   to_read,
 }
-use Rattle.session_model.specs.Served.{Serves}
+use Rattle.session_model.specs.Served.{ServesJournal}
 use Rattle.run_laws.specs.CallsAmong.{HasEnded}
 use Rattle.run_laws.specs.GrantUses.{WritesBy}
 use Rattle.run_laws.specs.InJournals.{
@@ -69,11 +69,11 @@ use Rattle.run_laws.specs.InJournals.{
   is_open_of,
 }
 use Rattle.run_laws.specs.ReadBackRows.{apart, empty, empty_is_well_formed, name}
-use Rattle.run_laws.specs.Sparing.{Avoids}
+use Rattle.run_laws.specs.Sparing.{AvoidsName}
 use Rattle.run_laws.specs.Steps.{Step, after}
 use Rattle.run_laws.specs.WholeCalls.{IsWholeRead, IsWholeWrite, ServesUnrefused}
 
--- ---- the journal
+-- ---- The journal
 
 abbrev pub makes_then_reads : Setting
 makes_then_reads = setting_with (
@@ -86,7 +86,7 @@ makes_then_reads = setting_with (
 abbrev makes : Request
 makes = open_request to_replace (codes "a")
 
--- A lane makes /a and then opens it to read, and another one asks for /b, which isn't there.
+-- A lane creates /a and then opens it to read; another lane asks for /b, which does not exist.
 abbrev pub made_then_read : List Entry
 made_then_read =
     end 0 1 outcome.Opened
@@ -140,7 +140,7 @@ abbrev pub left_there : FileTree
 left_there = after (config 0) empty (step 0 makes 7 ∷ step 1 (open_of (codes "b")) 8 ∷ step 2 (open_of (codes "a")) 8 ∷
     [])
 
-pub made_then_read_is_served : Serves (config 0) [] empty made_then_read left_there
+pub made_then_read_is_served : ServesJournal (config 0) [] empty made_then_read left_there
 unfolding components
 made_then_read_is_served = (
   (
@@ -162,22 +162,22 @@ made_then_read_is_unrefused = record {
       empty_is_well_formed;
 }
 
--- ---- what its requests have to do with the name
+-- ---- The relation of its requests to the name
 
 abbrev the_open : ℕ → ℕ → ℕ → Request → AskedRequest
 the_open lane call id r = record { by = owner.Call lane call; id = id; request = r }
 
--- what stands at a place is this
+-- The request at a place is this one.
 is_this : (P : Request → Type 0) (x a : AskedRequest) → (◌≡◌ {A = Option AskedRequest} (Some x) (Some a)) → P x.request
     → P a.request
 is_this P x a e p = (let same : x ≡ a = cc in subst (λ (w : AskedRequest). P w.request) same p)
 
--- nothing stands behind the last request
+-- No request comes after the last one.
 nothing_there : (place : ℕ) (a : AskedRequest) → asked_at made_then_read (suc (suc (suc place))) ≡ Some a → ⊥
 nothing_there place a at = (let none : asked_at made_then_read (suc (suc (suc place))) ≡ None =
     asked_beyond made_then_read (suc (suc (suc place))) (omega arith) in cc)
 
-other_avoids : Avoids name (open_of (codes "b"))
+other_avoids : AvoidsName name (open_of (codes "b"))
 unfolding components
 other_avoids = record { denotes = λ d. apart (codes "b" ∷ []) name refl refl d.1; moves = λ old to d. absurd d }
 
@@ -186,7 +186,8 @@ unfolding components
 come_by_opens zero a lt at plain =
     absurd (let it : is_open_of name a.request ≡ true = is_this (λ r. is_open_of name r ≡ true) (the_open 0 0 0 makes) a
     at refl in let both : true ≡ false = sym it ∙ plain in cc)
-come_by_opens (suc zero) a lt at plain = is_this (Avoids name) (the_open 1 0 1 (open_of (codes "b"))) a at other_avoids
+come_by_opens (suc zero) a lt at plain = is_this (AvoidsName name) (the_open 1 0 1 (open_of (codes "b"))) a at
+    other_avoids
 come_by_opens (suc (suc zero)) a lt at plain =
     absurd (let it : is_open_of name a.request ≡ true = is_this (λ r. is_open_of name r ≡ true)
     (the_open 0 1 0 (open_of (codes "a"))) a at refl in let both : true ≡ false = sym it ∙ plain in cc)
@@ -195,7 +196,7 @@ come_by_opens (suc (suc (suc place))) a lt at plain = absurd (omega (arith, lt))
 pub other_passes : PassesAt makes_then_reads made_then_read name 1
 other_passes =
     record {
-      avoids = λ a at. is_this (Avoids name) (the_open 1 0 1 (open_of (codes "b"))) a at other_avoids;
+      avoids = λ a at. is_this (AvoidsName name) (the_open 1 0 1 (open_of (codes "b"))) a at other_avoids;
       writes = λ a h grant at w uses. absurd (is_this (λ r. WritesBy r h → ⊥) (the_open 1 0 1 (open_of (codes "b"))) a
           at (λ x. x) w);
     }
@@ -220,11 +221,11 @@ calls_in_turn =
     others (suc (suc zero)) lt below out out' = absurd (let both : true ≡ false = out' in cc)
     others (suc (suc (suc place))) lt below out out' = absurd (omega (arith, below))
 
--- the other lane keeps off the name, and the lane's two calls stand in turn
+-- The other lane keeps off the name, and the lane's two calls are in turn.
 pub other_keeps_off : KeepsOff made_then_read name 1
 unfolding components
 other_keeps_off zero call a at mine = absurd (let both : false ≡ true = mine in cc)
-other_keeps_off (suc zero) call a at mine = is_this (λ r. Avoids name r × (is_open_of name r ≡ false))
+other_keeps_off (suc zero) call a at mine = is_this (λ r. AvoidsName name r × (is_open_of name r ≡ false))
     (the_open 1 0 1 (open_of (codes "b"))) a at (other_avoids, refl)
 other_keeps_off (suc (suc zero)) call a at mine = absurd (let both : false ≡ true = mine in cc)
 other_keeps_off (suc (suc (suc place))) call a at mine = absurd (nothing_there place a at)
@@ -234,7 +235,7 @@ unfolding components
 lane_keeps_not_off off = (let both : true ≡ false = (off 0 0 (the_open 0 0 0 makes) refl refl).1 in cc)
 
 own_come_by_opens : (place call : ℕ) (a : AskedRequest) → asked_at made_then_read place ≡ Some a
-    → is_of_call made_then_read (0, call) place ≡ true → is_open_of name a.request ≡ false → Avoids name a.request
+    → is_of_call made_then_read (0, call) place ≡ true → is_open_of name a.request ≡ false → AvoidsName name a.request
 own_come_by_opens zero call a at mine plain = come_by_opens 0 a (omega arith) at plain
 own_come_by_opens (suc zero) call a at mine plain = come_by_opens 1 a (omega arith) at plain
 own_come_by_opens (suc (suc zero)) call a at mine plain = come_by_opens 2 a (omega arith) at plain
@@ -244,7 +245,7 @@ others_keep_off : (other : ℕ) → other ≢ 0 → KeepsOff made_then_read name
 unfolding components
 others_keep_off other ne zero call a at mine = absurd (ne (sym
     (eqb-true 0 other (and_parts (0 == other) (0 == call) mine).0)))
-others_keep_off other ne (suc zero) call a at mine = is_this (λ r. Avoids name r × (is_open_of name r ≡ false))
+others_keep_off other ne (suc zero) call a at mine = is_this (λ r. AvoidsName name r × (is_open_of name r ≡ false))
     (the_open 1 0 1 (open_of (codes "b"))) a at (other_avoids, refl)
 others_keep_off other ne (suc (suc zero)) call a at mine = absurd
     (ne (sym (eqb-true 0 other (and_parts (0 == other) (1 == call) mine).0)))
@@ -260,11 +261,11 @@ lane_is_in_turn =
       between = λ place call low high mine. absurd (omega (arith, low, high));
     }
 
--- the name is not the other lane's
+-- The name does not belong to the other lane.
 pub not_the_others : IsOfLane made_then_read name 1 → ⊥
 not_the_others t = lane_keeps_not_off (t.others 0 (λ e. absurd (omega (arith, e))))
 
--- before the first call of the lane nothing comes to the name; before the second the first has made it
+-- Before the first call of the lane no request reaches the name; before the second the first call has created it.
 pub lane_is_first : LaneFirst makes_then_reads made_then_read name 0 0 (0, makes) []
 lane_is_first = record {
   lanes = record { others = others_keep_off; by_opens = own_come_by_opens };
@@ -297,12 +298,12 @@ alone_at_first =
 pub not_alone : AloneOn makes_then_reads made_then_read name 3 (0, 1) (2, open_of (codes "a")) [] → ⊥
 not_alone t = making_is_no_passing (t.others_pass 0 (omega arith) refl)
 
--- a REMOVE comes to the name by no OPEN
+-- A REMOVE does not reach the name by an OPEN.
 pub not_by_opens : ComeByOpens (submit 1 1 1 (request.Remove (codes "a")) ∷ made_then_read) name 4 → ⊥
 unfolding components
 not_by_opens come = (come 3 (the_open 1 1 1 (request.Remove (codes "a"))) (omega arith) refl refl).denotes refl
 
--- the two OPENs are those of a whole write of no bytes and of a whole read that may get none
+-- The two OPENs are those of a whole write of no bytes and of a whole read that may receive none.
 pub nothing_written : HasEnded (call.FsWrite (codes "a") []) fresh_site makes_then_reads.facts ((0, makes) ∷ [])
     (answer made_then_read) outcome.Done
 unfolding request_body string uint32 attributes
@@ -331,15 +332,15 @@ nothing_read =
       ends = refl;
     }
 
--- ---- what doesn't pass the name by
+-- ---- Requests that do not pass the name by
 
--- a REMOVE of it
+-- A REMOVE of it.
 pub remove_is_no_passing : PassesAt makes_then_reads (submit 1 1 1 (request.Remove (codes "a")) ∷ made_then_read) name 3
     → ⊥
 unfolding components
 remove_is_no_passing p = (p.avoids (the_open 1 1 1 (request.Remove (codes "a"))) refl).denotes refl
 
--- a WRITE by the handle that its OPEN was granted
+-- A WRITE by the handle that its OPEN was granted.
 abbrev write_of : Request
 write_of = request.Write (handle 8) 0 (codes "z")
 
@@ -347,7 +348,7 @@ pub write_is_no_passing : PassesAt makes_then_reads (submit 0 2 0 write_of ∷ m
 unfolding components
 write_is_no_passing p = (let both : true ≡ false = p.writes (the_open 0 2 0 write_of) (handle 8) 2 refl refl refl in cc)
 
--- where it stands between two calls, they are not in turn
+-- If it comes between two calls, they are not in turn.
 pub not_in_turn : InTurn makes_then_reads (send ∷ submit 0 1 2 (open_of (codes "a")) ∷ submit 1 0 1
     (request.Remove (codes "a")) ∷ submit 0 0 0 makes ∷ []) name 3 (0, 0) (0, makes) [] (0, 1) (2, open_of (codes "a"))
     [] → ⊥
@@ -355,7 +356,7 @@ unfolding components
 not_in_turn t = ((t.others_pass 1 (omega arith) (omega arith) refl refl).avoids
     (the_open 1 0 1 (request.Remove (codes "a"))) refl).denotes refl
 
--- ---- the two calls as whole ones
+-- ---- The two calls as whole ones
 
 pub is_whole_write : IsWholeWrite made_then_read name ((0, makes) ∷ []) []
 unfolding components

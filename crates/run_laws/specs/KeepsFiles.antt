@@ -1,4 +1,4 @@
--- What a whole run of lanes gives of files and leaves of them.
+-- The files that a whole run of lanes reads and leaves.
 use Rattle.std.specs.Prelude.{List}
 use Rattle.sftp_model.specs.declared.config.Choice.{Choice}
 use Rattle.sftp_model.specs.declared.config.ServerConfig.{ServerConfig}
@@ -13,8 +13,8 @@ use Rattle.run_laws.specs.ListsDirectories.{ListsDirectories}
 use Rattle.run_laws.specs.ReadsBack.{ReadsBack}
 use Rattle.run_laws.specs.ReadsFlushed.{ReadsFlushed}
 
--- What a whole run of lanes gives of files and leaves of them, over a file machine that had this tree at first, under
--- these choices.
+-- The files that a whole run of lanes reads and leaves, over a file machine that had this tree at first, under these
+-- choices.
 pub record KeepsFiles (lanes : List Lane) (config : ServerConfig) (choices : List Choice) (tree : FileTree)
     (s : Setting) (past : List Entry) (left : FileTree) (outcomes : List (List Outcome)) : Type 0 where
   pub reads_back : ReadsBack lanes choices tree outcomes

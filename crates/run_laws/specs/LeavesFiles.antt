@@ -1,5 +1,4 @@
--- What a whole run leaves of files: of the lanes that were handed in, and the outcomes that are reported of their
--- calls.
+-- The files that a whole run leaves: by the lanes that were passed in, and the reported outcomes of their calls.
 use Rattle.std.specs.Prelude.{◌≡◌, ℕ, true, List, length}
 use Rattle.sftp_model.specs.declared.outcome.Outcome.{Outcome}
 use Rattle.machine_model.specs.Components.{Name}
@@ -10,9 +9,11 @@ use Rattle.run_laws.specs.Flushes.{FlushNumbers, FlushesLast, IsAloneBut}
 use Rattle.run_laws.specs.NameCalls.{none_writes}
 use Rattle.run_laws.specs.ReadsBack.{IsAlone, WritesLast, calls_in}
 
--- What a whole run over a file machine leaves, whatever the choices refuse, where a name is one lane's alone: the file
--- has the bytes that the lane wrote last as a whole; where it wrote none, the name has what it had at first; and a file
--- that the lane opened anew, buffered, wrote to and flushed, as the last that wrote it, has these bytes.
+-- The result of a whole run over a file machine, for any refusals of the choices, if a name belongs to one lane alone.
+--
+-- The file has the bytes that the lane last wrote as a whole. If the lane wrote none, the name has what it had at
+-- first. A file that the lane opened with create or truncate, buffered, wrote to and flushed, as the last calls that
+-- wrote it, has these bytes.
 pub record LeavesFiles (lanes : List Lane) (tree left : FileTree) (outcomes : List (List Outcome)) : Type 0 where
   pub written : (name : Name) (lane writer : ℕ) (bytes : List ℕ) → IsAlone lanes name lane
       → WritesLast lanes outcomes name lane writer (length (calls_in lanes lane)) bytes → HasBytes left name bytes

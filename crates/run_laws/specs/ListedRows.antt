@@ -19,14 +19,14 @@ use Rattle.session_model.specs.Calls.{Setting}
 use Rattle.session_model.specs.Readings.{outcomes_of}
 use Rattle.session_model.specs.RowWords.{close, end, handle, ok, refusal, send, setting_with, submit, take}
 use Rattle.session_model.specs.Runs.{IsRun, TurnsTo, round_of}
-use Rattle.session_model.specs.Served.{Serves}
+use Rattle.session_model.specs.Served.{ServesJournal}
 use Rattle.session_model.specs.Turns.{RunProgress, begun_but, begun_with, none_begun}
 use Rattle.run_laws.specs.Listings.{IsListed}
 use Rattle.run_laws.specs.Steps.{FeignNoEnd}
 
--- ---- the run
+-- ---- The run
 
--- a directory of two files
+-- A directory of two files.
 abbrev pub directory : FileTree
 directory =
     record {
@@ -45,7 +45,7 @@ two_files = file (codes "a") 0 ∷ file (codes "b") 1 ∷ []
 abbrev pub lists : Setting
 lists = setting_with ((call.List (codes "d") 9 ∷ []) ∷ [])
 
--- both entries come at once
+-- Both entries come at once.
 abbrev pub listed_run : List Entry
 listed_run =
     entry.LetGo 0
@@ -64,7 +64,7 @@ listed_run =
     ∷ submit 0 0 0 (request.Opendir (codes "d"))
     ∷ []
 
--- the first lane was begun
+-- The first lane has a started call.
 abbrev pub begun : ℕ → Bool
 begun = begun_with none_begun 0
 
@@ -291,9 +291,9 @@ lists_is_run = (
   ),
 )
 
--- ---- what it is served by, and what it gives
+-- ---- The machine that serves it, and its outcome
 
-pub lists_served : Serves (config 0) [] directory listed_run directory
+pub lists_served : ServesJournal (config 0) [] directory listed_run directory
 unfolding components
 lists_served = (
   (
@@ -340,6 +340,6 @@ lists_listed =
       once = λ t. (refl, (refl, tt));
     }
 
--- a choice by which the second request, a READDIR, is told an end
+-- A choice that replies to the second request, a READDIR, with an end.
 pub end_is_feigned : FeignNoEnd (choice 0 0 ∷ choice 1 0 ∷ []) → ⊥
 end_is_feigned honest = honest.1.0 refl

@@ -15,34 +15,36 @@ use Rattle.plan_model.specs.PathPlans.{from_directory}
 use Rattle.session_model.specs.declared.entry.Entry.{Entry}
 use Rattle.session_model.specs.declared.event.Owner.TheVariants as owner
 use Rattle.session_model.specs.Calls.{Setting, site_of}
-use Rattle.session_model.specs.Readings.{AskedRequest, asked_at, ended}
+use Rattle.session_model.specs.Readings.{AskedRequest, asked_at, count_ended}
 use Rattle.session_model.specs.Served.{ServesAll, requests_sent}
 use Rattle.run_laws.specs.Steps.{FeignNoEnd}
 
--- ---- the tree as a request came
+-- ---- The tree when a request came
 
--- those of some requests that stand before a place
+-- The requests of these that come before a place.
 abbrev pub before_place : ℕ → Own → Own
 before_place place requests = filter (λ r. nat_lt r.0 place) requests
 
--- The tree that the machine had as the request at a place came: what the requests that were sent before it left.
+-- The tree that the machine had when the request at a place came: the result of the requests that were sent before it.
 abbrev pub IsTreeAt : ServerConfig → List Choice → FileTree → List Entry → ℕ → FileTree → Type 0
 IsTreeAt config choices first past place now = ServesAll config past first choices
     (before_place place (requests_sent past)) now
 
--- ---- the lane as a call began
+-- ---- The lane when a call started
 
--- What a lane holds as its call with this number begins: what it held in the last part of the journal behind which so
+-- The site of a lane when its call with this number starts: its site in the last part of the journal after which this
 -- many of its calls had ended.
 abbrev pub site_at : Setting → List Entry → ℕ → ℕ → Site
 site_at s [] lane k = fresh_site
-site_at s (e ∷ past) lane k = if ended (e ∷ past) lane == k then site_of s (e ∷ past) lane else site_at s past lane k
+site_at s (e ∷ past) lane k = if count_ended (e ∷ past) lane == k then site_of s (e ∷ past) lane else
+    site_at s past lane k
 
--- ---- a listing
+-- ---- A listing
 
--- A call of a lane listed the directory at a path, from the lane's directory then, and got these names. It asked an
--- OPENDIR of it, and the names are the first of the entries that the directory had as this came, in the order of their
--- names: all of them, where no choice feigns an end. In a tree each stands there once.
+-- A call of a lane listed the directory at a path, from the lane's directory then, and returned these names.
+--
+-- It asked an OPENDIR of it. The names are the first of the entries that the directory had when this came, in the order
+-- of their names: all of them, if no choice feigns an end. In a tree each name occurs once.
 pub record IsListed (s : Setting) (config : ServerConfig) (choices : List Choice) (first : FileTree) (past : List Entry)
     (lane k : ℕ) (path : List ℕ) (names : List NameEntry) : Type 0 where
   pub place : ℕ

@@ -1,4 +1,4 @@
--- Directories that lanes list, by the lanes that were handed in and the outcomes that are reported of their calls.
+-- Directories that lanes list, by the lanes that were passed in and the reported outcomes of their calls.
 use Rattle.std.specs.Prelude.{◌≡◌, ℕ, List, Some}
 use Rattle.sftp_model.specs.declared.config.Choice.{Choice}
 use Rattle.sftp_model.specs.declared.config.ServerConfig.{ServerConfig}
@@ -13,8 +13,8 @@ use Rattle.session_model.specs.Calls.{Setting}
 use Rattle.run_laws.specs.Listings.{IsListed}
 use Rattle.run_laws.specs.ReadsBack.{call_in, outcome_in}
 
--- What a whole run gives of directories: a `list` that ended with names gives the entries that its directory had as the
--- call's OPENDIR came, whatever other calls did; the first of them, where a choice may feign an end.
+-- The listings of a whole run. A `list` that ended with names returns the entries that its directory had when the
+-- call's OPENDIR came, or the first of them if a choice may feign an end. This holds regardless of other calls.
 abbrev pub ListsDirectories : List Lane → ServerConfig → List Choice → FileTree → Setting → List Entry
     → List (List Outcome) → Type 0
 ListsDirectories lanes config choices tree s past outcomes =

@@ -1,4 +1,4 @@
--- A run that reads where there is no file, and runs of which the laws do not speak.
+-- A run that reads a file that does not exist, and runs to which the laws do not apply.
 use Rattle.std.specs.Prelude.{◌≡◌, ◌≢◌, ◌-◌, ℕ, zero, suc, ◌==◌, Bool, List, [], ◌∷◌, codes, drop, None, refl}
 use Rattle.std.proofs.Common.{sym, arith, inl}
 use Rattle.std.proofs.lemmas.Bool.{and_parts, eqb-true}
@@ -15,7 +15,7 @@ use Rattle.session_model.specs.Calls.{Setting}
 use Rattle.session_model.specs.Readings.{asked_at}
 use Rattle.session_model.specs.RowWords.{end, open_of, refusal, send, setting_with, submit, take}
 use Rattle.session_model.specs.Runs.{IsRun, TurnsTo, round_of}
-use Rattle.session_model.specs.Served.{Serves}
+use Rattle.session_model.specs.Served.{ServesJournal}
 use Rattle.session_model.specs.Turns.{RunProgress, none_begun}
 use Rattle.session_model.proofs.RequestLaws.{asked_beyond}
 use Rattle.run_laws.specs.CallsAmong.{HasNoFile}
@@ -31,7 +31,7 @@ use Rattle.run_laws.specs.RoundTripRun.{
   only_ended,
 }
 
--- ---- a read where there is no file
+-- ---- A read without a file
 
 abbrev pub reads_alone : Setting
 reads_alone = setting_with ((call.FsRead (codes "a") 4 ∷ []) ∷ [])
@@ -151,7 +151,7 @@ nothing_is_run = (
   ),
 )
 
-pub nothing_is_served : Serves (config 0) [] empty nothing_read empty
+pub nothing_is_served : ServesJournal (config 0) [] empty nothing_read empty
 unfolding components
 nothing_is_served = ((first_handle, ((omega arith, refl), refl, refl)), tt)
 
@@ -183,27 +183,27 @@ has_read_nothing = record {
   uncancelled = λ e. cc;
 }
 
--- ---- what the laws don't speak of
+-- ---- Cases to which the laws do not apply
 
--- a lane that changes its directory
+-- A lane that changes its directory.
 pub directory_is_none : (past : List Entry) → IsOneLanes (setting_with
     ((call.Cwd (codes "d") ∷ call.FsWrite (codes "a") (codes "hi") ∷ call.FsRead (codes "a") 4 ∷ []) ∷ [])) past name 0
     → ⊥
 unfolding components
 directory_is_none past one = (let own = one.own in cc)
 
--- a write behind which the lane writes the name again before it reads it
+-- A write after which the lane writes the name again before it reads it.
 pub later_write_is_none : (past : List Entry) → HasWritten (setting_with
     ((call.FsWrite (codes "a") (codes "hi") ∷ call.FsWrite (codes "/a") (codes "ho") ∷ call.FsRead (codes "a") 4 ∷ []) ∷
     [])) past name 0 0 2 (codes "hi") → ⊥
 unfolding components
 later_write_is_none past w = w.last 1 (call.FsWrite (codes "/a") (codes "ho")) (omega arith) (omega arith) refl refl
 
--- a read behind a write of the name is not its first
+-- A read after a write of the name is not its first.
 pub not_first : NoneWrites writes_then_reads written_then_read name 0 1 → ⊥
 unfolding components
 not_first none = none 0 (call.FsWrite (codes "a") (codes "hi")) (omega arith) refl refl
 
--- a read that was cancelled
+-- A read that was cancelled.
 pub cancelled_is_none : (past : List Entry) → HasRead writes_then_reads past name 0 1 outcome.Cancelled → ⊥
 cancelled_is_none past r = r.uncancelled refl

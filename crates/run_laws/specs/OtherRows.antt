@@ -24,9 +24,9 @@ use Rattle.run_laws.specs.DeferredWrites.{StandAlone}
 use Rattle.run_laws.specs.ReadBackRows.{extends_more, two_at_once}
 use Rattle.run_laws.specs.Steps.{FeignsNoEnd, Step, after, AreServed}
 
--- ---- a listing of the root, in which the first NAME is cut to one entry
+-- ---- A listing of the root, in which the first NAME is cut to one entry
 
--- a file and a directory
+-- A file and a directory.
 abbrev pub two_names : FileTree
 two_names = record {
   names = (codes "b" ∷ [], node.Directory) ∷ (codes "a" ∷ [], node.File 0) ∷ [];
@@ -115,7 +115,7 @@ listing_ends =
       ends = refl;
     }
 
--- ---- a buffered write at offset 1, whose two statuses a flush takes
+-- ---- A buffered write at offset 1, whose two statuses a flush takes
 
 abbrev pub held : Held
 held = record { file = 0; readable = true; writable = true; append = false }
@@ -131,7 +131,7 @@ hello_open = record {
 abbrev pub write_answers : Answers
 write_answers place = slice_get (granted ∷ reply.Status 0 [] [] ∷ reply.Status 0 [] [] ∷ []) place
 
--- no status had come when the write ended
+-- No status had come when the write ended.
 abbrev before_statuses : Answers
 before_statuses place = slice_get (granted ∷ []) place
 

@@ -1,4 +1,4 @@
--- The calls of the worked run: what the one wrote is what the other reads.
+-- The calls of the worked run: one call reads the bytes that the other wrote.
 use Rattle.std.specs.Prelude.{ℕ, List, [], ◌∷◌, codes, take, drop, Some, refl}
 use Rattle.std.proofs.Common.{ap, inl, inr}
 use Rattle.ssh_encoding.specs.Writing.{string, uint32}
@@ -34,7 +34,7 @@ use Rattle.run_laws.specs.ReadBackRows.{
   close_avoids,
 }
 
--- the writes to b are by the handle of its own grant
+-- The writes to b are by the handle of its own grant.
 write_passes : PassesBy answers grant_of elsewhere name (step 4 0 (9 ∷ []))
 write_passes = (write_avoids _ _ _, λ k w. (3, (refl, (ap (λ (v : List ℕ). Some (reply.Handle v)) w, refl))))
 

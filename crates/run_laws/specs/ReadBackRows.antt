@@ -1,4 +1,4 @@
--- A worked run in which a call reads what another one wrote, with requests of others between theirs.
+-- A worked run in which a call reads the bytes that another one wrote, with requests of others between theirs.
 use Rattle.std.specs.Prelude.{
   ◌≡◌,
   ◌≢◌,
@@ -42,15 +42,15 @@ use Rattle.machine_model.specs.FileTree.{FileTree}
 use Rattle.machine_model.specs.RowWords.{choice, config}
 use Rattle.plan_model.specs.FilePlans.{open_request}
 use Rattle.plan_model.specs.Moves.{Answers, Own}
-use Rattle.plan_model.specs.OwnRequests.{Extends}
+use Rattle.plan_model.specs.OwnRequests.{ExtendsAnswers}
 use Rattle.plan_model.specs.PlanWords.{facts}
 use Rattle.plan_model.specs.WholePlans.{to_replace}
 use Rattle.plan_model.specs.WindowPlans.{to_read}
 use Rattle.run_laws.specs.GrantUses.{AreOnName, IsRunOn, IsUsed, UseGrants}
-use Rattle.run_laws.specs.Sparing.{Avoids}
+use Rattle.run_laws.specs.Sparing.{AvoidsName}
 use Rattle.run_laws.specs.Steps.{Step, AreDistinct, AreServed, HasPlace}
 
--- ---- the run
+-- ---- The run
 
 abbrev pub name : Name
 name = codes "a" ∷ []
@@ -62,7 +62,7 @@ abbrev other : List ℕ
 other = 8 ∷ []
 
 -- The requests in the order in which they are sent, each at its place. A call writes "hello" in two parts to /a, and
--- one reads it; others make a directory, write to b and move it.
+-- one reads it; others create a directory, write to b and move it.
 abbrev pub requests : List Request
 requests =
     open_request to_replace (codes "/a") ∷ request.Mkdir (codes "x") no_attributes ∷ request.Write h 0 (codes "hel")
@@ -76,14 +76,14 @@ requests =
 abbrev ok : Reply
 ok = reply.Status 0 [] []
 
--- Their replies. The first READ is cut to one byte, and the handle of the write serves again for the read.
+-- Their replies. The first READ is cut to one byte, and the handle of the write is granted again for the read.
 abbrev pub replies : List Reply
 replies =
     reply.Handle h ∷ ok ∷ ok ∷ reply.Handle other ∷ ok ∷ ok ∷ ok ∷ ok
     ∷ reply.Handle h ∷ reply.Content (codes "h") ∷ reply.Content (codes "ll") ∷ ok ∷ reply.Content (codes "e") ∷
     reply.Content (codes "o") ∷ reply.Status 1 [] [] ∷ []
 
--- the replies to the first n requests
+-- The replies to the first n requests.
 abbrev pub taken : ℕ → Answers
 taken n place = slice_get (take n replies) place
 
@@ -116,7 +116,7 @@ run = (first_write ∷ between) ++ first_read ∷ rest
 abbrev pub empty : FileTree
 empty = record { names = []; files = []; handles = [] }
 
--- the grants that the requests bear
+-- The grants of the requests' handles.
 abbrev grants : List (Option ℕ)
 grants = None ∷ None ∷ Some 0 ∷ None ∷ Some 3 ∷ Some 0 ∷ Some 0 ∷ None ∷ None ∷ Some 8 ∷ Some 8 ∷ Some 3 ∷ Some 8 ∷ Some
     8 ∷ Some 8 ∷ []
@@ -127,7 +127,7 @@ grant_of place = slice_index_or grants place None
 abbrev pub elsewhere : ℕ → Bool
 elsewhere grant = grant == 3
 
--- READs of 2 bytes, WRITEs of 3, and two READs at once
+-- READs of 2 bytes, WRITEs of 3, and two READs at once.
 abbrev pub two_at_once : Facts
 two_at_once = facts 0 2 3 1 2
 
@@ -140,14 +140,14 @@ written = own 2 ∷ own 5 ∷ []
 abbrev pub read : Own
 read = own 9 ∷ own 10 ∷ own 12 ∷ own 13 ∷ own 14 ∷ []
 
--- ---- words
+-- ---- Abbreviations
 
--- two names that are told apart
+-- Two names that differ.
 pub apart : (a b : Name) → same_name a b ≡ false → same_name b b ≡ true → a ≢ b
 apart a b differ same e = absurd (let both : false ≡ true = sym differ ∙ (ap (λ (w : Name). same_name w b) e ∙ same) in
     cc)
 
--- a place that no step has
+-- A place that no step has.
 abbrev lacks : ℕ → List Step → Bool
 lacks n [] = true
 lacks n (s ∷ steps) = if s.place == n then false else lacks n steps
@@ -179,7 +179,7 @@ distinct_by (s ∷ steps) e = by_tests (lacks s.place steps) refl e (λ x. disti
     by_tests true is e later = (not_there s.place steps is, later e)
     by_tests false is e later = absurd cc
 
--- a grant that no step bears
+-- A grant that no step has.
 abbrev is_grant : Option ℕ → ℕ → Bool
 is_grant None g = false
 is_grant (Some n) g = n == g
@@ -209,13 +209,14 @@ none_borne g e = cc
 the_grant : (n g : ℕ) → (let o : Option ℕ = Some n in o) ≡ Some g → n ≡ g
 the_grant n g e = cc
 
--- replies that were taken stay
-pub extends_more : (xs ys : List Reply) → Extends (λ place. slice_get xs place) (λ place. slice_get (xs ++ ys) place)
+-- Replies that were taken stay.
+pub extends_more : (xs ys : List Reply) → ExtendsAnswers (λ place. slice_get xs place)
+    (λ place. slice_get (xs ++ ys) place)
 extends_more [] ys place r e = absurd cc
 extends_more (x ∷ xs) ys zero r e = e
 extends_more (x ∷ xs) ys (suc place) r e = extends_more xs ys place r e
 
--- ---- the premises
+-- ---- The premises
 
 pub empty_is_well_formed : IsWellFormed empty
 empty_is_well_formed = record {
@@ -358,15 +359,15 @@ use_grants = (
   ),
 )
 
-pub mkdir_avoids : Avoids name (at 1)
+pub mkdir_avoids : AvoidsName name (at 1)
 unfolding components
 mkdir_avoids = record { denotes = apart (codes "x" ∷ []) name refl refl; moves = λ old to d. absurd d }
 
-pub open_avoids : Avoids name (at 3)
+pub open_avoids : AvoidsName name (at 3)
 unfolding components
 open_avoids = record { denotes = λ d. apart (codes "b" ∷ []) name refl refl d.1; moves = λ old to d. absurd d }
 
-pub rename_avoids : Avoids name (at 7)
+pub rename_avoids : AvoidsName name (at 7)
 unfolding components
 rename_avoids =
     record {
@@ -377,13 +378,14 @@ rename_avoids =
       );
     }
 
-pub write_avoids : (handle : List ℕ) (offset : ℕ) (content : List ℕ) → Avoids name (request.Write handle offset content)
+pub write_avoids : (handle : List ℕ) (offset : ℕ) (content : List ℕ)
+    → AvoidsName name (request.Write handle offset content)
 write_avoids handle offset content = record { denotes = λ d. d; moves = λ old to d. absurd d }
 
-read_avoids : (handle : List ℕ) (offset len : ℕ) → Avoids name (request.Read handle offset len)
+read_avoids : (handle : List ℕ) (offset len : ℕ) → AvoidsName name (request.Read handle offset len)
 read_avoids handle offset len = record { denotes = λ d. d; moves = λ old to d. absurd d }
 
-pub close_avoids : (handle : List ℕ) → Avoids name (request.Close handle)
+pub close_avoids : (handle : List ℕ) → AvoidsName name (request.Close handle)
 close_avoids handle = record { denotes = λ d. d; moves = λ old to d. absurd d }
 
 on_name : AreOnName name elsewhere run

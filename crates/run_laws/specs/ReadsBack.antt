@@ -1,4 +1,4 @@
--- What was written is read back: of the lanes that were handed in, and the outcomes that are reported of their calls.
+-- Bytes that were written are read back: by the lanes that were passed in, and the reported outcomes of their calls.
 use Rattle.std.specs.Prelude.{
   ◌≡◌,
   ◌≢◌,
@@ -32,30 +32,30 @@ use Rattle.run_laws.specs.Steps.{FeignNoEnd, HasBytes, RefuseNone}
 use Rattle.run_laws.specs.NameCalls.{all_keep_off, may_own, none_writes}
 use Rattle.run_laws.specs.RoundTrips.{passes_length}
 
--- ---- calls and outcomes, by their lanes and numbers
+-- ---- Calls and outcomes, by their lanes and numbers
 
--- the calls of a lane
+-- The calls of a lane.
 abbrev pub calls_in : List Lane → ℕ → List Call
 calls_in lanes lane = calls_of (slice_get lanes lane)
 
--- a call of a lane
+-- A call of a lane.
 abbrev pub call_in : List Lane → ℕ → ℕ → Option Call
 call_in lanes lane k = slice_get (calls_in lanes lane) k
 
--- the outcome of a call of a lane
+-- The outcome of a call of a lane.
 abbrev pub outcome_in : List (List Outcome) → ℕ → ℕ → Option Outcome
 outcome_in outcomes lane k = slice_get (slice_index_or outcomes lane []) k
 
--- ---- lanes
+-- ---- Lanes
 
--- A name is one lane's alone: each call of the lane writes or reads a file as a whole, or keeps off the name and opens
--- no file, and the calls of all other lanes keep off the name.
+-- A name belongs to one lane alone. Each call of the lane writes or reads a file as a whole, or keeps off the name and
+-- opens no file. The calls of all other lanes keep off the name.
 pub record IsAlone (lanes : List Lane) (name : Name) (lane : ℕ) : Type 0 where
   pub own : list_all (may_own name) (calls_in lanes lane) ≡ true
   pub others : (other : ℕ) → other ≢ lane → all_keep_off name [] (calls_in lanes other) ≡ true
 
--- A call of a lane reads the name's file as a whole, by a path that fits a frame, and it ended so, and wasn't
--- cancelled.
+-- A call of a lane reads the name's file as a whole, by a path that fits a frame. It ended with this outcome, and was
+-- not cancelled.
 pub record ReadsNamed (lanes : List Lane) (outcomes : List (List Outcome)) (name : Name) (lane reader : ℕ)
     (ended : Outcome)
     : Type 0 where
@@ -67,7 +67,7 @@ pub record ReadsNamed (lanes : List Lane) (outcomes : List (List Outcome)) (name
   pub ends : outcome_in outcomes lane reader ≡ Some ended
   pub uncancelled : ended ≢ outcome.Cancelled
 
--- A call of a lane reads the name's file as a whole, and gave these bytes.
+-- A call of a lane reads the name's file as a whole, and returned these bytes.
 pub record GotBytes (lanes : List Lane) (outcomes : List (List Outcome)) (name : Name) (lane reader : ℕ) (got : List ℕ)
     : Type 0 where
   pub path : List ℕ
@@ -87,12 +87,14 @@ pub record WritesLast (lanes : List Lane) (outcomes : List (List Outcome)) (name
   pub earlier : writer < reader
   pub last : none_writes name (drop (suc writer) (take reader (calls_in lanes lane))) ≡ true
 
--- ---- a whole run
+-- ---- A whole run
 
--- What a whole run over a file machine gives, by the outcomes of its lanes. Where a name is one lane's alone, a call of
--- the lane that reads its file as a whole gives the bytes that the lane wrote last before it; and where the lane wrote
--- none before, what the machine had at first: the bytes of the file, or the refusal where there was none. Where the
--- choices refuse requests, and none feigns an end, a read may be refused, but the bytes that one gave are those.
+-- The result of a whole run over a file machine, by the outcomes of its lanes, if a name belongs to one lane alone.
+--
+-- A call of the lane that reads its file as a whole returns the bytes that the lane last wrote before it. If the lane
+-- wrote none before, it returns what the machine had at first: the bytes of the file, or the refusal if there was none.
+-- If the choices refuse requests, and none feigns an end, a read may be refused, but the bytes that a read returned are
+-- those.
 pub record ReadsBack (lanes : List Lane) (choices : List Choice) (tree : FileTree) (outcomes : List (List Outcome)) :
     Type 0 where
   pub written : (name : Name) (lane writer reader : ℕ) (bytes : List ℕ) (ended : Outcome) → RefuseNone choices

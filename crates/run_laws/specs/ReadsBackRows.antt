@@ -1,5 +1,5 @@
--- Worked lanes and outcomes: names that are one lane's alone, what was written and read under one, and names that are
--- no lane's alone.
+-- Worked lanes and outcomes: names that belong to one lane alone, the bytes written and read under one, and names that
+-- belong to no lane alone.
 use Rattle.std.specs.Prelude.{◌≡◌, ◌≢◌, ◌<◌, ℕ, zero, suc, true, false, List, Some, [], ◌∷◌, codes, length, refl}
 use Rattle.std.proofs.Common.{arith, subst}
 use Rattle.ssh_encoding.specs.Writing.{string, uint32}
@@ -21,12 +21,12 @@ use Rattle.run_laws.specs.ReadsBack.{GotBytes, IsAlone, ReadsNamed, WritesLast, 
 use Rattle.run_laws.specs.RoundTripRows.{left_there}
 use Rattle.run_laws.specs.RoundTripRun.{no_such_file, writes_then_reads, written_then_read}
 
--- ---- the run in which a lane writes a and reads it, and another one reads b
+-- ---- The run in which a lane writes a and reads it, and another lane reads b
 
 abbrev pub lanes : List Lane
 lanes = writes_then_reads.lanes
 
--- what is reported of it
+-- The reported outcomes.
 abbrev pub outcomes : List (List Outcome)
 outcomes = (outcome.Done ∷ outcome.Bytes (codes "hi") ∷ []) ∷ (no_such_file ∷ []) ∷ []
 
@@ -62,7 +62,7 @@ reads = record {
       λ e. cc;
 }
 
--- no later call writes the file, which is left so
+-- No later call writes the file, which keeps these bytes.
 pub writes_to_end : WritesLast lanes outcomes name 0 0 (length (calls_in lanes 0)) (codes "hi")
 unfolding components
 writes_to_end = record { path = codes "a"; is = refl; denotes = refl; ends = refl; earlier = omega arith; last = refl }
@@ -70,11 +70,11 @@ writes_to_end = record { path = codes "a"; is = refl; denotes = refl; ends = ref
 pub is_left : HasBytes left_there name (codes "hi")
 is_left = record { file = 0; is = refl; bytes_are = refl }
 
--- ---- lanes of many calls
+-- ---- Lanes of many calls
 
--- Between its write and its read the lane looks at the file's attributes and makes and removes other names, and another
--- lane opens, reads and closes b, moves c, and looks at a; a third writes a in the directory d, and looks at a of the
--- topmost.
+-- Between its write and its read the lane asks for the file's attributes and creates and removes other names. Another
+-- lane opens, reads and closes b, moves c, and asks for the attributes of a. A third writes a in the directory d, and
+-- asks for the attributes of a in the root.
 abbrev pub many_calls : List Lane
 many_calls =
     record {
@@ -110,9 +110,10 @@ many_alone = record { own = refl; others = others }
     others (suc (suc zero)) ne = refl
     others (suc (suc (suc other))) ne = refl
 
--- ---- a lane that flushes
+-- ---- A lane that flushes
 
--- it opens a to be written anew, buffers it, writes to it, asks for the file's attributes, flushes it and reads it
+-- It opens a with create and truncate, buffers it, writes to it, asks for the file's attributes, flushes it and reads
+-- it.
 abbrev pub flushing : List Lane
 flushing =
     record {
@@ -160,7 +161,7 @@ flushing_alone = record { own = own; others = others }
     others zero ne = absurd (ne refl)
     others (suc other) ne = refl
 
--- before its read, and to the end
+-- Before its read, and up to the end.
 pub flushes_before : FlushesLast flushing flushed_outcomes name 0 four 5 (codes "hi")
 unfolding components
 flushes_before =
@@ -211,11 +212,11 @@ pub reads_flushed : GotBytes flushing flushed_outcomes name 0 5 (codes "hi")
 unfolding components
 reads_flushed = record { path = codes "/a"; bound = 4; is = refl; denotes = refl; ends = refl }
 
--- a read before the flush is none behind it
+-- A read before the flush is not one after it.
 pub read_before_is_none : FlushesLast flushing flushed_outcomes name 0 four 2 (codes "hi") → ⊥
 read_before_is_none f = (let early : 4 < 2 = f.earlier in omega (arith, early))
 
--- nor where a whole write comes between
+-- Nor is it if a whole write comes between.
 abbrev pub flushes_and_writes : List Lane
 flushes_and_writes =
     record {
@@ -234,7 +235,7 @@ pub written_since_is_none : (outcomes : List (List Outcome))
 unfolding components
 written_since_is_none outcomes f = (let again = f.last in cc)
 
--- nor is the name the lane's alone but for the four where it opens it again between
+-- Nor does the name belong to the lane alone, except for the four calls, if the lane opens it again between.
 abbrev pub opens_again : List Lane
 opens_again =
     record {
@@ -252,13 +253,13 @@ unfolding components
 opened_again_is_none alone =
     (let again = alone.own 3 (call.OpenFile 1 (record nothing_chosen { write = true }) (codes "a")) refl refl in cc)
 
--- ---- what the record doesn't speak of
+-- ---- Cases to which the record does not apply
 
--- a lane of these calls beside one that writes a
+-- A lane of these calls beside one that writes a.
 abbrev pub beside : List Call → List Lane
 beside calls = record { calls = call.FsWrite (codes "a") (codes "hi") ∷ [] } ∷ record { calls = calls } ∷ []
 
--- another lane reads the file too, takes it away, moves what it stands within, or takes it away from another directory
+-- Another lane also reads the file, removes it, moves a name that it lies within, or removes it from another directory.
 pub shared_is_none : IsAlone (beside (call.FsRead (codes "/a") 4 ∷ [])) name 0 → ⊥
 unfolding components
 shared_is_none alone = (let shared = alone.others 1 (λ e. cc) in cc)
@@ -275,7 +276,7 @@ pub directory_is_none : IsAlone (beside (call.Cwd (codes "/") ∷ call.Remove (c
 unfolding components
 directory_is_none alone = (let shared = alone.others 1 (λ e. cc) in cc)
 
--- between the two calls the lane writes the file again
+-- Between the two calls the lane writes the file again.
 abbrev pub writes_again : List Lane
 writes_again = record {
   calls = call.FsWrite (codes "a") (codes "hi") ∷ call.FsWrite (codes "/a") (codes "ho") ∷

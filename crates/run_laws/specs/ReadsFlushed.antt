@@ -1,5 +1,5 @@
--- What a lane reads of a file that it opened anew, buffered, wrote to and flushed, by the lanes that were handed in and
--- the outcomes that are reported of their calls.
+-- Files that a lane opened with create and truncate, buffered, wrote to and flushed: the bytes that it reads of them
+-- later, by the lanes that were passed in and the reported outcomes of their calls.
 use Rattle.std.specs.Prelude.{◌≡◌, ℕ, List}
 use Rattle.sftp_model.specs.declared.config.Choice.{Choice}
 use Rattle.sftp_model.specs.declared.outcome.Outcome.{Outcome}
@@ -10,10 +10,11 @@ use Rattle.run_laws.specs.Flushes.{FlushNumbers, FlushesLast, IsAloneBut}
 use Rattle.run_laws.specs.ReadsBack.{GotBytes, ReadsNamed}
 use Rattle.run_laws.specs.Steps.{FeignNoEnd, RefuseNone}
 
--- What a whole run over a file machine gives, by the outcomes of its lanes, where a name is one lane's alone but for
--- four calls that open its file anew, buffer it, write to it and flush it: a later call of the lane that reads the file
--- as a whole gives these bytes. Where the choices refuse requests, and none feigns an end, a read may be refused, but
--- the bytes that one gave are those.
+-- The result of a whole run over a file machine, by the outcomes of its lanes. A name belongs to one lane alone, except
+-- for four calls that open its file with create and truncate, buffer it, write to it and flush it.
+--
+-- A later call of the lane that reads the file as a whole returns these bytes. If the choices refuse requests, and none
+-- feigns an end, a read may be refused, but the bytes that a read returned are those.
 pub record ReadsFlushed (lanes : List Lane) (choices : List Choice) (outcomes : List (List Outcome)) : Type 0 where
   pub flushed : (name : Name) (lane : ℕ) (n : FlushNumbers) (reader : ℕ) (bytes : List ℕ) (ended : Outcome)
       → RefuseNone choices

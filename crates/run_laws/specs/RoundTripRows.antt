@@ -1,5 +1,5 @@
--- Worked whole runs in which a lane writes a file as a whole and reads it, and in which one reads where there is none;
--- and beside them what the laws don't speak of.
+-- Worked whole runs in which a lane writes a file as a whole and reads it, and in which one reads a file that does not
+-- exist; beside them are cases to which the laws do not apply.
 use Rattle.std.specs.Prelude.{◌≡◌, ◌≢◌, ℕ, zero, suc, ◌==◌, true, false, [], ◌∷◌, codes, Option, Some, None, refl}
 use Rattle.std.proofs.Common.{sym, arith, inl, subst}
 use Rattle.std.proofs.lemmas.Bool.{and_parts, eqb-true}
@@ -16,12 +16,12 @@ use Rattle.session_model.specs.Calls.{lane_calls}
 use Rattle.session_model.specs.Readings.{AskedRequest, asked_at}
 use Rattle.session_model.specs.RowWords.{open_of}
 use Rattle.session_model.specs.Runs.{IsRun}
-use Rattle.session_model.specs.Served.{Serves}
+use Rattle.session_model.specs.Served.{ServesJournal}
 use Rattle.session_model.specs.Turns.{none_begun}
 use Rattle.session_model.proofs.RequestLaws.{asked_beyond}
 use Rattle.run_laws.specs.InJournals.{KeepsOff, is_open_of}
 use Rattle.run_laws.specs.ReadBackRows.{apart, empty, name}
-use Rattle.run_laws.specs.Sparing.{Avoids}
+use Rattle.run_laws.specs.Sparing.{AvoidsName}
 use Rattle.run_laws.specs.NameCalls.{all_keep_off}
 use Rattle.run_laws.specs.RoundTrips.{HasRead, HasWritten, IsOneLanes}
 use Rattle.run_laws.specs.RoundTripRun.{
@@ -141,13 +141,13 @@ is_run = (
   ),
 )
 
--- ---- the files
+-- ---- The files
 
 abbrev pub left_there : FileTree
 left_there = record { names = (codes "a" ∷ [], node.File 0) ∷ []; files = codes "hi" ∷ []; handles = [] }
 
--- a machine that had no files and directories
-pub is_served : Serves (config 0) [] empty written_then_read left_there
+-- A machine that had no files and directories.
+pub is_served : ServesJournal (config 0) [] empty written_then_read left_there
 unfolding components
 is_served = (
   (
@@ -203,9 +203,9 @@ is_served = (
   tt,
 )
 
--- ---- the lane
+-- ---- The lane
 
--- what stands at a place is this
+-- The request at a place is this one.
 is_this : (P : Request → Type 0) (x a : AskedRequest) → (◌≡◌ {A = Option AskedRequest} (Some x) (Some a)) → P x.request
     → P a.request
 is_this P x a e p = (let same : x ≡ a = cc in subst (λ (w : AskedRequest). P w.request) same p)
@@ -213,7 +213,7 @@ is_this P x a e p = (let same : x ≡ a = cc in subst (λ (w : AskedRequest). P 
 abbrev last_asked : AskedRequest
 last_asked = record { by = owner.Call 1 0; id = 0; request = open_of (codes "b") }
 
-other_avoids : Avoids name (open_of (codes "b"))
+other_avoids : AvoidsName name (open_of (codes "b"))
 unfolding components
 other_avoids = record { denotes = λ d. apart (codes "b" ∷ []) name refl refl d.1; moves = λ old to d. absurd d }
 
@@ -233,7 +233,7 @@ others_keep_off other ne (suc (suc (suc (suc (suc zero))))) k a is mine =
 others_keep_off other ne (suc (suc (suc (suc (suc (suc zero)))))) k a is mine =
     absurd (let both : false ≡ true = mine in cc)
 others_keep_off other ne (suc (suc (suc (suc (suc (suc (suc zero))))))) k a is mine =
-    is_this (λ r. Avoids name r × (is_open_of name r ≡ false)) last_asked a is (other_avoids, refl)
+    is_this (λ r. AvoidsName name r × (is_open_of name r ≡ false)) last_asked a is (other_avoids, refl)
 others_keep_off other ne (suc (suc (suc (suc (suc (suc (suc (suc place)))))))) k a is mine =
     absurd (let none : asked_at written_then_read (suc (suc (suc (suc (suc (suc (suc (suc place)))))))) ≡ None =
     asked_beyond written_then_read (suc (suc (suc (suc (suc (suc (suc (suc place)))))))) (omega arith) in cc)

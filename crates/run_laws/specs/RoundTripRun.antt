@@ -18,25 +18,25 @@ use Rattle.session_model.specs.RowWords.{close, end, ok, open_of, refusal, send,
 use Rattle.session_model.specs.Runs.{TurnsTo, round_of}
 use Rattle.session_model.specs.Turns.{RunProgress, begun_but, begun_with, none_begun}
 
--- ---- the run
+-- ---- The run
 
--- a lane writes a and reads it, and another one reads b
+-- A lane writes a and reads it, and another one reads b.
 abbrev pub writes_then_reads : Setting
 writes_then_reads = setting_with ((call.FsWrite (codes "a") (codes "hi") ∷ call.FsRead (codes "a") 4 ∷ []) ∷
     (call.FsRead (codes "b") 4 ∷ []) ∷ [])
 
--- the handles of the first two grants
+-- The handles of the first two grants.
 abbrev pub first_handle : List ℕ
 first_handle = 0 ∷ 0 ∷ 0 ∷ 0 ∷ []
 
 abbrev pub second_handle : List ℕ
 second_handle = 0 ∷ 0 ∷ 0 ∷ 1 ∷ []
 
--- what a whole read ends with where there is no file
+-- The outcome of a whole read if the file does not exist.
 abbrev pub no_such_file : Outcome
 no_such_file = outcome.Refused (error.SftpError 2 [] [])
 
--- Each request is sent at once and answered before the next, and there is no b.
+-- Each request is sent at once and answered before the next, and b does not exist.
 abbrev pub written_then_read : List Entry
 written_then_read =
     entry.LetGo 1
@@ -70,11 +70,11 @@ written_then_read =
     ∷ submit 0 0 0 (open_request to_replace (codes "a"))
     ∷ []
 
--- one lane alone was begun
+-- Only one lane has a started call.
 abbrev pub only : ℕ → ℕ → Bool
 only lane = begun_with none_begun lane
 
--- it is stepped again
+-- It is stepped again.
 only_again : (lane : ℕ) → only lane ≡ begun_with (only lane) lane
 only_again lane = λ i l. either_way (lane == l) i
   where
@@ -82,7 +82,7 @@ only_again lane = λ i l. either_way (lane == l) i
     either_way true = refl
     either_way false = refl
 
--- and its call has ended
+-- Its call has ended.
 pub only_ended : (lane : ℕ) → none_begun ≡ begun_but (only lane) lane
 only_ended lane = λ i l. neither_way (lane == l) i
   where
@@ -90,7 +90,7 @@ only_ended lane = λ i l. neither_way (lane == l) i
     neither_way true = refl
     neither_way false = refl
 
--- the journal after so many entries
+-- The journal after this many entries.
 abbrev pub so_far : ℕ → List Entry
 so_far n = drop (29 - n) written_then_read
 

@@ -15,32 +15,33 @@ use Rattle.session_model.specs.Readings.{outcomes_of}
 use Rattle.run_laws.specs.InJournals.{KeepsOff}
 use Rattle.run_laws.specs.NameCalls.{may_own}
 
--- ---- calls
+-- ---- Calls
 
--- the call writes the name's file as a whole
+-- The call writes the name's file as a whole.
 abbrev pub WritesWhole : Name → Call → Type 0
 WritesWhole name (call.FsWrite path bytes) = components path ≡ name
 WritesWhole name other = ⊥
 
--- the OPEN of a whole read of this path is too long for a frame
+-- True if the OPEN of a whole read of this path is too long for a frame.
 abbrev pub passes_length : List ℕ → Bool
 passes_length path = is_too_long (open_request to_read path)
 
--- ---- outcomes
+-- ---- Outcomes
 
--- how a call ended, by its lane and number: the outcome that is reported of it
+-- The reported outcome of a call, by its lane and number.
 abbrev pub outcome_at : List Entry → ℕ → ℕ → Option Outcome
 outcome_at past lane k = slice_get (outcomes_of past lane) k
 
--- ---- lanes
+-- ---- Lanes
 
--- A name that is one lane's: its calls write and read files as a whole, or keep off the name on paths; and all other
--- lanes keep off the name.
+-- A name that belongs to one lane: its calls write and read files as a whole, or keep off the name on paths, and all
+-- other lanes keep off the name.
 pub record IsOneLanes (s : Setting) (past : List Entry) (name : Name) (lane : ℕ) : Type 0 where
   pub own : list_all (may_own name) (lane_calls s past lane) ≡ true
   pub others : (other : ℕ) → other ≢ lane → KeepsOff past name other
 
--- A call of a lane read the name's file as a whole, by a path that fits a frame, and ended so without being cancelled.
+-- A call of a lane read the name's file as a whole, by a path that fits a frame, and ended with this outcome without
+-- being cancelled.
 pub record HasRead (s : Setting) (past : List Entry) (name : Name) (lane reader : ℕ) (ended : Outcome) : Type 0 where
   pub path : List ℕ
   pub bound : ℕ
@@ -50,7 +51,7 @@ pub record HasRead (s : Setting) (past : List Entry) (name : Name) (lane reader 
   pub ends : outcome_at past lane reader ≡ Some ended
   pub uncancelled : ended ≢ outcome.Cancelled
 
--- A call of a lane read the name's file as a whole, and gave these bytes.
+-- A call of a lane read the name's file as a whole, and returned these bytes.
 pub record HasGot (s : Setting) (past : List Entry) (name : Name) (lane reader : ℕ) (got : List ℕ) : Type 0 where
   pub path : List ℕ
   pub bound : ℕ
@@ -69,7 +70,7 @@ pub record HasWritten (s : Setting) (past : List Entry) (name : Name) (lane writ
     pub earlier : writer < reader
     pub last : (k : ℕ) (c : Call) → writer < k → k < reader → call_at s past lane k ≡ Some c → WritesWhole name c → ⊥
 
--- no call of a lane before this one writes the name's file as a whole
+-- No call of a lane before this one writes the name's file as a whole.
 abbrev pub NoneWrites : Setting → List Entry → Name → ℕ → ℕ → Type 0
 NoneWrites s past name lane reader = (k : ℕ) (c : Call) → k < reader → call_at s past lane k ≡ Some c
     → WritesWhole name c → ⊥

@@ -1,10 +1,10 @@
--- What a call has to do with a slot, by the call alone.
+-- The relation of a call to a slot, by the call alone.
 use Rattle.std.specs.Prelude.{ℕ, ◌==◌, Bool, true, not, ◌&&◌}
 use Rattle.plan_model.specs.declared.call.Call.{Call}
 use Rattle.plan_model.specs.declared.call.Call.TheVariants as call
 
--- The call leaves what the slot holds, however it ends: it is made on other slots or on none, or puts the slot's file
--- into another as well.
+-- True if the call leaves the contents of the slot unchanged, however it ends: it is made on other slots or on none, or
+-- it puts the slot's file into another as well.
 abbrev pub leaves_slot : ℕ → Call → Bool
 leaves_slot slot (call.OpenFile other flags path) = not (other == slot)
 leaves_slot slot (call.Read other n) = not (other == slot)

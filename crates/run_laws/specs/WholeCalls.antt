@@ -14,14 +14,14 @@ use Rattle.plan_model.specs.Moves.{Own}
 use Rattle.plan_model.specs.PathPlans.{from_directory}
 use Rattle.session_model.specs.declared.entry.Entry.{Entry}
 use Rattle.session_model.specs.Readings.{answer}
-use Rattle.session_model.specs.Served.{Serves}
+use Rattle.session_model.specs.Served.{ServesJournal}
 use Rattle.run_laws.specs.CallsAmong.{HasEnded}
 use Rattle.run_laws.specs.Steps.{RefuseNone}
 
 -- A file machine whose choices refuse nothing serves the journal, from a well-formed tree to a tree.
 pub record ServesUnrefused (config : ServerConfig) (choices : List Choice) (first : FileTree) (past : List Entry)
     (now : FileTree) : Type 0 where
-  pub served : Serves config choices first past now
+  pub served : ServesJournal config choices first past now
   pub unrefused : RefuseNone choices
   pub well_formed : IsWellFormed first
 
@@ -33,7 +33,8 @@ pub record IsWholeWrite (past : List Entry) (name : Name) (own : Own) (bytes : L
   pub denotes : components (from_directory site path) ≡ name
   pub ended_well : HasEnded (call.FsWrite path bytes) site facts own (answer past) outcome.Done
 
--- A call with these requests read the name's file as a whole, by READs of a byte or more, and ended so.
+-- A call with these requests read the name's file as a whole, by READs of at least one byte, and ended with this
+-- outcome.
 pub record IsWholeRead (past : List Entry) (name : Name) (own : Own) (ended : Outcome) : Type 0 where
   pub path : List ℕ
   pub bound : ℕ

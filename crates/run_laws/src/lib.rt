@@ -1,5 +1,7 @@
-//! Laws of whole runs, whatever others do between: what calls read back and leave in the files of a server, what its
-//! directories list, and that a script fixes the text of its run. Laws alone; the definitions stand in `specs/`.
+//! Laws of whole runs, regardless of the calls of others between: the bytes that calls read back and leave in files,
+//! the entries that directories list, and that a script fixes the text of its run.
+//!
+//! This crate has only laws; the definitions are in `specs/`.
 #![tactic(auto)]
 
 mod journals;

@@ -1,4 +1,4 @@
-// Laws of journals that a file machine serves. The functions do nothing: what they ensure holds of all values.
+//! Laws of journals that a file machine serves; the functions do nothing, and their clauses hold for all values.
 ghost use Rattle.std.specs.Prelude.{◌≡◌, ◌<◌, ℕ, true, List, [], ◌∷◌, length};
 ghost use Rattle.sftp_model.specs.declared.config.Choice.{Choice};
 ghost use Rattle.sftp_model.specs.declared.config.ServerConfig.{ServerConfig};
@@ -15,9 +15,9 @@ ghost use Rattle.plan_model.specs.Moves.{Own};
 ghost use Rattle.session_model.specs.declared.entry.Entry.{Entry};
 ghost use Rattle.session_model.specs.Calls.{Setting};
 ghost use Rattle.session_model.specs.Journals.{IsJournal};
-ghost use Rattle.session_model.specs.Readings.{answer, own, sent};
+ghost use Rattle.session_model.specs.Readings.{answer, own, count_sent};
 ghost use Rattle.session_model.specs.Runs.{IsRun};
-ghost use Rattle.session_model.specs.Served.{Serves};
+ghost use Rattle.session_model.specs.Served.{ServesJournal};
 ghost use Rattle.session_model.specs.declared.turn.Turn.{Turn};
 ghost use Rattle.run_laws.specs.Bearing.{grant_at};
 ghost use Rattle.run_laws.specs.CallsAmong.{GivesContent, HasEnded, HasNoFile, refusal_of};
@@ -29,19 +29,20 @@ ghost use Rattle.run_laws.specs.Listings.{IsListed, site_at};
 ghost use Rattle.run_laws.specs.WholeCalls.{IsWholeRead, IsWholeWrite, ServesUnrefused};
 ghost use Rattle.run_laws.specs.Steps.{HasBytes, RefuseNone, RunOf};
 
-/// Where a file machine serves a journal that is a run so far, and its requests come to a name by OPENs of it, the
-/// machine's run is one whose requests bear handles by grants and come to the name so.
+/// A file machine serves a journal that is a run so far, and its requests reach a name by OPENs of it. Then the
+/// machine's run is one whose requests have handles by grants and reach the name in this way.
 pub fn served_journals_are_runs_on_names()
     ensures { (s : Setting) (config : ServerConfig) (choices : List Choice) (first : FileTree) (past : List Entry)
         (now : FileTree) (name : Name) (run : RunOf config choices first past now) → IsJournal s past
-        → ComeByOpens past name (sent past)
+        → ComeByOpens past name (count_sent past)
         → IsRunOn config (answer past) (grant_at s past) (is_elsewhere past name) name first run.steps }
 {}
 
-/// What was written is read back. In a journal that a file machine serves whose choices refuse nothing, a call wrote a
-/// file as a whole and ended well, and a later one read the name as a whole and ended; from the first request of the
-/// write on, each request of others passes the name by. Then the read ended with the bytes of the write, or has reached
-/// its bound.
+/// Bytes that were written are read back.
+///
+/// In a journal that a file machine serves whose choices refuse nothing, a call wrote a file as a whole and ended well.
+/// A later call read the name as a whole and ended. From the first request of the write on, each request of others
+/// passes the name by. Then the read ended with the bytes of the write, or has reached its bound.
 pub fn served_writes_are_read_back()
     ensures { (s : Setting) (config : ServerConfig) (choices : List Choice) (first now : FileTree) (past : List Entry)
         (name : Name) (n : ℕ) (writer reader : ℕ × ℕ) (w r : ℕ × Request) (written read : Own) (bytes : List ℕ)
@@ -50,9 +51,9 @@ pub fn served_writes_are_read_back()
         → IsWholeRead past name (r ∷ read) ended → GivesContent ended bytes }
 {}
 
-/// In a journal that a file machine serves whose choices refuse nothing, a call read a name as a whole, and each request
-/// of others passes the name by. Then the read ended with what the name had at first: the bytes of its file, unless it
-/// has reached its bound, and where it has none, the refusal of its OPEN.
+/// In a journal that a file machine serves whose choices refuse nothing, a call read a name as a whole. Each request of
+/// others passes the name by. Then the read ended with what the name had at first: the bytes of its file, unless it has
+/// reached its bound, or the refusal of its OPEN if the name has no file.
 pub fn served_reads_give_what_was_there()
     ensures gives { (s : Setting) (config : ServerConfig) (choices : List Choice) (first now : FileTree)
         (past : List Entry) (name : Name) (n : ℕ) (reader : ℕ × ℕ) (r : ℕ × Request) (read : Own) (bytes : List ℕ)
@@ -66,46 +67,49 @@ pub fn served_reads_give_what_was_there()
         → ended ≡ outcome.Refused (error.SftpError (refusal_of (node_at first name)) [] []) }
 {}
 
-/// Each request of a lane whose calls never open a name, and whose requests avoid it, passes the name by, also where it
+/// Each request of a lane whose calls never open a name, and whose requests avoid it, passes the name by, even if it
 /// writes by a handle.
 pub fn lanes_that_keep_off_pass_by()
     ensures { (s : Setting) (past : List Entry) (name : Name) (lane call_number place : ℕ) → IsJournal s past
         → KeepsOff past name lane → is_of_call past (lane, call_number) place ≡ true → PassesAt s past name place }
 {}
 
-/// A lane reads what it wrote. In a journal that a file machine serves whose choices refuse nothing, a call of a lane
-/// wrote a file as a whole and ended well, and a later call of the lane read the name as a whole, all its requests were
-/// sent, and it ended; the other lanes keep off the name, and the lane's calls between the two pass it by. Then the read
-/// ended with the bytes of the write, or has reached its bound.
+/// A lane reads the bytes that it wrote.
+///
+/// In a journal that a file machine serves whose choices refuse nothing, a call of a lane wrote a file as a whole and
+/// ended well. A later call of the lane read the name as a whole, all its requests were sent, and it ended. The other
+/// lanes keep off the name, and the lane's calls between the two pass it by. Then the read ended with the bytes of the
+/// write, or has reached its bound.
 pub fn lanes_read_what_they_wrote()
     ensures { (s : Setting) (config : ServerConfig) (choices : List Choice) (first now : FileTree) (past : List Entry)
         (name : Name) (lane writer reader : ℕ) (w r : ℕ × Request) (written read : Own) (bytes : List ℕ)
         (ended : Outcome) → IsJournal s past → ServesUnrefused config choices first past now
-        → LaneInTurn s past name lane writer w written reader r read → AreBelow (sent past) (r ∷ read)
+        → LaneInTurn s past name lane writer w written reader r read → AreBelow (count_sent past) (r ∷ read)
         → IsWholeWrite past name (w ∷ written) bytes → IsWholeRead past name (r ∷ read) ended → GivesContent ended bytes }
 {}
 
-/// A lane reads what was there. In a journal that a file machine serves whose choices refuse nothing, a call of a lane
-/// read a name as a whole, all its requests were sent, and it ended; the other lanes keep off the name, and the lane's
-/// earlier calls pass it by. Then the read ended with what the name had at first.
+/// A lane reads the bytes that existed before.
+///
+/// In a journal that a file machine serves whose choices refuse nothing, a call of a lane read a name as a whole. All
+/// its requests were sent, and it ended. The other lanes keep off the name, and the lane's earlier calls pass it by.
+/// Then the read ended with what the name had at first.
 pub fn lanes_read_what_was_there()
     ensures gives { (s : Setting) (config : ServerConfig) (choices : List Choice) (first now : FileTree)
         (past : List Entry) (name : Name) (lane reader : ℕ) (r : ℕ × Request) (read : Own) (bytes : List ℕ)
         (ended : Outcome) → IsJournal s past → ServesUnrefused config choices first past now
-        → HasBytes first name bytes → LaneFirst s past name lane reader r read → AreBelow (sent past) (r ∷ read)
+        → HasBytes first name bytes → LaneFirst s past name lane reader r read → AreBelow (count_sent past) (r ∷ read)
         → IsWholeRead past name (r ∷ read) ended → GivesContent ended bytes }
     ensures refused { (s : Setting) (config : ServerConfig) (choices : List Choice) (first now : FileTree)
         (past : List Entry) (name : Name) (lane reader : ℕ) (r : ℕ × Request) (read : Own) (ended : Outcome)
         → IsJournal s past → ServesUnrefused config choices first past now → HasNoFile (node_at first name)
-        → LaneFirst s past name lane reader r read → AreBelow (sent past) (r ∷ read)
+        → LaneFirst s past name lane reader r read → AreBelow (count_sent past) (r ∷ read)
         → IsWholeRead past name (r ∷ read) ended
         → ended ≡ outcome.Refused (error.SftpError (refusal_of (node_at first name)) [] []) }
 {}
 
 /// In a whole run that a file machine serves whose choices refuse nothing, a call of a lane wrote a file as a whole and
-/// ended well, and a later call of the lane read the name as a whole and ended; the other lanes keep off the name, and
-/// the lane's calls between the two pass it by. Then the read ended with the bytes of the write, or has reached its
-/// bound.
+/// ended well. A later call of the lane read the name as a whole and ended. The other lanes keep off the name, and the
+/// lane's calls between the two pass it by. Then the read ended with the bytes of the write, or has reached its bound.
 pub fn runs_read_what_they_wrote()
     ensures { (s : Setting) (config : ServerConfig) (choices : List Choice) (first now : FileTree) (turns : List Turn)
         (past : List Entry) (name : Name) (lane writer reader : ℕ) (w r : ℕ × Request) (written read : Own)
@@ -115,9 +119,9 @@ pub fn runs_read_what_they_wrote()
 {}
 
 /// In a whole run that a file machine serves whose choices refuse nothing, a call of a lane read a name as a whole and
-/// ended; the other lanes keep off the name, and the lane's earlier calls pass it by. Then the read ended with what the
-/// name had before the run: the bytes of its file, unless it has reached its bound, and where it has none, the refusal
-/// of its OPEN.
+/// ended. The other lanes keep off the name, and the lane's earlier calls pass it by. Then the read ended with what the
+/// name had before the run: the bytes of its file, unless it has reached its bound, or the refusal of its OPEN if the
+/// name has no file.
 pub fn runs_read_what_was_there()
     ensures gives { (s : Setting) (config : ServerConfig) (choices : List Choice) (first now : FileTree)
         (turns : List Turn) (past : List Entry) (name : Name) (lane reader : ℕ) (r : ℕ × Request) (read : Own)
@@ -133,8 +137,8 @@ pub fn runs_read_what_was_there()
 {}
 
 /// In a whole run that a file machine serves whose choices refuse nothing, a call of a lane wrote a file as a whole and
-/// ended well; the other lanes keep off the name, and the lane's later calls pass it by. Then the run leaves the file
-/// with the bytes of the write. Where all calls of the lane pass the name by, it leaves what the name had.
+/// ended well. The other lanes keep off the name, and the lane's later calls pass it by. Then the run leaves the file
+/// with the bytes of the write. If all calls of the lane pass the name by, it leaves what the name had.
 pub fn runs_leave_what_they_wrote()
     ensures written { (s : Setting) (config : ServerConfig) (choices : List Choice) (first now : FileTree)
         (turns : List Turn) (past : List Entry) (name : Name) (lane writer : ℕ) (w : ℕ × Request) (written : Own)
@@ -146,10 +150,12 @@ pub fn runs_leave_what_they_wrote()
         → ServesUnrefused config choices first past now → LaneNever s past name lane → IsUntouched first now name }
 {}
 
-/// What was written to a buffer and flushed is left. In a whole run that a file machine serves whose choices refuse nothing,
-/// a lane to whom a name is opened it to be written anew, by a later call wrote bytes to what was opened, from its start on,
-/// and flushed them, and all ended well; the other lanes keep off the name, and the lane's other calls behind the first
-/// pass it by. Then the run leaves the file with the bytes.
+/// Bytes that were written to a buffer and flushed are left in the file.
+///
+/// In a whole run that a file machine serves whose choices refuse nothing, the lane that owns a name opened it with
+/// create and truncate. By a later call it wrote bytes to the opened file, from its start on, and flushed them, and all
+/// ended well. The other lanes keep off the name, and the lane's other calls after the first pass it by. Then the run
+/// leaves the file with the bytes.
 pub fn runs_leave_what_they_flushed()
     ensures { (s : Setting) (config : ServerConfig) (choices : List Choice) (first now : FileTree) (turns : List Turn)
         (past : List Entry) (name : Name) (lane opener writer : ℕ) (w : ℕ × Request) (written : Own) (bytes : List ℕ)
@@ -158,21 +164,25 @@ pub fn runs_leave_what_they_flushed()
         → HasBytes now name bytes }
 {}
 
-/// Calls list what directories had. In a whole run that a file machine serves, a call of a lane that ended with names gives
-/// the first of the entries that its directory had as the call's OPENDIR came, in their order, and all of them where no
-/// choice feigns an end; whatever the other lanes did.
+/// Calls list the entries that directories had.
+///
+/// In a whole run that a file machine serves, a call of a lane ended with names. They are the first of the entries that
+/// its directory had when the call's OPENDIR came, in their order, and all of them if no choice feigns an end. This
+/// holds regardless of the other lanes.
 pub fn runs_list_directories()
     ensures { (s : Setting) (config : ServerConfig) (choices : List Choice) (first now : FileTree) (turns : List Turn)
         (past : List Entry) (lane k : ℕ) (path : List ℕ) (bound : ℕ) (names : List NameEntry)
-        → IsRun s turns past → Serves config choices first past now
+        → IsRun s turns past → ServesJournal config choices first past now
         → HasEnded (call.List path bound) (site_at s past lane k) s.facts (own past lane k) (answer past)
         (outcome.Names names) → IsListed s config choices first past lane k path names }
 {}
 
-/// Bytes that were written to a buffered file and flushed are in the file. In a whole run that a file machine serves, a call
-/// of a lane wrote bytes to a buffered file by a handle, a flush of what it left ended well, and up to the last of the
-/// call's WRITEs each request of others leaves the file's bytes. Then the file has what it had as the first of them came, with the bytes
-/// at the offset at which it stood.
+/// Bytes that were written to a buffered file and flushed are in the file.
+///
+/// In a whole run that a file machine serves, a call of a lane wrote bytes to a buffered file by a handle. A flush of
+/// what it left ended well. Up to the last of the call's WRITEs each request of others leaves the file's bytes
+/// unchanged. Then the file has the bytes that it had when the first of them came, with these bytes at the file's
+/// offset.
 pub fn runs_hold_what_they_flushed()
     ensures { (s : Setting) (config : ServerConfig) (choices : List Choice) (first now : FileTree) (turns : List Turn)
         (past : List Entry) (lane k offset : ℕ) (bytes handle : List ℕ) (run : RunOf config choices first past now)

@@ -9,12 +9,14 @@ pub not_none : {A : Type 0} (x : A) (words : List (List ℕ)) → length words �
 not_none x [] more = absurd (more refl)
 not_none x (a ∷ words) more = refl
 
-pub not_one : {A : Type 0} (f : List ℕ → Result A Reason) (words : List (List ℕ)) → length words ≢ 1 → one_word f words ≡ Err reason.Count
+pub not_one : {A : Type 0} (f : List ℕ → Result A Reason) (words : List (List ℕ)) → length words ≢ 1 → one_word f words
+    ≡ Err reason.Count
 not_one f [] other = refl
 not_one f (a ∷ []) other = absurd (other refl)
 not_one f (a ∷ b ∷ words) other = refl
 
-pub not_two : {A : Type 0} (f : List ℕ → List ℕ → Result A Reason) (words : List (List ℕ)) → length words ≢ 2 → two_words f words ≡ Err reason.Count
+pub not_two : {A : Type 0} (f : List ℕ → List ℕ → Result A Reason) (words : List (List ℕ)) → length words ≢ 2
+    → two_words f words ≡ Err reason.Count
 not_two f [] other = refl
 not_two f (a ∷ []) other = refl
 not_two f (a ∷ b ∷ []) other = absurd (other refl)

@@ -23,7 +23,8 @@ word_if false false b n words h = omega (arith, h)
 -- the words of a line are together no longer than the line
 pub words_fit : (line : List ℕ) → words_len (words_of line) ≤ length line
 words_fit [] = omega arith
-words_fit (b ∷ line) = let h = word_if (b == 32) (starts_word line) b (length line) (words_of line) (words_fit line) in omega (arith, h)
+words_fit (b ∷ line) = let h = word_if (b == 32) (starts_word line) b (length line) (words_of line) (words_fit line) in
+    omega (arith, h)
 
 -- ---- lines
 
@@ -40,11 +41,13 @@ front_cost : (b : ℕ) (lines : List (List ℕ)) → lines_cost (with_front b li
 front_cost b [] = omega arith
 front_cost b (line ∷ lines) = omega arith
 
-line_if : (ends : Bool) (b n : ℕ) (lines : List (List ℕ)) → lines_cost lines ≤ n → lines_cost (if ends then [] ∷ lines else with_front b lines) ≤ n + 66
+line_if : (ends : Bool) (b n : ℕ) (lines : List (List ℕ)) → lines_cost lines ≤ n
+    → lines_cost (if ends then [] ∷ lines else with_front b lines) ≤ n + 66
 line_if true b n lines h = omega (arith, h)
 line_if false b n lines h = let front = front_cost b lines in omega (arith, h, front)
 
 -- the lines of a text count at most 66 for each of its bytes
 pub lines_fit : (bytes : List ℕ) → lines_cost (lines_of bytes) ≤ length bytes * 66
 lines_fit [] = omega arith
-lines_fit (b ∷ bytes) = let h = line_if (b == 10) b (length bytes * 66) (lines_of bytes) (lines_fit bytes) in omega (arith, h)
+lines_fit (b ∷ bytes) = let h = line_if (b == 10) b (length bytes * 66) (lines_of bytes) (lines_fit bytes) in
+    omega (arith, h)

@@ -8,7 +8,8 @@ use Rattle.hex.proofs.HexLemmas.{decode_of-ok}
 use Rattle.script_words.specs.Lines.{or_hex}
 use Rattle.script_words.specs.Refusals.{RefusesLine, hex_error}
 
-misspelled : (word : List ℕ) (why : FromHexError) → (decode_of word ≡ Err why) → or_hex (decode_of word) ≡ or_hex (Err why)
+misspelled : (word : List ℕ) (why : FromHexError) → (decode_of word ≡ Err why) → or_hex (decode_of word)
+    ≡ or_hex (Err why)
 misspelled word why e = rw e refl
 
 pub digits_refused : (word : List ℕ) (why : FromHexError) → (why ≡ hex.OutOfMemory) ⊎ (decode_of word ≡ Err why)

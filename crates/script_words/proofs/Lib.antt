@@ -1,7 +1,7 @@
-pub mod Splits
-pub mod Numbers
-pub mod Letters
+mod Splits
+mod Numbers
+mod Letters
 pub mod HexLaws
 pub mod Counts
-pub mod PartLaws
+mod PartLaws
 pub mod FitCounts

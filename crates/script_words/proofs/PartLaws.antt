@@ -28,13 +28,15 @@ by_slot : (words more : List (List ℕ)) (a : List ℕ) → words ≡ a ∷ more
 by_slot words [] a is some = absurd (some refl)
 by_slot words (b ∷ more) a is some = rw is refl
 
-pub slot_refused : (words more : List (List ℕ)) (a : List ℕ) (why : Reason) → words ≡ a ∷ more → more ≢ [] → Err why ≡ slot_in a → parts_in words ≡ Err why
+pub slot_refused : (words more : List (List ℕ)) (a : List ℕ) (why : Reason) → words ≡ a ∷ more → more ≢ [] → Err why
+    ≡ slot_in a → parts_in words ≡ Err why
 slot_refused words more a why is some refused = rw (by_slot words more a is some, sym refused) refl
 
 pub parts_refused : (words more : List (List ℕ)) (a : List ℕ) (n : ℕ) (e : LineError) → words ≡ a ∷ more → more ≢ []
     → Ok n ≡ slot_in a → RefusesLine (each_in bytes_in more) e → RefusesLine (parts_in words) e
 parts_refused words more a n line.OutOfMemory is some ok refused = tt
-parts_refused words more a n (line.Refused why) is some ok refused = rw (by_slot words more a is some, sym ok, refused) refl
+parts_refused words more a n (line.Refused why) is some ok refused =
+    rw (by_slot words more a is some, sym ok, refused) refl
 
 pub parts_read : (words more : List (List ℕ)) (a : List ℕ) (n : ℕ) (parts : List (List ℕ)) → words ≡ a ∷ more
     → more ≢ [] → Ok n ≡ slot_in a → each_in bytes_in more ≡ Ok parts → parts_in words ≡ Ok (n, parts)

@@ -54,7 +54,8 @@ line_behind : (b : ℕ) (bytes : List ℕ) → (b == 10) ≡ false → lines_of 
 line_behind b bytes e = rw e refl
 
 -- a line that is ended
-line_to : (text : List ℕ) (n : ℕ) → n < length text → place 10 text ≡ n → lines_of text ≡ take n text ∷ lines_of (drop (suc n) text)
+line_to : (text : List ℕ) (n : ℕ) → n < length text → place 10 text ≡ n → lines_of text
+    ≡ take n text ∷ lines_of (drop (suc n) text)
 line_to [] n lt at = absurd (omega arith)
 line_to (b ∷ bytes) zero lt at =
     elim (cases_Bool (b == 10)) [
@@ -64,7 +65,8 @@ line_to (b ∷ bytes) zero lt at =
 line_to (b ∷ bytes) (suc n) lt at =
     elim (cases_Bool (b == 10)) [
       | inl e ↦ absurd (omega (arith, place_here 10 b bytes e))
-      | inr e ↦ line_behind b bytes e ∙ ap (with_front b) (line_to bytes n (omega arith) (omega (arith, place_behind 10 b bytes e)))
+      | inr e ↦ line_behind b bytes e ∙ ap (with_front b) (line_to bytes n (omega arith)
+          (omega (arith, place_behind 10 b bytes e)))
     ]
 
 -- a last line that is not ended
@@ -92,7 +94,8 @@ place_within byte (b ∷ bytes) =
       | inr e ↦ omega (arith, place_behind byte b bytes e, place_within byte bytes)
     ]
 
-pub place_Some : (byte : ℕ) (bytes : List ℕ) (end : ℕ) → position (λ b. b == byte) bytes ≡ Some end → end ≡ place byte bytes
+pub place_Some : (byte : ℕ) (bytes : List ℕ) (end : ℕ) → position (λ b. b == byte) bytes ≡ Some end → end
+    ≡ place byte bytes
 place_Some byte bytes end at = sym ((cond_some (nat_lt (place byte bytes) (length bytes)) (place byte bytes) end at).1)
 
 none_from : (b : Bool) (x : ℕ) → cond b (Some x) None ≡ None → b ≡ false
@@ -109,17 +112,21 @@ pub first_line : (text : List ℕ) (end : ℕ) → end ≡ place 10 text → end
     ≡ take end text ∷ lines_of (take (length text - (end + 1)) (drop (end + 1) text))
 first_line text end at lt = rw (take_rest text (end + 1), add-one) (line_to text end lt (sym at))
 
-pub only_line : (text : List ℕ) (end : ℕ) → end ≡ place 10 text → length text ≤ end → text ≢ [] → lines_of text ≡ text ∷ []
+pub only_line : (text : List ℕ) (end : ℕ) → end ≡ place 10 text → length text ≤ end → text ≢ [] → lines_of text
+    ≡ text ∷ []
 only_line text end at le some = last_line text some (omega arith)
 
-alone : (b : ℕ) (bytes : List ℕ) → (b == 32) ≡ false → starts_word bytes ≡ false → words_of (b ∷ bytes) ≡ (b ∷ []) ∷ words_of bytes
+alone : (b : ℕ) (bytes : List ℕ) → (b == 32) ≡ false → starts_word bytes ≡ false → words_of (b ∷ bytes)
+    ≡ (b ∷ []) ∷ words_of bytes
 alone b bytes e s = rw (e, s) refl
 
-joined : (b : ℕ) (bytes : List ℕ) → (b == 32) ≡ false → starts_word bytes ≡ true → words_of (b ∷ bytes) ≡ with_front b (words_of bytes)
+joined : (b : ℕ) (bytes : List ℕ) → (b == 32) ≡ false → starts_word bytes ≡ true → words_of (b ∷ bytes)
+    ≡ with_front b (words_of bytes)
 joined b bytes e s = rw (e, s) refl
 
 -- a word and what stands behind it
-word_to : (b : ℕ) (bytes : List ℕ) (n : ℕ) → (b == 32) ≡ false → place 32 bytes ≡ n → words_of (b ∷ bytes) ≡ (b ∷ take n bytes) ∷ words_of (drop n bytes)
+word_to : (b : ℕ) (bytes : List ℕ) (n : ℕ) → (b == 32) ≡ false → place 32 bytes ≡ n → words_of (b ∷ bytes)
+    ≡ (b ∷ take n bytes) ∷ words_of (drop n bytes)
 word_to b [] zero e at = alone b [] e refl
 word_to b [] (suc n) e at = absurd (omega arith)
 word_to b (c ∷ bytes) zero e at =
@@ -130,17 +137,21 @@ word_to b (c ∷ bytes) zero e at =
 word_to b (c ∷ bytes) (suc n) e at =
     elim (cases_Bool (c == 32)) [
       | inl f ↦ absurd (omega (arith, place_here 32 c bytes f))
-      | inr f ↦ joined b (c ∷ bytes) e (ap not f) ∙ ap (with_front b) (word_to c bytes n f (omega (arith, place_behind 32 c bytes f)))
+      | inr f ↦ joined b (c ∷ bytes) e (ap not f) ∙ ap (with_front b)
+          (word_to c bytes n f (omega (arith, place_behind 32 c bytes f)))
     ]
 
 -- the first word of a text that begins with it
-first_word_of : (text : List ℕ) (end : ℕ) → end ≡ place 32 text → text ≢ [] → ((b : ℕ) (bytes : List ℕ) → text ≡ b ∷ bytes → (b == 32) ≡ false)
+first_word_of : (text : List ℕ) (end : ℕ) → end ≡ place 32 text → text ≢ []
+    → ((b : ℕ) (bytes : List ℕ) → text ≡ b ∷ bytes → (b == 32) ≡ false)
     → words_of text ≡ take end text ∷ words_of (drop end text)
 first_word_of [] end at some begins = absurd (some refl)
 first_word_of (b ∷ bytes) zero at some begins = absurd (omega (arith, place_behind 32 b bytes (begins b bytes refl)))
-first_word_of (b ∷ bytes) (suc n) at some begins = word_to b bytes n (begins b bytes refl) (omega (arith, place_behind 32 b bytes (begins b bytes refl)))
+first_word_of (b ∷ bytes) (suc n) at some begins = word_to b bytes n (begins b bytes refl)
+    (omega (arith, place_behind 32 b bytes (begins b bytes refl)))
 
-pub first_word : (text : List ℕ) (end : ℕ) → end ≡ place 32 text → text ≢ [] → ((b : ℕ) (bytes : List ℕ) → text ≡ b ∷ bytes → (b == 32) ≡ false)
+pub first_word : (text : List ℕ) (end : ℕ) → end ≡ place 32 text → text ≢ []
+    → ((b : ℕ) (bytes : List ℕ) → text ≡ b ∷ bytes → (b == 32) ≡ false)
     → words_of text ≡ take end text ∷ words_of (take (length text - end) (drop end text))
 first_word text end at some begins = rw (take_rest text end) (first_word_of text end at some begins)
 

@@ -1,4 +1,4 @@
--- Worked lines, words and fields, and beside them what nearly is one.
+-- Worked lines, words and fields, and near misses beside them.
 use Rattle.std.specs.Prelude.{
   ◌≡◌,
   ◌∷◌,
@@ -33,7 +33,7 @@ use Rattle.script_words.specs.Fields.{
   parts_in,
 }
 
--- ---- lines and words
+-- ---- Lines and words
 
 pub no_lines : lines_of [] ≡ []
 no_lines = refl
@@ -53,7 +53,7 @@ three_words = refl
 pub no_words : words_of (codes "   ") ≡ []
 no_words = refl
 
--- ---- numbers, bytes and open flags
+-- ---- Numbers, bytes and open flags
 
 pub leading_zeros : number_of (codes "007") ≡ Some 7
 leading_zeros = refl
@@ -81,7 +81,7 @@ flag_twice = refl
 pub flags_in_any_order : flags_in (codes "cw") ≡ Ok (record nothing_chosen { write = true; create = true })
 flags_in_any_order = refl
 
--- ---- fields
+-- ---- Fields
 
 pub last_slot : slot_in (codes "15") ≡ Ok 15
 last_slot = refl
@@ -102,19 +102,19 @@ farthest_back = refl
 pub position_of_no_kind : position_in (codes "begin") (codes "0") ≡ Err reason.Mode
 position_of_no_kind = refl
 
--- a slot is looked at before the kind of a seek
+-- A slot is checked before the kind of a seek.
 pub seek_of_no_slot : seek_in (codes "16") (codes "begin") (codes "0") ≡ Err reason.Range
 seek_of_no_slot = refl
 
 pub slot_and_mode : pair slot_in mode_in (codes "4" ∷ codes "65535" ∷ []) ≡ Ok (4, 65535)
 slot_and_mode = refl
 
--- a field is looked at whole before the next one
+-- A field is checked whole before the next one.
 pub first_field_first : triple slot_in flags_in bytes_in (codes "16" ∷ codes "rr" ∷ codes "6" ∷ [])
     ≡ Err reason.Range
 first_field_first = refl
 
--- how many there are is looked at before any of them
+-- The number of fields is checked before any of them.
 pub one_field_too_few : triple slot_in flags_in bytes_in (codes "16" ∷ codes "rr" ∷ []) ≡ Err reason.Count
 one_field_too_few = refl
 

@@ -1,4 +1,4 @@
-//! Why a script, or a line of one, is not read.
+//! The errors of reading a script or a line of one.
 ghost use Rattle.std.specs.Prelude.{◌≡◌};
 ghost use Rattle.script_words.specs.declared.error.LineError.TheVariants as line;
 ghost use Rattle.script_words.specs.Refusals.{hex_error};
@@ -9,23 +9,27 @@ use ssh_encoding::OutOfMemory;
 use std::alloc::{AllocError, AllocFailed};
 use thiserror::Error;
 
-/// Why a script is not read.
+/// The reason why a script is not read.
+///
+/// Example: `crates/test_session/src/script.rt`.
 #[derive(Clone, Copy, Debug, PartialEq, Eq, Error)]
 pub enum ScriptError {
-    /// There was no memory.
+    /// Out of memory.
     #[error("out of memory")]
     OutOfMemory,
-    /// The first line that is refused, counted from 1, and why. A script that is too long is refused at line 0.
+    /// The first line that is refused, counted from 1, and the reason. A script that is too long is refused at line 0.
     #[error("line {line} {reason}")]
     Line { line: u64, reason: Reason },
 }
 
-/// Why a line is not read.
+/// The reason why a line is not read.
+///
+/// Example: `crates/script_words/src/tests.rt`.
 #[derive(Clone, Copy, Debug, PartialEq, Eq)]
 pub enum LineError {
-    /// There was no memory.
+    /// Out of memory.
     OutOfMemory,
-    /// The line is refused, and why.
+    /// The line is refused for this reason.
     Refused(Reason),
 }
 

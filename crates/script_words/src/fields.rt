@@ -1,4 +1,4 @@
-//! The fields of a line, by their kinds and how many they are.
+//! The fields of a line, by their kinds and their number.
 ghost use Rattle.std.specs.Prelude.{◌≡◌, Ok, IfOk, IfErr};
 ghost use Rattle.script_words.specs.Lines.{words_of, bytes_in, flags_in, number_in, greatest_u32, one_word, three_words};
 ghost use Rattle.script_words.specs.Fields.{buffer_len, mode_in, number_u32, number_u64, pair, seek_in, slot_in, some_in, triple};
@@ -18,23 +18,31 @@ use std::alloc::Global;
 use std::io::SeekFrom;
 
 /// A kind of field, which is one word of a line.
+///
+/// Used by the functions of this module.
 pub trait Field {
     ghost use Rattle.std.specs.Prelude.{ℕ, List, Result};
     ghost use Rattle.script_words.specs.declared.reason.Reason.{Reason};
 
-    /// What a field of this kind says.
+    /// The value of a field of this kind.
     type Value: Drop;
 
-    // what a word says
+    // The value of a word.
     ghost reads: { List ℕ → Result Self.Value Reason };
 
-    /// Reads a word. Refused with the reason, or for want of memory.
+    /// Reads a word.
+    ///
+    /// # Errors
+    ///
+    /// `RefusesReply` with the reason if the word is no field of this kind, or `OutOfMemory` if an allocation fails.
     fn read(alloc: Global, word: &[u8]) -> Result<Self::Value, LineError>
         ensures ok { IfOk result (λ value. reads word.now ≡ Ok value) }
         ensures refused { IfErr result (λ e. RefusesLine (reads word.now) e) };
 }
 
 /// The number of a slot, from 0 to 15.
+///
+/// Example: `crates/script_words/src/tests.rt`.
 pub struct Slot;
 
 impl Field for Slot {
@@ -48,6 +56,8 @@ impl Field for Slot {
 }
 
 /// A number of 32 bits.
+///
+/// Used in `crates/script_words/src/reason.rt`.
 pub struct Number;
 
 impl Field for Number {
@@ -61,6 +71,8 @@ impl Field for Number {
 }
 
 /// A number of 64 bits.
+///
+/// Example: `crates/script_words/src/tests.rt`.
 pub struct Long;
 
 impl Field for Long {
@@ -73,7 +85,9 @@ impl Field for Long {
     }
 }
 
-/// A bound, which is a number of 32 bits and 1 at least.
+/// A bound, which is a number of 32 bits and at least 1.
+///
+/// Used in `crates/script_grammar/src/calls.rt`.
 pub struct Bound;
 
 impl Field for Bound {
@@ -87,6 +101,8 @@ impl Field for Bound {
 }
 
 /// The length of a buffer in bytes, from 1 to 1048576.
+///
+/// Used in `crates/script_grammar/src/calls.rt`.
 pub struct Len;
 
 impl Field for Len {
@@ -100,6 +116,8 @@ impl Field for Len {
 }
 
 /// The bits of a mode, which are a number of 16 bits.
+///
+/// Example: `crates/script_words/src/tests.rt`.
 pub struct Mode;
 
 impl Field for Mode {
@@ -112,7 +130,9 @@ impl Field for Mode {
     }
 }
 
-/// A size in bytes, which is a number of 64 bits, or `-` where it is left out.
+/// A size in bytes, which is a number of 64 bits, or `-` if it is left out.
+///
+/// Used in `crates/script_grammar/src/calls.rt`.
 pub struct SomeSize;
 
 impl Field for SomeSize {
@@ -125,7 +145,9 @@ impl Field for SomeSize {
     }
 }
 
-/// The bits of a mode, or `-` where they are left out.
+/// The bits of a mode, or `-` if they are left out.
+///
+/// Used in `crates/script_grammar/src/calls.rt`.
 pub struct SomeMode;
 
 impl Field for SomeMode {
@@ -138,7 +160,9 @@ impl Field for SomeMode {
     }
 }
 
-/// Bytes, which are a path or a content, in hexadecimal digits.
+/// Bytes in hexadecimal digits, which are a path or a content.
+///
+/// Used in `crates/script_grammar/src/calls.rt`.
 pub struct Bytes;
 
 impl Field for Bytes {
@@ -151,7 +175,9 @@ impl Field for Bytes {
     }
 }
 
-/// The letters of the options that a file is opened with.
+/// The letters of the options with which a file is opened.
+///
+/// Used in `crates/script_grammar/src/calls.rt`.
 pub struct Flags;
 
 impl Field for Flags {
@@ -164,7 +190,11 @@ impl Field for Flags {
     }
 }
 
-/// A line of one field. Refused with `Count` where it has more or less words, else as its field is.
+/// Reads a line of one field.
+///
+/// # Errors
+///
+/// `RefusesReply` with `Count` if the line has more or fewer words; otherwise the error of the field.
 #[tactic(auto, using(crate::proofs::Counts::not_one))]
 pub fn one<A: Field>(alloc: Global, line: &[u8]) -> Result<A::Value, LineError>
     ensures ok { IfOk result (λ x. one_word A.reads (words_of line.now) ≡ Ok x) }
@@ -174,8 +204,11 @@ pub fn one<A: Field>(alloc: Global, line: &[u8]) -> Result<A::Value, LineError>
     A::read(alloc, a)
 }
 
-/// A line of two fields. Refused with `Count` where it has more or less words, else as the first field is that is
-/// refused.
+/// Reads a line of two fields.
+///
+/// # Errors
+///
+/// `RefusesReply` with `Count` if the line has more or fewer words; otherwise the error of the first field that is refused.
 #[tactic(auto, using(crate::proofs::Counts::not_two))]
 pub fn pair<A: Field, B: Field>(
     alloc: Global,
@@ -190,8 +223,11 @@ pub fn pair<A: Field, B: Field>(
     Ok((a, b))
 }
 
-/// A line of three fields. Refused with `Count` where it has more or less words, else as the first field is that is
-/// refused.
+/// Reads a line of three fields.
+///
+/// # Errors
+///
+/// `RefusesReply` with `Count` if the line has more or fewer words; otherwise the error of the first field that is refused.
 #[tactic(auto, using(crate::proofs::Counts::not_three))]
 pub fn triple<A: Field, B: Field, C: Field>(
     alloc: Global,
@@ -207,8 +243,12 @@ pub fn triple<A: Field, B: Field, C: Field>(
     Ok((a, b, c))
 }
 
-/// A slot and where a seek leads, of a line of three words. Refused with `Count` where it has more or less words, else
-/// with the reason of the slot, or else of the place.
+/// Reads a slot and the target of a seek from a line of three words.
+///
+/// # Errors
+///
+/// `RefusesReply` with `Count` if the line has more or fewer words; otherwise with the reason of the slot, or with that of
+/// the target if the slot is read.
 #[tactic(auto, using(crate::proofs::Counts::not_three))]
 pub fn slot_and_position(line: &[u8]) -> Result<(u8, SeekFrom), LineError>
     ensures ok { IfOk result (λ p. three_words seek_in (words_of line.now) ≡ Ok p) }

@@ -1,4 +1,4 @@
-//! The letters of the options that a file is opened with.
+//! The letters of the options with which a file is opened.
 ghost use Rattle.std.specs.Prelude.{◌≡◌, Some};
 ghost use Rattle.sftp_model.specs.OpenOptions.{nothing_chosen};
 ghost use Rattle.script_words.specs.Lines.{with_letter, with_letters, flags_in};
@@ -8,7 +8,7 @@ use crate::reason::Reason;
 use sftp_model::OpenOptions;
 use std::marker::Model;
 
-/// The letters that were there so far. A contract sees the options that they choose.
+/// The letters that occurred so far. A contract sees the options that they choose.
 #[derive(Drop)]
 struct Letters {
     read: bool,
@@ -48,7 +48,7 @@ impl Letters {
         }
     }
 
-    /// One letter more, which wasn't there before.
+    /// Returns the letters with another one, or `None` if it is no option or occurred before.
     fn with_letter(self, letter: u8) -> Option<Letters>
         ensures { result ≡ with_letter letter self }
     {
@@ -78,7 +78,7 @@ impl Letters {
         }
     }
 
-    /// The letters of a word.
+    /// Returns the letters of a word.
     #[tactic(auto, using(crate::proofs::Letters::letter_more))]
     fn of_word(word: &[u8]) -> Option<Letters>
         ensures { result ≡ with_letters (Some nothing_chosen) word.now }
@@ -104,7 +104,7 @@ impl Letters {
     }
 }
 
-/// No option, written as `-`, or the options of letters in any order, each at most once.
+/// Returns no option, written as `-`, or the options of letters in any order, each at most once.
 pub(crate) fn flags_in(word: &[u8]) -> Result<OpenOptions, Reason>
     ensures { result ≡ flags_in word.now }
 {

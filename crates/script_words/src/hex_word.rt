@@ -7,11 +7,14 @@ use crate::error::LineError;
 use sftp_values::ByteText;
 use std::alloc::Global;
 
-/// How a field says that it is empty.
+/// The word of an empty field.
 pub(crate) const NOTHING: &[u8] = b"-";
 
-/// No bytes, written as `-`, or the bytes of pairs of hexadecimal digits of either case. Refused with `Hex`, or for want of
-/// memory.
+/// Returns no bytes, written as `-`, or the bytes of pairs of hexadecimal digits of either case.
+///
+/// # Errors
+///
+/// `RefusesReply` with `Hex` if the digits are misspelled, or `OutOfMemory` if an allocation fails.
 #[tactic(auto, using(crate::proofs::HexLaws::digits_refused))]
 pub fn bytes_in(alloc: Global, word: &[u8]) -> Result<ByteText, LineError>
     ensures ok { IfOk result (λ bytes. bytes_in word.now ≡ Ok bytes) }

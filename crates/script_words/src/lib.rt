@@ -1,4 +1,4 @@
-//! The lines of a script and their words, and what the words say: numbers, bytes, modes, open flags and places.
+//! The lines of a script, their words, and the values of the words: numbers, bytes, modes, open flags and seek targets.
 #![tactic(auto)]
 
 mod error;

@@ -7,10 +7,10 @@ ghost use Rattle.script_words.specs.Fields.{buffer_len, mode_in, number_u64, slo
 use crate::hex_word::NOTHING;
 use crate::reason::Reason;
 
-/// A number over each range of 64 bits, which stands for all that are as great or greater.
+/// A number above each range of 64 bits, which represents all numbers that are equal or greater.
 const TOO_GREAT: u128 = 18446744073709551616;
 
-/// The number that digits spell, of those from 2^64 on the least.
+/// Returns the number that digits spell; 2^64 for all numbers from 2^64 on.
 #[tactic(auto, using(crate::proofs::Numbers::digit_more, crate::proofs::Numbers::digit_none))]
 fn number_of(word: &[u8]) -> Option<u128>
     ensures { result ≡ option_map (λ n. min n (2 ^ 64)) (number_of word.now) }
@@ -28,8 +28,11 @@ fn number_of(word: &[u8]) -> Option<u128>
     Some(n)
 }
 
-/// A number of any number of digits, from `least` to `most`. Refused with `Number` where it is no digits, and with `Range`
-/// where it is less or more.
+/// Returns a number of any number of digits, from `least` to `most`.
+///
+/// # Errors
+///
+/// `Number` if the word is not made of digits, or `Range` if the number is less or greater.
 #[tactic(auto, using(crate::proofs::Numbers::within_capped))]
 pub fn number_in(least: u64, most: u64, word: &[u8]) -> Result<u64, Reason>
     ensures value { result ≡ number_in least most word.now }
@@ -47,8 +50,11 @@ pub fn number_in(least: u64, most: u64, word: &[u8]) -> Result<u64, Reason>
     }
 }
 
-/// A number of any number of digits, from `least` to 2^32 - 1. Refused with `Number` where it is no digits, and with
-/// `Range` where it is less or more.
+/// Returns a number of any number of digits, from `least` to 2^32 - 1.
+///
+/// # Errors
+///
+/// `Number` if the word is not made of digits, or `Range` if the number is less or greater.
 pub fn number_from(least: u32, word: &[u8]) -> Result<u32, Reason>
     ensures value { result ≡ number_in least greatest_u32 word.now }
     ensures range { IfOk result (λ n. least ≤ n) }
@@ -57,7 +63,7 @@ pub fn number_from(least: u32, word: &[u8]) -> Result<u32, Reason>
     Ok(n as u32)
 }
 
-/// The number of a slot.
+/// Returns the number of a slot.
 pub(crate) fn slot_in(word: &[u8]) -> Result<u8, Reason>
     ensures { result ≡ slot_in word.now }
 {
@@ -65,7 +71,7 @@ pub(crate) fn slot_in(word: &[u8]) -> Result<u8, Reason>
     Ok(n as u8)
 }
 
-/// The bits of a mode.
+/// Returns the bits of a mode.
 pub(crate) fn mode_in(word: &[u8]) -> Result<u16, Reason>
     ensures { result ≡ mode_in word.now }
 {
@@ -73,7 +79,7 @@ pub(crate) fn mode_in(word: &[u8]) -> Result<u16, Reason>
     Ok(n as u16)
 }
 
-/// The length of a buffer.
+/// Returns the length of a buffer.
 pub(crate) fn buffer_len(word: &[u8]) -> Result<u32, Reason>
     ensures { result ≡ buffer_len word.now }
 {
@@ -81,7 +87,7 @@ pub(crate) fn buffer_len(word: &[u8]) -> Result<u32, Reason>
     Ok(n as u32)
 }
 
-/// A number below 0, or 0.
+/// Returns the negative of a number, or 0.
 fn minus(n: u64) -> i64
     requires { n ≤ 2 ^ 63 }
     ensures { result ≡ minus n }
@@ -89,7 +95,7 @@ fn minus(n: u64) -> i64
     if n == 0 { 0 } else { -((n - 1) as i64) - 1 }
 }
 
-/// A number of 64 bits that `-` may lead.
+/// Returns a number of 64 bits that may have a leading `-`.
 pub(crate) fn signed_in(word: &[u8]) -> Result<i64, Reason>
     ensures { result ≡ signed_in word.now }
 {
@@ -106,7 +112,7 @@ pub(crate) fn signed_in(word: &[u8]) -> Result<i64, Reason>
     }
 }
 
-/// A size, or none.
+/// Returns a size, or none.
 pub(crate) fn some_size_in(word: &[u8]) -> Result<Option<u64>, Reason>
     ensures { result ≡ some_in number_u64 word.now }
 {
@@ -116,7 +122,7 @@ pub(crate) fn some_size_in(word: &[u8]) -> Result<Option<u64>, Reason>
     Ok(Some(number_in(0, u64::MAX, word)?))
 }
 
-/// The bits of a mode, or none.
+/// Returns the bits of a mode, or none.
 pub(crate) fn some_mode_in(word: &[u8]) -> Result<Option<u16>, Reason>
     ensures { result ≡ some_in mode_in word.now }
 {

@@ -11,7 +11,7 @@ use crate::words::{split_word, word_and_more};
 use sftp_values::{ByteText, Items};
 use std::alloc::Global;
 
-/// The bytes that each word of a line spells.
+/// Returns the bytes that each word of a line spells.
 fn each_in(alloc: Global, line: &[u8]) -> Result<Vec<ByteText>, LineError>
     ensures ok { IfOk result (λ parts. each_in bytes_in (words_of line.now) ≡ Ok parts.items) }
     ensures refused { IfErr result (λ e. RefusesLine (each_in bytes_in (words_of line.now)) e) }
@@ -25,8 +25,12 @@ fn each_in(alloc: Global, line: &[u8]) -> Result<Vec<ByteText>, LineError>
     Ok(parts)
 }
 
-/// A slot, and one part or more. Refused with `Count` where there are less than two words, else with the reason of the
-/// first word that is refused, or for want of memory.
+/// Returns a slot, and one part or more.
+///
+/// # Errors
+///
+/// `RefusesReply` with `Count` if there are fewer than two words, otherwise with the reason of the first word that is
+/// refused; or `OutOfMemory` if an allocation fails.
 #[tactic(auto, using(crate::proofs::PartLaws::too_few, crate::proofs::PartLaws::slot_refused, crate::proofs::PartLaws::parts_refused, crate::proofs::PartLaws::parts_read))]
 pub fn slot_and_parts(alloc: Global, line: &[u8]) -> Result<(u8, Items<ByteText>), LineError>
     ensures ok { IfOk result (λ p. parts_in (words_of line.now) ≡ Ok p) }

@@ -1,4 +1,4 @@
-//! Where a seek leads.
+//! The target of a seek.
 ghost use Rattle.std.specs.Prelude.{◌≡◌};
 ghost use Rattle.script_words.specs.Fields.{position_in};
 
@@ -12,7 +12,7 @@ const CUR: &[u8] = b"cur";
 
 const END: &[u8] = b"end";
 
-/// Where a seek leads, by its kind and its number.
+/// Returns the target of a seek, by its kind and its number.
 pub(crate) fn position_in(kind: &[u8], word: &[u8]) -> Result<SeekFrom, Reason>
     ensures { result ≡ position_in kind.now word.now }
 {

@@ -1,18 +1,20 @@
-//! What a line can be refused for.
+//! The reasons for which a line can be refused.
 
-/// Why a line of a script is refused.
+/// The reason why a line of a script is refused.
+///
+/// Example: `crates/test_session/src/script.rt`.
 #[derive(Clone, Copy, Debug, PartialEq, Eq, thiserror::Error)]
 pub enum Reason {
     /// The script has more than 16777216 bytes.
     #[error("size")]
     Size,
-    /// The words of the command line are none of the program's.
+    /// The program does not know the arguments of the command line.
     #[error("words")]
     Words,
     /// The first word is no word of a script.
     #[error("word")]
     Word,
-    /// A call stands before the first lane.
+    /// A call comes before the first lane.
     #[error("lane")]
     Lane,
     /// The line has too few words or too many.
@@ -30,7 +32,7 @@ pub enum Reason {
     /// A value is out of its range.
     #[error("range")]
     Range,
-    /// The same was said before.
+    /// The same was given before.
     #[error("repeat")]
     Repeat,
 }

@@ -1,10 +1,10 @@
-//! Lines and their words, and what these say.
+//! Tests of lines, their words and the values of these.
 use crate::fields::{Long, Mode, Slot, one, pair, slot_and_position, triple};
 use crate::{LineError, Reason, four_words, number_from, slot_and_parts, split_line, split_word};
 use std::io::SeekFrom;
 use std::test::Fail;
 
-/// A text is taken apart at its first line feed, and a line behind its first word.
+/// Checks that a text is split at its first line feed, and a line after its first word.
 #[test]
 fn first_line_and_word(rt: HostRuntime) -> Result<(), Fail> {
     let (line, after) = split_line(b" a bc\nd");
@@ -15,7 +15,7 @@ fn first_line_and_word(rt: HostRuntime) -> Result<(), Fail> {
     Ok(())
 }
 
-/// Four words, of which the last is the greatest number of 32 bits.
+/// Checks four words, of which the last is the greatest number of 32 bits.
 #[test]
 fn words_and_a_number(rt: HostRuntime) -> Result<(), Fail> {
     let (a, b, c, d) = four_words(b"a bc  d 4294967295")
@@ -27,7 +27,7 @@ fn words_and_a_number(rt: HostRuntime) -> Result<(), Fail> {
     Ok(())
 }
 
-/// Lines of one, two and three fields.
+/// Checks lines of one, two and three fields.
 #[test]
 fn lines_of_fields(rt: HostRuntime) -> Result<(), Fail> {
     let alloc = rt.alloc();
@@ -42,7 +42,7 @@ fn lines_of_fields(rt: HostRuntime) -> Result<(), Fail> {
     Ok(())
 }
 
-/// A slot and two parts, of which the second is empty.
+/// Checks a slot and two parts, of which the second is empty.
 #[test]
 fn a_slot_and_parts(rt: HostRuntime) -> Result<(), Fail> {
     let (slot, parts) = slot_and_parts(rt.alloc(), b"3 61 -")

@@ -6,14 +6,14 @@ ghost use Rattle.script_words.specs.declared.reason.Reason.TheVariants as reason
 
 use crate::reason::Reason;
 
-/// Where the byte stands first.
+/// Returns the position of the first occurrence of the byte.
 fn position_of(byte: u8, text: &[u8]) -> Option<usize>
     ensures { result ≡ position (λ b. b == byte) text.now }
 {
     text.iter().position(|b| *b == byte)
 }
 
-/// How many bytes stand before the byte, or how many there are.
+/// Returns the number of bytes before the byte, or the length of the text if the byte does not occur.
 #[tactic(auto, using(crate::proofs::Splits::place_Some, crate::proofs::Splits::place_None, crate::proofs::Splits::place_within))]
 fn length_before(byte: u8, text: &[u8]) -> usize
     ensures value { result ≡ position_or_len (λ b. b == byte) text.now }
@@ -25,7 +25,7 @@ fn length_before(byte: u8, text: &[u8]) -> usize
     }
 }
 
-/// The first line without its line feed, and the bytes after that. A text without a line feed is one line.
+/// Returns the first line without its line feed, and the bytes after that. A text without a line feed is one line.
 #[tactic(auto, using(crate::proofs::Splits::first_line, crate::proofs::Splits::only_line))]
 pub fn split_line(text: &[u8]) -> (&[u8], &[u8])
     requires { text.now ≢ [] }
@@ -40,7 +40,7 @@ pub fn split_line(text: &[u8]) -> (&[u8], &[u8])
     }
 }
 
-/// What stands after the spaces.
+/// Returns the text after the leading spaces.
 fn skip_spaces(mut line: &[u8]) -> &[u8]
     ensures same_words { words_of result.now ≡ words_of line.now }
     ensures begins { (b : ℕ) (bytes : List ℕ) → result.now ≡ b ∷ bytes → (b == 32) ≡ false }
@@ -51,7 +51,7 @@ fn skip_spaces(mut line: &[u8]) -> &[u8]
     line
 }
 
-/// The first word, and what stands after it. None where the line has no word.
+/// Returns the first word and the text after it, or `None` if the line has no word.
 #[tactic(auto, using(crate::proofs::Splits::first_word))]
 pub fn split_word(line: &[u8]) -> Option<(&[u8], &[u8])>
     ensures { MatchOption result (words_of line.now ≡ []) (λ p. words_of line.now ≡ p.0.now ∷ words_of p.1.now) }
@@ -64,7 +64,7 @@ pub fn split_word(line: &[u8]) -> Option<(&[u8], &[u8])>
     Some((&line[..end], &line[end..]))
 }
 
-/// A word that must be there, and what stands after it.
+/// Returns a required word and the text after it. Fails with `Count` if the line has no word.
 fn next_word(line: &[u8]) -> Result<(&[u8], &[u8]), Reason>
     ensures ok { IfOk result (λ p. words_of line.now ≡ p.0.now ∷ words_of p.1.now) }
     ensures refused { IfErr result (λ e. (e ≡ reason.Count) × (words_of line.now ≡ [])) }
@@ -75,7 +75,7 @@ fn next_word(line: &[u8]) -> Result<(&[u8], &[u8]), Reason>
     }
 }
 
-/// The first word, and what stands after it where there is one word more at least.
+/// Returns the first word and the text after it, if there is at least another word. Otherwise fails with `Count`.
 pub(crate) fn word_and_more(line: &[u8]) -> Result<(&[u8], &[u8]), Reason>
     ensures ok { IfOk result (λ p. (words_of line.now ≡ p.0.now ∷ words_of p.1.now) × (words_of p.1.now ≢ [])) }
     ensures refused { IfErr result (λ e. (e ≡ reason.Count) × (length (words_of line.now) < 2)) }
@@ -87,7 +87,11 @@ pub(crate) fn word_and_more(line: &[u8]) -> Result<(&[u8], &[u8]), Reason>
     }
 }
 
-/// No word may be there. Refused with `Count` where there is one.
+/// Checks that a line has no word.
+///
+/// # Errors
+///
+/// `Count` if there is one.
 pub fn no_word(line: &[u8]) -> Result<(), Reason>
     ensures ok { OnOk result (words_of line.now ≡ []) }
     ensures refused { IfErr result (λ e. (e ≡ reason.Count) × (length (words_of line.now) ≢ 0)) }
@@ -98,7 +102,11 @@ pub fn no_word(line: &[u8]) -> Result<(), Reason>
     }
 }
 
-/// The one word of a line. Refused with `Count` where there are more or less.
+/// Returns the one word of a line.
+///
+/// # Errors
+///
+/// `Count` if there are more or fewer.
 pub fn one_word(line: &[u8]) -> Result<&[u8], Reason>
     ensures ok { IfOk result (λ a. words_of line.now ≡ a.now ∷ []) }
     ensures refused { IfErr result (λ e. (e ≡ reason.Count) × (length (words_of line.now) ≢ 1)) }
@@ -108,7 +116,11 @@ pub fn one_word(line: &[u8]) -> Result<&[u8], Reason>
     Ok(a)
 }
 
-/// The two words of a line. Refused with `Count` where there are more or less.
+/// Returns the two words of a line.
+///
+/// # Errors
+///
+/// `Count` if there are more or fewer.
 pub fn two_words(line: &[u8]) -> Result<(&[u8], &[u8]), Reason>
     ensures ok { IfOk result (λ p. words_of line.now ≡ p.0.now ∷ p.1.now ∷ []) }
     ensures refused { IfErr result (λ e. (e ≡ reason.Count) × (length (words_of line.now) ≢ 2)) }
@@ -118,7 +130,11 @@ pub fn two_words(line: &[u8]) -> Result<(&[u8], &[u8]), Reason>
     Ok((a, b))
 }
 
-/// The three words of a line. Refused with `Count` where there are more or less.
+/// Returns the three words of a line.
+///
+/// # Errors
+///
+/// `Count` if there are more or fewer.
 pub fn three_words(line: &[u8]) -> Result<(&[u8], &[u8], &[u8]), Reason>
     ensures ok { IfOk result (λ p. words_of line.now ≡ p.0.now ∷ p.1.now ∷ p.2.now ∷ []) }
     ensures refused { IfErr result (λ e. (e ≡ reason.Count) × (length (words_of line.now) ≢ 3)) }
@@ -128,7 +144,11 @@ pub fn three_words(line: &[u8]) -> Result<(&[u8], &[u8], &[u8]), Reason>
     Ok((a, b, c))
 }
 
-/// The four words of a line. Refused with `Count` where there are more or less.
+/// Returns the four words of a line.
+///
+/// # Errors
+///
+/// `Count` if there are more or fewer.
 pub fn four_words(line: &[u8]) -> Result<(&[u8], &[u8], &[u8], &[u8]), Reason>
     ensures ok { IfOk result (λ p. words_of line.now ≡ p.0.now ∷ p.1.now ∷ p.2.now ∷ p.3.now ∷ []) }
     ensures refused { IfErr result (λ e. (e ≡ reason.Count) × (length (words_of line.now) ≢ 4)) }

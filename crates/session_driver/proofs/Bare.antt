@@ -25,13 +25,12 @@ use Rattle.std.proofs.Common.{
   inl,
   inr,
 }
-use Rattle.std.specs.Prelude.{nat_lt, Result, Ok, Err, slice_get}
+use Rattle.std.specs.Prelude.{nat_lt, Result, Ok, Err, slice_get, if◌then◌else◌}
 use Rattle.std.specs.Option.{option_map}
 use Rattle.std.specs.FinMap as fin
 use Rattle.std.specs.FinMap.{get-empty, nat_cmp-IsAntisymmetric}
 use Rattle.std.specs.Ordering.{nat_cmp}
 use Rattle.std.specs.Cmp.{nat_cmp_total}
-use Rattle.std.specs.Prelude.{if◌then◌else◌}
 use Rattle.std.proofs.lemmas.Bool.Decides.{nat_tests}
 use Rattle.sftp_model.specs.declared.answers.Expected.TheVariants as expected
 use Rattle.sftp_model.specs.declared.config.Limits.{Limits}
@@ -41,7 +40,7 @@ use Rattle.sftp_model.specs.declared.reply.Reply.{Reply}
 use Rattle.sftp_model.specs.declared.reply.Reply.TheVariants as reply
 use Rattle.sftp_model.specs.declared.request.Request.TheVariants as request
 use Rattle.sftp_model.specs.declared.slot.Move.{Move}
-use Rattle.sftp_model.specs.Answers.{allows, may_answer}
+use Rattle.sftp_model.specs.Answers.{allows_reply, may_answer}
 use Rattle.sftp_model.specs.ReplyReadings.{limits_at, limits_in}
 use Rattle.sftp_core.specs.declared.errors.TakeError.{TakeError}
 use Rattle.sftp_core.specs.declared.errors.TakeError.TheVariants as take
@@ -53,14 +52,31 @@ use Rattle.sftp_core.specs.declared.tokens.Taken.TheVariants as taken_of
 use Rattle.sftp_core.specs.declared.handshake.Handshake.TheVariants as core_phase
 use Rattle.sftp_core.specs.Info.{info_with}
 use Rattle.sftp_model.specs.Lengths.{offers_limits}
-use Rattle.session_model.specs.Settings.{greeting, setting_of}
-use Rattle.sftp_core.specs.Core.{Core, at, dropped, fresh, without, handed_out, awaited_of, unanswered_of, queued_of}
+use Rattle.session_model.specs.Settings.{version_reply_of, setting_of}
+use Rattle.sftp_core.specs.Core.{Core, record_at, core_after_drop, fresh, without_record, handed_out, awaited_of, unanswered_of, queued_of}
 use Rattle.sftp_core.proofs.Counts.{count_len}
-use Rattle.sftp_core.specs.Table.{IdRecords, all_sent, brings, count, is_sent, is_waiting, sent_record}
+use Rattle.sftp_core.specs.Table.{IdRecords, all_sent, handle_in_reply, count, is_sent, is_waiting, sent_record}
 use Rattle.sftp_core.proofs.Sent.{get_sent}
 use Rattle.sftp_core.proofs.Elsewhere.{put_here, put_elsewhere, gone_here, gone_elsewhere}
 use Rattle.ssh_encoding.specs.Writing.{or_else}
-use Rattle.sftp_core.specs.Take.{Read, TakenFrom, greeted, taken_as, opened, wrong_at, wrong_limits, wrong_content, take_refusal, Refused, First, IsFirst, IsTakeError, fault_of, taken, take_leaves}
+use Rattle.sftp_core.specs.Take.{
+  Read,
+  TakenFrom,
+  core_after_version,
+  taken_as,
+  core_when_open,
+  wrong_at,
+  wrong_limits,
+  wrong_content,
+  take_refusal,
+  RefusesReply,
+  IsFirstRefusal,
+  IsFirst,
+  IsTakeError,
+  fault_of,
+  core_after_reply,
+  take_leaves,
+}
 use Rattle.sftp_core.specs.declared.info.Info.{Info}
 use Rattle.sftp_model.specs.declared.error.Fault.{Fault}
 use Rattle.session_driver.specs.Refusals.{refuses, refuses_reply, awaited_at, sent_at}
@@ -68,25 +84,25 @@ use Rattle.plan_model.specs.declared.call.Lane.{Lane}
 use Rattle.session_model.specs.declared.event.Event.TheVariants.{Take}
 use Rattle.session_model.specs.declared.entry.Entry.{Entry}
 use Rattle.session_model.specs.declared.entry.Entry.TheVariants as entry
-use Rattle.session_model.specs.Readings.{asked, sent, ended, own, answer, awaited, unanswered, still_open}
+use Rattle.session_model.specs.Readings.{count_submitted, count_sent, count_ended, own, answer, count_awaited, count_unanswered, still_open}
 use Rattle.session_model.specs.Calls.{Setting, calls_of, current, move_of, move_at, site_of}
 use Rattle.session_model.specs.Journals.{MayTake, is_read, brings_limits}
-use Rattle.session_model.specs.Runs.{at_first, queried}
+use Rattle.session_model.specs.Runs.{at_first, limits_query_sent}
 use Rattle.session_model.specs.Turns.{RunProgress}
 use Rattle.session_driver.specs.declared.session.Phase.{Phase}
 use Rattle.session_driver.specs.declared.session.Phase.TheVariants.{Fresh, Greeted, Asking, Queried, Open, Failed}
 use Rattle.session_driver.specs.declared.session.Stepped.TheVariants as stepped
 use Rattle.session_driver.specs.Session.{HasRefused, StepsTo, IsLater}
-use Rattle.session_driver.specs.NoLanes.{Bare, IsBare, IsIdle, IsOpen, asked_core, idle_core, offered, seen_in}
+use Rattle.session_driver.specs.NoLanes.{SessionWithoutLanes, IsBare, IsIdle, IsOpen, asked_core, idle_core, offered_extensions, seen_in}
 
 -- ---- an open session
 
 -- nothing is under way
 pub record Quiet (past : List Entry) : Type 0 where
-  pub none_awaited : 0 ≡ awaited past
-  pub none_unanswered : 0 ≡ unanswered past
-  pub all_sent : nat_lt (sent past) (asked past) ≡ false
-  pub not_full : (m : ℕ) → false ≡ nat_lt m (asked past - sent past)
+  pub none_awaited : 0 ≡ count_awaited past
+  pub none_unanswered : 0 ≡ count_unanswered past
+  pub all_sent : nat_lt (count_sent past) (count_submitted past) ≡ false
+  pub not_full : (m : ℕ) → false ≡ nat_lt m (count_submitted past - count_sent past)
   pub done : (s : Setting) (lane : ℕ) → s.lanes ≡ [] → current s past lane ≡ None
 
 none_full : (m n : ℕ) → false ≡ nat_lt m (n - n)
@@ -139,18 +155,18 @@ idle_queued options core past o = ap queued_of o.calm
 pub step_idle : (s : Setting) (lane : ℕ) (at : RunProgress) → current s at.past lane ≡ None → StepsTo s lane at at (move_of s at.past lane) stepped.Nothing
 step_idle s lane at none =
     subst (λ (m : Option Move). StepsTo s lane at at m stepped.Nothing)
-    (sym (ap (λ c. move_at c (site_of s at.past lane) s.facts (own at.past lane (ended at.past lane))
+    (sym (ap (λ c. move_at c (site_of s at.past lane) s.facts (own at.past lane (count_ended at.past lane))
     (answer at.past)) none)) (refl, refl)
 
 -- ---- the limits
 
 -- under the id 0 the query for limits is awaited
-asked_here : (options : SftpOptions) (extensions : Extensions) → at (handed_out (asked_core options extensions)) 0 ≡ Some (Waiting expected.Limits true false)
+asked_here : (options : SftpOptions) (extensions : Extensions) → record_at (handed_out (asked_core options extensions)) 0 ≡ Some (Waiting expected.Limits true false)
 asked_here options extensions = get_sent (asked_core options extensions).table 0
     ∙ ap (option_map sent_record) (put_here (all_sent fin.empty) 0 (Waiting expected.Limits false false))
 
 -- and under no other id is anything
-asked_else : (options : SftpOptions) (extensions : Extensions) (q : ℕ) → q ≢ 0 → at (handed_out (asked_core options extensions)) q ≡ None
+asked_else : (options : SftpOptions) (extensions : Extensions) (q : ℕ) → q ≢ 0 → record_at (handed_out (asked_core options extensions)) q ≡ None
 asked_else options extensions q apart =
     get_sent (asked_core options extensions).table q
     ∙ ap (option_map sent_record) (put_elsewhere (all_sent fin.empty) 0 (Waiting expected.Limits false false) q apart
@@ -160,14 +176,14 @@ asked_else options extensions q apart =
 pub record GoesOn (r : Reply) : Type 0 where
   pub answers : may_answer request.LimitsQuery r ≡ true
   pub tells : brings_limits r ≡ true
-  pub bare : brings r ≡ None
+  pub bare : handle_in_reply r ≡ None
 
 content_tells : (content : List ℕ) (read : Result Limits FrameError) → limits_at content ≡ read → wrong_content read
     ≡ None → brings_limits (reply.Extended content) ≡ true
 content_tells content (Ok limits) is none = ap is_read is
 content_tells content (Err e) is none = absurd cc
 
-goes_on : (r : Reply) → allows expected.Limits r ≡ true → wrong_limits r ≡ None → GoesOn r
+goes_on : (r : Reply) → allows_reply expected.Limits r ≡ true → wrong_limits r ≡ None → GoesOn r
 goes_on (reply.Extended content) may none = record { answers = refl; tells = content_tells content (limits_at content) refl none; bare = refl }
 goes_on (reply.Status code message language) may none = absurd cc
 goes_on (reply.Version version extensions) may none = absurd cc
@@ -189,15 +205,15 @@ pub record TakesLimits (id : ℕ) (r : Reply) : Type 0 where
   pub goes : GoesOn r
 
 pub takes_limits : (options : SftpOptions) (extensions : Extensions) (id : ℕ) (r : Reply)
-    → or_else (wrong_at id r (at (handed_out (asked_core options extensions)) id)) (wrong_limits r) ≡ None → TakesLimits id r
+    → or_else (wrong_at id r (record_at (handed_out (asked_core options extensions)) id)) (wrong_limits r) ≡ None → TakesLimits id r
 takes_limits options extensions id r none = by_id (id == 0) refl (first_none _ _ none)
   where
-    by_id : (b : Bool) → (id == 0) ≡ b → (wrong_at id r (at (handed_out (asked_core options extensions)) id) ≡ None)
+    by_id : (b : Bool) → (id == 0) ≡ b → (wrong_at id r (record_at (handed_out (asked_core options extensions)) id) ≡ None)
         × (wrong_limits r ≡ None) → TakesLimits id r
     by_id true e f =
         let zero : id ≡ 0 = grind (arith, nat_tests) in
-        let here : at (handed_out (asked_core options extensions)) id ≡ Some (Waiting expected.Limits true false) =
-        ap (at (handed_out (asked_core options extensions))) zero ∙ asked_here options extensions in
+        let here : record_at (handed_out (asked_core options extensions)) id ≡ Some (Waiting expected.Limits true false) =
+        ap (record_at (handed_out (asked_core options extensions))) zero ∙ asked_here options extensions in
         record { zero = zero; goes = goes_on r (allowed _ _ (sym (ap (wrong_at id r) here) ∙ f.0)) f.1 }
     by_id false e f =
         let apart : id ≢ 0 = grind (arith, nat_tests) in
@@ -230,8 +246,8 @@ idle_wrong options info past (Ok (None, r)) idle = refl
 idle_wrong options info past (Ok (Some id, r)) idle =
     ap (wrong_at id r) (get-empty nat_cmp id) ∙ ap (refuses_reply id r) (sym (none_there idle))
   where
-    answered_there : (r0 : Reply) (b : Bool) → sent_at (entry.Event (Take 0 r0) ∷ queried 0)
-        (still_open (answer (entry.Event (Take 0 r0) ∷ queried 0)) (if b then Some 0 else None)) ≡ None
+    answered_there : (r0 : Reply) (b : Bool) → sent_at (entry.Event (Take 0 r0) ∷ limits_query_sent 0)
+        (still_open (answer (entry.Event (Take 0 r0) ∷ limits_query_sent 0)) (if b then Some 0 else None)) ≡ None
     answered_there r0 true = refl
     answered_there r0 false = refl
 
@@ -239,7 +255,7 @@ idle_wrong options info past (Ok (Some id, r)) idle =
     none_there (inl e) = ap (λ (w : List Entry). awaited_at w id) e
     none_there (inr e) = ap (λ (w : List Entry). awaited_at w id) e.1 ∙ answered_there e.0 (0 == id)
 
-first_kept : (e : TakeError) (kept : Option Fault) (first : Option TakeError) (old new : Core) → Refused e kept first old new → First e kept first
+first_kept : (e : TakeError) (kept : Option Fault) (first : Option TakeError) (old new : Core) → RefusesReply e kept first old new → IsFirstRefusal e kept first
 first_kept e None first old new h = tt
 first_kept e (Some fault) first old new h = h.0
 
@@ -265,8 +281,8 @@ takes_nothing options core past read o none = some_wrong options o.info read (sy
 
 pub queried_is : (options : SftpOptions) (version : Option Reply) (past : List Entry) (core : Core) (phase : Phase)
     → IsBare options version past core phase → phase ≡ Queried
-    → (extensions : Extensions) × ((version ≡ Some (greeting extensions)) × (offers_limits extensions ≡ true)
-    × (core ≡ handed_out (asked_core options extensions)) × (past ≡ queried 0))
+    → (extensions : Extensions) × ((version ≡ Some (version_reply_of extensions)) × (offers_limits extensions ≡ true)
+    × (core ≡ handed_out (asked_core options extensions)) × (past ≡ limits_query_sent 0))
 queried_is options version past core Queried bare e = bare
 queried_is options version past core Fresh bare e = absurd cc
 queried_is options version past core Greeted bare e = absurd cc
@@ -284,13 +300,13 @@ pub record LimitsCame (options : SftpOptions) (extensions : Extensions) (read : 
   pub calm : new ≡ idle_core options info
 
 pub limits_in_core : (options : SftpOptions) (extensions : Extensions) (id : ℕ) (r : Reply) → TakesLimits id r
-    → taken (handed_out (asked_core options extensions)) (Some id, r) ≡ idle_core options (info_with extensions (limits_in r) options)
+    → core_after_reply (handed_out (asked_core options extensions)) (Some id, r) ≡ idle_core options (info_with extensions (limits_in r) options)
 limits_in_core options extensions id r t =
     let core : Core = handed_out (asked_core options extensions) in
-    let here : at core id ≡ Some (Waiting expected.Limits true false) = ap (at core) t.zero ∙ asked_here options extensions in
-    ap (λ (p : Option IdRecord). opened (take_leaves core id r p) extensions (limits_in r)) here
-    ∙ ap (λ (h : Option (List ℕ)). opened (dropped core id h) extensions (limits_in r)) t.goes.bare
-    ∙ ap (λ (k : ℕ). opened (without core k) extensions (limits_in r)) t.zero
+    let here : record_at core id ≡ Some (Waiting expected.Limits true false) = ap (record_at core) t.zero ∙ asked_here options extensions in
+    ap (λ (p : Option IdRecord). core_when_open (take_leaves core id r p) extensions (limits_in r)) here
+    ∙ ap (λ (h : Option (List ℕ)). core_when_open (core_after_drop core id h) extensions (limits_in r)) t.goes.bare
+    ∙ ap (λ (k : ℕ). core_when_open (without_record core k) extensions (limits_in r)) t.zero
     ∙ ap (λ (m : IdRecords). record {
       options = options;
       hello_sent = true;
@@ -306,7 +322,7 @@ limits_in_core options extensions id r t =
 limits_came : (options : SftpOptions) (extensions : Extensions) (read : Read) (told : Taken) (new : Core)
     → take_refusal (handed_out (asked_core options extensions)) (Ok read) ≡ None
     → told ≡ taken_as (handed_out (asked_core options extensions)) read → new
-    ≡ taken (handed_out (asked_core options extensions)) read → LimitsCame options extensions (Ok read) told new
+    ≡ core_after_reply (handed_out (asked_core options extensions)) read → LimitsCame options extensions (Ok read) told new
 limits_came options extensions (None, r) told new none tells leaves = absurd cc
 limits_came options extensions (Some id, r) told new none tells leaves =
     let t = takes_limits options extensions id r none in
@@ -328,10 +344,10 @@ came options extensions core new read told is none t =
     (limits_came options extensions t.reading told new
     (subst at_core is (sym (ap (take_refusal core) t.reads) ∙ none))
     (t.tells ∙ ap (λ (c : Core). taken_as c t.reading) is)
-    (t.leaves ∙ ap (λ (c : Core). taken c t.reading) is))
+    (t.leaves ∙ ap (λ (c : Core). core_after_reply c t.reading) is))
 
 -- the reply may be taken
-pub may_take : (r : Reply) → GoesOn r → MayTake (queried 0) 0 r
+pub may_take : (r : Reply) → GoesOn r → MayTake (limits_query_sent 0) 0 r
 may_take r goes = (0, ((refl, omega arith, refl), (goes.answers, goes.tells)))
 
 -- ---- VERSION is taken
@@ -349,16 +365,16 @@ greeted_is options version past core Failed bare e = absurd cc
 -- what the body told
 pub record VersionCame (options : SftpOptions) (read : Result Read FrameError) (told : Taken) (new : Core) : Type 0 where
   pub extensions : Extensions
-  pub reads : read ≡ Ok (None, greeting extensions)
-  pub tells : told ≡ taken_of.Version (greeting extensions)
-  pub leaves : new ≡ greeted (handed_out (fresh options)) extensions
+  pub reads : read ≡ Ok (None, version_reply_of extensions)
+  pub tells : told ≡ taken_of.Version (version_reply_of extensions)
+  pub leaves : new ≡ core_after_version (handed_out (fresh options)) extensions
 
 three : (e : TakeError) (v : ℕ) (b : Bool) → (v == 3) ≡ b → (if b then None else Some e) ≡ None → v ≡ 3
 three e v true is none = grind (arith, nat_tests)
 three e v false is none = absurd cc
 
 version_came : (options : SftpOptions) (read : Read) (told : Taken) (new : Core) → take_refusal (handed_out (fresh options)) (Ok read) ≡ None
-    → told ≡ taken_as (handed_out (fresh options)) read → new ≡ taken (handed_out (fresh options)) read → VersionCame options (Ok read) told new
+    → told ≡ taken_as (handed_out (fresh options)) read → new ≡ core_after_reply (handed_out (fresh options)) read → VersionCame options (Ok read) told new
 version_came options (None, reply.Version v extensions) told new none tells leaves =
     let is = three (take.Protocol v) v (v == 3) refl none in
     record {
@@ -382,14 +398,14 @@ greets options core new read told is none t =
     (version_came options t.reading told new
     (subst (λ (c : Core). take_refusal c (Ok t.reading) ≡ None) is (sym (ap (take_refusal core) t.reads) ∙ none))
     (t.tells ∙ ap (λ (c : Core). taken_as c t.reading) is)
-    (t.leaves ∙ ap (λ (c : Core). taken c t.reading) is))
+    (t.leaves ∙ ap (λ (c : Core). core_after_reply c t.reading) is))
 
 -- without the query for limits the session is open
 pub opened_idle : (options : SftpOptions) (extensions : Extensions) (new : Core) → new
-    ≡ greeted (handed_out (fresh options)) extensions → offers_limits extensions ≡ false
+    ≡ core_after_version (handed_out (fresh options)) extensions → offers_limits extensions ≡ false
     → new ≡ idle_core options (info_with extensions None options)
 opened_idle options extensions new leaves none =
-    leaves ∙ ap (λ (b : Bool). if b then asked_core options extensions else opened (handed_out (fresh options)) extensions None) none
+    leaves ∙ ap (λ (b : Bool). if b then asked_core options extensions else core_when_open (handed_out (fresh options)) extensions None) none
     ∙ ap (λ (m : IdRecords). record {
       options = options;
       hello_sent = true;
@@ -403,14 +419,14 @@ opened_idle options extensions new leaves none =
     none_sent
 
 pub asked_is : (options : SftpOptions) (extensions : Extensions) (new : Core) → new
-    ≡ greeted (handed_out (fresh options)) extensions → offers_limits extensions ≡ true → new
+    ≡ core_after_version (handed_out (fresh options)) extensions → offers_limits extensions ≡ true → new
     ≡ asked_core options extensions
 asked_is options extensions new leaves some =
-    leaves ∙ ap (λ (b : Bool). if b then asked_core options extensions else opened (handed_out (fresh options)) extensions None) some
+    leaves ∙ ap (λ (b : Bool). if b then asked_core options extensions else core_when_open (handed_out (fresh options)) extensions None) some
 
 -- ---- what the limits leave
 
-pub opened_later : (s : Setting) (r : Reply) → s.limits ≡ true → GoesOn r → IsLater s [] (entry.Event (Take 0 r) ∷ queried 0)
+pub opened_later : (s : Setting) (r : Reply) → s.limits ≡ true → GoesOn r → IsLater s [] (entry.Event (Take 0 r) ∷ limits_query_sent 0)
 opened_later s r limits goes =
     inr ((may_take r goes, refl), inr (omega arith, inr ((limits, refl, refl, (omega arith, refl)), refl)))
 
@@ -419,37 +435,37 @@ or_same true e later = refl
 or_same false e later = refl
 
 queried_wrong : (options : SftpOptions) (extensions : Extensions) (read : Result Read FrameError)
-    → take_refusal (handed_out (asked_core options extensions)) read ≡ refuses (queried 0) read
+    → take_refusal (handed_out (asked_core options extensions)) read ≡ refuses (limits_query_sent 0) read
 queried_wrong options extensions (Err e) = refl
 queried_wrong options extensions (Ok (None, r)) = refl
 queried_wrong options extensions (Ok (Some id, r)) = by_id (0 == id) refl
   where
-    by_id : (b : Bool) → (0 == id) ≡ b → or_else (wrong_at id r (at (handed_out (asked_core options extensions)) id))
-        (wrong_limits r) ≡ refuses_reply id r (awaited_at (queried 0) id)
+    by_id : (b : Bool) → (0 == id) ≡ b → or_else (wrong_at id r (record_at (handed_out (asked_core options extensions)) id))
+        (wrong_limits r) ≡ refuses_reply id r (awaited_at (limits_query_sent 0) id)
     by_id true e =
         let zero : 0 ≡ id = grind (arith, nat_tests) in
-        subst (λ (k : ℕ). or_else (wrong_at k r (at (handed_out (asked_core options extensions)) k)) (wrong_limits r)
-        ≡ refuses_reply k r (awaited_at (queried 0) k)) zero
+        subst (λ (k : ℕ). or_else (wrong_at k r (record_at (handed_out (asked_core options extensions)) k)) (wrong_limits r)
+        ≡ refuses_reply k r (awaited_at (limits_query_sent 0) k)) zero
         (ap (λ (p : Option IdRecord). or_else (wrong_at 0 r p) (wrong_limits r)) (asked_here options extensions)
-        ∙ or_same (allows expected.Limits r) (take.InvalidResponse (Some 0)) (wrong_limits r))
+        ∙ or_same (allows_reply expected.Limits r) (take.InvalidResponse (Some 0)) (wrong_limits r))
     by_id false e =
         let apart : id ≢ 0 = grind (arith, nat_tests) in
         ap (λ (p : Option IdRecord). or_else (wrong_at id r p) (wrong_limits r)) (asked_else options extensions id apart)
-        ∙ ap (λ (b : Bool). refuses_reply id r (sent_at (queried 0) (still_open (answer (queried 0)) (if b then Some 0 else None)))) (sym e)
+        ∙ ap (λ (b : Bool). refuses_reply id r (sent_at (limits_query_sent 0) (still_open (answer (limits_query_sent 0)) (if b then Some 0 else None)))) (sym e)
 
 -- what is refused by the core is refused by the journal
 pub queried_first : (options : SftpOptions) (extensions : Extensions) (core new : Core) (past : List Entry) (read : Result Read FrameError) (e : TakeError)
-    → core ≡ handed_out (asked_core options extensions) → past ≡ queried 0 → IsTakeError e (take_refusal core read) core new → IsFirst e (refuses past read)
+    → core ≡ handed_out (asked_core options extensions) → past ≡ limits_query_sent 0 → IsTakeError e (take_refusal core read) core new → IsFirst e (refuses past read)
 queried_first options extensions core new past read e is same refused =
     let wrong = ap (λ (c : Core). take_refusal c read) is ∙ queried_wrong options extensions read ∙ ap (λ (w : List Entry). refuses w read) (sym same) in
     subst (λ (f : Option TakeError). IsFirst e f) wrong (first_kept e (fault_of e) (take_refusal core read) core new refused)
 
 -- a frame was refused, and the journal is as before
-pub bare_refused : (e : TakeError) (a b : Bare) → b.options ≡ a.options → b.version ≡ a.version → b.past ≡ a.past → HasRefused e (seen_in a) (seen_in b)
+pub bare_refused : (e : TakeError) (a b : SessionWithoutLanes) → b.options ≡ a.options → b.version ≡ a.version → b.past ≡ a.past → HasRefused e (seen_in a) (seen_in b)
 bare_refused e a b options version past = record {
   holds = λ i. record {
     given = record { lanes = []; options = options i };
-    setting = setting_of [] (options i) (offered (version i)) (past i);
+    setting = setting_of [] (options i) (offered_extensions (version i)) (past i);
     phase = b.phase;
     version = version i;
     progress = at_first b.past;

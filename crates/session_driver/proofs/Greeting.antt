@@ -7,7 +7,7 @@ use Rattle.sftp_model.specs.declared.error.Error.TheVariants as error
 use Rattle.sftp_model.specs.ReplyReadings.{reply_at}
 use Rattle.sftp_core.specs.declared.errors.TakeError.{TakeError}
 use Rattle.sftp_core.specs.Take.{IsFirst}
-use Rattle.sftp_link.specs.Told.{Told, GotAll}
+use Rattle.sftp_link.specs.Told.{IfLogged, GotAll}
 use Rattle.sftp_link.specs.Views.{LinkView}
 use Rattle.session_model.specs.declared.entry.Entry.{Entry}
 use Rattle.session_model.specs.declared.entry.Entry.TheVariants as entry
@@ -16,60 +16,80 @@ use Rattle.session_model.specs.Shown.{hello_frame}
 use Rattle.session_model.specs.Turns.{RunProgress}
 use Rattle.session_driver.specs.declared.session.Phase.{Phase}
 use Rattle.session_driver.specs.declared.session.Phase.TheVariants.{Greeted, Queried}
-use Rattle.session_exchange.specs.Causes.{Caused, SentBy}
+use Rattle.link_frames.specs.Causes.{IsCausedByLink, SentBy}
 use Rattle.session_driver.specs.Logs.{IsAhead, even}
-use Rattle.session_driver.specs.Ongoing.{StoppedAtHello, at}
-use Rattle.session_exchange.specs.Reading.{IsFramePrefix, ReadFails}
+use Rattle.session_driver.specs.Ongoing.{StoppedAtHello, run_state}
+use Rattle.link_frames.specs.Reading.{IsFramePrefix, ReadFails}
 use Rattle.session_driver.specs.Refusals.{refuses_hello}
-use Rattle.session_exchange.specs.Refusals.{error_of}
-use Rattle.session_driver.specs.Session.{KeepsMade, HasRefused, IsFresh, IsGreeted, IsQueried, IsUnmoved, Seen}
+use Rattle.sftp_core.specs.Errors.{error_of}
+use Rattle.session_driver.specs.Session.{KeepsMade, HasRefused, IsFresh, IsGreeted, IsQueried, IsUnmoved, SessionView}
 use Rattle.session_driver.proofs.Joining.{holds_on}
-use Rattle.session_exchange.proofs.Joining.{end_told}
+use Rattle.link_frames.proofs.Joining.{end_told}
 use Rattle.session_driver.proofs.Stopping.{hello_refused, hello_unbegun, hello_unread, hello_unsent, refused_ahead}
 
 -- ---- what the opening leaves of a session
 
-opening_holds : (a b : Seen) (phase : Phase) (progress : RunProgress) → b ≡ record a { phase = phase; progress = progress; work = b.work } → KeepsMade a b
-opening_holds a b phase progress e = e ∙ (λ i. record a { phase = (sym e i).phase; progress = (sym e i).progress; work = b.work })
+opening_holds : (a b : SessionView) (phase : Phase) (progress : RunProgress) → b
+    ≡ record a { phase = phase; progress = progress; work = b.work } → KeepsMade a b
+opening_holds a b phase progress e = e ∙ (λ i. record a {
+  phase = (sym e i).phase;
+  progress = (sym e i).progress;
+  work =
+      b.work;
+})
 
-pub greeted_holds : (a b : Seen) → IsGreeted a b → KeepsMade a b
+pub greeted_holds : (a b : SessionView) → IsGreeted a b → KeepsMade a b
 greeted_holds a b e = opening_holds a b Greeted a.progress e
 
-pub queried_holds : (a b : Seen) → IsQueried a b → KeepsMade a b
-queried_holds a b e = opening_holds a b Queried (record { past = entry.Event Send ∷ a.progress.past; begun = a.progress.begun }) e
+pub queried_holds : (a b : SessionView) → IsQueried a b → KeepsMade a b
+queried_holds a b e = opening_holds a b Queried (record {
+  past = entry.Event Send ∷ a.progress.past;
+  begun =
+      a.progress.begun;
+}) e
 
 -- nothing had happened, and nothing has but the hello
-none_yet : (a : Seen) → IsFresh a → a.progress.past ≡ []
+none_yet : (a : SessionView) → IsFresh a → a.progress.past ≡ []
 none_yet a fresh = ap (λ (w : RunProgress). w.past) fresh.rest
 
-none_then : (a b : Seen) → IsFresh a → IsGreeted a b → b.progress.past ≡ []
-none_then a b fresh greeted = ap (λ (w : Seen). w.progress.past) greeted ∙ none_yet a fresh
+none_then : (a b : SessionView) → IsFresh a → IsGreeted a b → b.progress.past ≡ []
+none_then a b fresh greeted = ap (λ (w : SessionView). w.progress.past) greeted ∙ none_yet a fresh
 
 module _ {S : Type 0} where
-  pub no_hello : (a b : Seen) (x : LinkView S) → IsFresh a → IsUnmoved a b → StoppedAtHello (at a x) (at b x) error.OutOfMemory
-  no_hello a b x fresh left = record { ahead = even (left.past ∙ none_yet a fresh); holds = left.holds; log = hello_unbegun x.ended x.log }
+  pub no_hello : (a b : SessionView) (x : LinkView S) → IsFresh a → IsUnmoved a b
+      → StoppedAtHello (run_state a x) (run_state b x) error.OutOfMemory
+  no_hello a b x fresh left = record {
+    ahead = even (left.past ∙ none_yet a fresh);
+    holds = left.holds;
+    log =
+        hello_unbegun x.ended x.log;
+  }
 
-  pub hello_fails : (a b : Seen) (x y : LinkView S) (bytes : List ℕ) (e : Error) → IsFresh a → IsGreeted a b → bytes ≡ hello_frame
-      → SentBy {T = Unit {0}} bytes x y (Err e) → StoppedAtHello (at a x) (at b y) e
+  pub hello_fails : (a b : SessionView) (x y : LinkView S) (bytes : List ℕ) (e : Error) → IsFresh a → IsGreeted a b
+      → bytes ≡ hello_frame
+      → SentBy {T = Unit {0}} bytes x y (Err e) → StoppedAtHello (run_state a x) (run_state b y) e
   hello_fails a b x y bytes e fresh greeted same by = record {
     ahead = even (none_then a b fresh greeted);
     holds = greeted_holds a b greeted;
     log = hello_unsent y.ended e bytes x.log y.log same by.log.0 by.log.1;
   }
 
-  pub version_fails : {R : Type 0} (a b : Seen) (x y z : LinkView S) (bytes : List ℕ) (e : Error) (u : Unit {0}) → IsFresh a → IsGreeted a b
-      → bytes ≡ hello_frame → SentBy bytes x y (Ok u) → Told (ReadFails e) y.log z.log → Caused {T = R} y z (Err e)
-      → StoppedAtHello (at a x) (at b z) e
+  pub version_fails : {R : Type 0} (a b : SessionView) (x y z : LinkView S) (bytes : List ℕ) (e : Error) (u : Unit {0})
+      → IsFresh a → IsGreeted a b
+      → bytes ≡ hello_frame → SentBy bytes x y (Ok u) → IfLogged (ReadFails e) y.log z.log
+      → IsCausedByLink {T = R} y z (Err e)
+      → StoppedAtHello (run_state a x) (run_state b z) e
   version_fails a b x y z bytes e u fresh greeted same by fails caused = record {
     ahead = even (none_then a b fresh greeted);
     holds = greeted_holds a b greeted;
     log = hello_unread z.ended e bytes x.log y.log z.log same by.log (end_told caused) fails;
   }
 
-  pub version_refused : (a b now : Seen) (x y z : LinkView S) (sent body bytes : List ℕ) (t : TakeError) (u : Unit {0}) → IsFresh a → IsGreeted a b
+  pub version_refused : (a b now : SessionView) (x y z : LinkView S) (sent body bytes : List ℕ) (t : TakeError)
+      (u : Unit {0}) → IsFresh a → IsGreeted a b
       → sent ≡ hello_frame → SentBy sent x y (Ok u) → IsFramePrefix bytes → bytes ≡ string body → length body ≤ 1048575
-      → IsFirst t (refuses_hello (reply_at body)) → HasRefused t b now → Told (GotAll bytes) y.log z.log
-      → StoppedAtHello (at a x) (at now z) (error_of t)
+      → IsFirst t (refuses_hello (reply_at body)) → HasRefused t b now → IfLogged (GotAll bytes) y.log z.log
+      → StoppedAtHello (run_state a x) (run_state now z) (error_of t)
   version_refused a b now x y z sent body bytes t u fresh greeted same by front framed short why left got = record {
     ahead = sub (refused_ahead t b.progress.past now.progress.past left.past);
     holds = holds_on a b now (greeted_holds a b greeted) left.holds;
@@ -77,4 +97,5 @@ module _ {S : Type 0} where
   }
     where
       sub : IsAhead (error_of t) b.progress.past now.progress.past → IsAhead (error_of t) [] now.progress.past
-      sub ahead = subst (λ (w : List Entry). IsAhead (error_of t) w now.progress.past) (none_then a b fresh greeted) ahead
+      sub ahead = subst (λ (w : List Entry). IsAhead (error_of t) w now.progress.past) (none_then a b fresh greeted)
+          ahead

@@ -5,11 +5,11 @@ use Rattle.std.proofs.lemmas.Bool.Decides.{nat_tests}
 use Rattle.session_model.specs.declared.event.Event.TheVariants.{Send}
 use Rattle.session_model.specs.declared.entry.Entry.{Entry}
 use Rattle.session_model.specs.declared.entry.Entry.TheVariants as entry
-use Rattle.session_model.specs.Readings.{asked, sent, awaited, unanswered, count_below, answer}
+use Rattle.session_model.specs.Readings.{count_submitted, count_sent, count_awaited, count_unanswered, count_below, answer}
 use Rattle.session_model.specs.Calls.{Setting}
 use Rattle.session_model.specs.Turns.{RunProgress, SendsTo, RulesTo, SettlesTo, FlushesBy, is_full}
 use Rattle.session_model.specs.Grants.{next_due}
-use Rattle.session_driver.specs.Session.{IsLater, LetsGo, Flushed}
+use Rattle.session_driver.specs.Session.{IsLater, LetsGo, SendsUnsent}
 
 -- ---- later
 
@@ -43,30 +43,37 @@ some_unsent : (m a b : ℕ) → nat_lt m (a - b) ≡ true → nat_lt b a ≡ tru
 some_unsent m a b t = grind (arith, nat_tests)
 
 -- after a Send no rule acts
-sends_rules : (s : Setting) (past now : List Entry) → now ≡ entry.Event Send ∷ past → next_due s (entry.Event Send ∷ past)
+sends_rules : (s : Setting) (past now : List Entry) → now ≡ entry.Event Send ∷ past
+    → next_due s (entry.Event Send ∷ past)
     ≡ None → RulesTo s (entry.Event Send ∷ past) now
 sends_rules s past now is none =
     subst (λ (w : List Entry). RulesTo s (entry.Event Send ∷ past) w) (sym is)
-    (entry.Event Send ∷ past, ((inl refl, none), match_false _ _ _ (no_more s.max_pending (asked past)) refl))
+    (entry.Event Send ∷ past, ((inl refl, none), match_false _ _ _ (no_more s.max_pending (count_submitted past)) refl))
 
-pub flush_turns : (s : Setting) (before now : RunProgress) → Flushed s before now → FlushesBy (RulesTo s) before now
-flush_turns s before now f = by_test (nat_lt (sent before.past) (asked before.past)) f
+pub flush_turns : (s : Setting) (before now : RunProgress) → SendsUnsent s before now → FlushesBy (RulesTo s) before now
+flush_turns s before now f = by_test (nat_lt (count_sent before.past) (count_submitted before.past)) f
   where
     by_test : (b : Bool)
         → MatchBool b ((now ≡ record { past = entry.Event Send ∷ before.past; begun = before.begun })
         × (next_due s (entry.Event Send ∷ before.past) ≡ None)) (now ≡ before)
         → MatchBool b ((now.begun ≡ before.begun) × RulesTo s (entry.Event Send ∷ before.past) now.past) (now ≡ before)
-    by_test true f = (ap (λ (w : RunProgress). w.begun) f.0, sends_rules s before.past now.past (ap (λ (w : RunProgress). w.past) f.0) f.1)
+    by_test true f = (
+      ap (λ (w : RunProgress). w.begun) f.0,
+      sends_rules s before.past now.past
+          (ap (λ (w : RunProgress). w.past) f.0) f.1,
+    )
     by_test false same = same
 
 -- too much was unsent, and it was sent
-pub full_sends : (s : Setting) (before now : RunProgress) → is_full s before.past ≡ true → Flushed s before now → SendsTo s before.past now.past
+pub full_sends : (s : Setting) (before now : RunProgress) → is_full s before.past ≡ true → SendsUnsent s before now
+    → SendsTo s before.past now.past
 full_sends s before now full f =
-    let sends = when_true _ _ _ (some_unsent s.max_pending (asked before.past) (sent before.past) full) f in
+    let sends = when_true _ _ _ (some_unsent s.max_pending (count_submitted before.past) (count_sent before.past) full)
+    f in
     match_true _ _ _ full (ap (λ (w : RunProgress). w.past) sends.0)
 
-pub full_begun : (s : Setting) (before now : RunProgress) → Flushed s before now → now.begun ≡ before.begun
-full_begun s before now f = by_test (nat_lt (sent before.past) (asked before.past)) f
+pub full_begun : (s : Setting) (before now : RunProgress) → SendsUnsent s before now → now.begun ≡ before.begun
+full_begun s before now f = by_test (nat_lt (count_sent before.past) (count_submitted before.past)) f
   where
     by_test : (b : Bool) → MatchBool b ((now ≡ record { past = entry.Event Send ∷ before.past; begun = before.begun })
         × (next_due s (entry.Event Send ∷ before.past) ≡ None)) (now ≡ before) → now.begun ≡ before.begun
@@ -74,32 +81,38 @@ full_begun s before now f = by_test (nat_lt (sent before.past) (asked before.pas
     by_test false same = ap (λ (w : RunProgress). w.begun) same
 
 below_more : (f : ℕ → Bool) (m n : ℕ) → m ≤ n → count_below f m ≤ count_below f n
-below_more f m zero le = let none : m ≡ 0 = omega (arith, le) in subst (λ (w : ℕ). count_below f m ≤ count_below f w) none (omega arith)
+below_more f m zero le = let none : m ≡ 0 = omega (arith, le) in
+    subst (λ (w : ℕ). count_below f m ≤ count_below f w) none (omega arith)
 below_more f m (suc n) le = by_test (nat_le m n) refl (λ l. below_more f m n l)
   where
     more : (b : Bool) (k : ℕ) → k ≤ (if b then 1 else 0) + k
     more true k = omega arith
     more false k = omega arith
 
-    by_test : (b : Bool) → nat_le m n ≡ b → (m ≤ n → count_below f m ≤ count_below f n) → count_below f m ≤ count_below f (suc n)
-    by_test true e below = let l : m ≤ n = grind (arith, nat_tests) in let one = below l in let step = more (f n) (count_below f n) in omega (arith, one, step)
-    by_test false e below = let same : m ≡ suc n = grind (arith, nat_tests) in subst (λ (w : ℕ). count_below f m ≤ count_below f w) same (omega arith)
+    by_test : (b : Bool) → nat_le m n ≡ b → (m ≤ n → count_below f m ≤ count_below f n)
+        → count_below f m ≤ count_below f (suc n)
+    by_test true e below = let l : m ≤ n = grind (arith, nat_tests) in let one = below l in let step =
+        more (f n) (count_below f n) in omega (arith, one, step)
+    by_test false e below = let same : m ≡ suc n = grind (arith, nat_tests) in
+        subst (λ (w : ℕ). count_below f m ≤ count_below f w) same (omega arith)
 
 not_below : (a b : ℕ) → nat_lt b a ≡ false → a ≤ b
 not_below a b f = grind (arith, nat_tests)
 
 -- when all is sent, what is unanswered is awaited
-pub flush_awaits : (s : Setting) (before now : RunProgress) → Flushed s before now → 0 < unanswered before.past → 0 < awaited now.past
-flush_awaits s before now f some = by_test (nat_lt (sent before.past) (asked before.past)) refl f
+pub flush_awaits : (s : Setting) (before now : RunProgress) → SendsUnsent s before now
+    → 0 < count_unanswered before.past → 0 < count_awaited now.past
+flush_awaits s before now f some = by_test (nat_lt (count_sent before.past) (count_submitted before.past)) refl f
   where
-    by_test : (b : Bool) → nat_lt (sent before.past) (asked before.past) ≡ b
+    by_test : (b : Bool) → nat_lt (count_sent before.past) (count_submitted before.past) ≡ b
         → MatchBool b ((now ≡ record { past = entry.Event Send ∷ before.past; begun = before.begun })
-        × (next_due s (entry.Event Send ∷ before.past) ≡ None)) (now ≡ before) → 0 < awaited now.past
-    by_test true e f = subst (λ (w : RunProgress). 0 < awaited w.past) (sym f.0) some
+        × (next_due s (entry.Event Send ∷ before.past) ≡ None)) (now ≡ before) → 0 < count_awaited now.past
+    by_test true e f = subst (λ (w : RunProgress). 0 < count_awaited w.past) (sym f.0) some
     by_test false e same =
-        let le = not_below (asked before.past) (sent before.past) e in
-        let more = below_more (λ place. is_none (answer before.past place)) (asked before.past) (sent before.past) le in
-        subst (λ (w : RunProgress). 0 < awaited w.past) (sym same) (omega (arith, more, some))
+        let le = not_below (count_submitted before.past) (count_sent before.past) e in
+        let more = below_more (λ place. is_none (answer before.past place)) (count_submitted before.past)
+        (count_sent before.past) le in
+        subst (λ (w : RunProgress). 0 < count_awaited w.past) (sym same) (omega (arith, more, some))
 
 -- ---- a lane is let go
 

@@ -1,14 +1,14 @@
 pub mod Journals
 pub mod Stopping
 pub mod Joining
-pub mod Parts
+mod Parts
 pub mod Rounds
 pub mod Settled
 pub mod Bare
-pub mod Loops
+mod Loops
 pub mod Whole
-pub mod Asking
-pub mod Greeting
-pub mod SoFarLaws
-pub mod AddingLaws
+mod Asking
+mod Greeting
+mod SoFarLaws
+mod AddingLaws
 pub mod ServingLaws

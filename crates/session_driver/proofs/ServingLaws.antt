@@ -46,21 +46,21 @@ use Rattle.sftp_core.specs.Take.{wrong_content}
 use Rattle.sftp_core.specs.declared.errors.TakeError.{TakeError}
 use Rattle.sftp_link.specs.declared.piece.Piece.{Piece}
 use Rattle.sftp_link.specs.Log.{GotOn}
-use Rattle.sftp_link.specs.Told.{Told}
-use Rattle.sftp_wire.specs.FrameReader.{fault_of, missing}
+use Rattle.sftp_link.specs.Told.{IfLogged}
+use Rattle.sftp_wire.specs.FrameReader.{fault_of, missing_bytes}
 use Rattle.session_model.specs.declared.entry.Entry.{Entry}
 use Rattle.session_model.specs.declared.turn.Turn.{Turn}
 use Rattle.session_model.specs.Calls.{Setting}
 use Rattle.session_model.specs.Journals.{IsJournal, MayReply, goes_on, is_read}
-use Rattle.session_model.specs.Readings.{AskedRequest, asked_at, awaited, awaiting, sent}
+use Rattle.session_model.specs.Readings.{AskedRequest, asked_at, count_awaited, place_awaiting, count_sent}
 use Rattle.session_model.specs.Settings.{setting_of}
 use Rattle.session_model.proofs.RequestLaws.{is_awaiting}
-use Rattle.session_exchange.specs.Causes.{Cause, IsUnsent}
-use Rattle.session_driver.specs.Logs.{Behind, BehindHello, EndsSession, GotUnusable}
+use Rattle.link_frames.specs.Causes.{CountsLinkFault, IsUnsent}
+use Rattle.session_driver.specs.Logs.{HasPartialStep, BehindHello, EndsSession, GotUnusable}
 use Rattle.session_driver.specs.Refusals.{awaited_at, refuses, refuses_hello, refuses_limits, refuses_reply, sent_at}
 use Rattle.session_driver.specs.ServingLinks.{GivesGood, IsAllowed, IsOne, IsVersion, Read, ServesLanes}
-use Rattle.session_driver.specs.Session.{Given, IsLater}
-use Rattle.session_exchange.proofs.Frames.{no_fault, nothing_missing, one_string}
+use Rattle.session_driver.specs.Session.{SessionInputs, IsLater}
+use Rattle.link_frames.proofs.Frames.{no_fault, nothing_missing, one_string}
 
 pub later_journal : (s : Setting) (past : List Entry) → IsLater s [] past → IsJournal s past
 later_journal s [] l = tt
@@ -74,8 +74,9 @@ pub one_frame : (body : List ℕ) → length body ≤ MAX_BODY_LEN → IsOne (st
 one_frame body short b rest some le e = sym (one_string body b [] rest short le (append-nil (string body) ∙ e)).1
 
 -- so is a part of a frame
-pub one_part : (bytes : List ℕ) → 0 < missing bytes → IsOne bytes
-one_part bytes part body rest some le e = absurd (let none : missing bytes ≡ 0 = ap missing e ∙ nothing_missing body rest le in omega (arith, none, part))
+pub one_part : (bytes : List ℕ) → 0 < missing_bytes bytes → IsOne bytes
+one_part bytes part body rest some le e = absurd (let none : missing_bytes bytes ≡ 0 = ap missing_bytes e
+    ∙ nothing_missing body rest le in omega (arith, none, part))
 
 -- ---- what a link gives that serves
 
@@ -105,17 +106,21 @@ allowed_fine past read allowed =
     let id : ℕ = allowed.0 in
     let r : Reply = allowed.1.0 in
     let may = allowed.1.1.1 in
-    let waits : awaiting past id ≡ Some may.0 = is_awaiting past id may.0 may.1.0.0 may.1.0.2 in
-    let there : awaited_at past id ≡ asked_at past may.0 = ap (sent_at past) waits ∙ rw (lt_true may.0 (sent past) may.1.0.1) refl in
-    ap (λ (w : Read). refuses past (Ok w)) allowed.1.1.0 ∙ (ap (refuses_reply id r) there ∙ reply_fine (asked_at past may.0) id r may.1.1)
+    let waits : place_awaiting past id ≡ Some may.0 = is_awaiting past id may.0 may.1.0.0 may.1.0.2 in
+    let there : awaited_at past id ≡ asked_at past may.0 = ap (sent_at past) waits
+    ∙ rw (lt_true may.0 (count_sent past) may.1.0.1) refl in
+    ap (λ (w : Read). refuses past (Ok w)) allowed.1.1.0 ∙ (ap (refuses_reply id r) there
+    ∙ reply_fine (asked_at past may.0) id r may.1.1)
 
 -- ---- what came
 
 -- it isn't a part of a frame, where the end was met
-no_part : (good : Read → Type 0) (bytes : List ℕ) (ended : Bool) → GivesGood good bytes ended → ended ≡ true → 0 < missing bytes → ⊥
+no_part : (good : Read → Type 0) (bytes : List ℕ) (ended : Bool) → GivesGood good bytes ended → ended ≡ true
+    → 0 < missing_bytes bytes → ⊥
 no_part good bytes ended g over some =
-    let is : bytes ≡ string g.body ++ g.rest = sym (append-nil bytes) ∙ (ap (λ (w : List ℕ). bytes ++ w) (sym (g.whole over)) ∙ g.framed) in
-    let whole : missing bytes ≡ 0 = ap missing is ∙ nothing_missing g.body g.rest g.short in
+    let is : bytes ≡ string g.body ++ g.rest = sym (append-nil bytes)
+    ∙ (ap (λ (w : List ℕ). bytes ++ w) (sym (g.whole over)) ∙ g.framed) in
+    let whole : missing_bytes bytes ≡ 0 = ap missing_bytes is ∙ nothing_missing g.body g.rest g.short in
     absurd (omega (arith, whole, some))
 
 -- bytes with a wrong length begin with no whole frame
@@ -127,7 +132,8 @@ one_bad bytes kind bad body rest some short e = absurd (let none =
 -- and nothing is wrong with it
 no_refusal : (good : Read → Type 0) (wrong : Result (Option ℕ × Reply) FrameError → Option TakeError) (ended : Bool)
     (e : Error) (mid after : List Piece) → ((read : Read) → good read → wrong (Ok read) ≡ None)
-    → ((bytes : List ℕ) → GotOn mid after bytes → IsOne bytes → GivesGood good bytes ended) → GotUnusable wrong e mid after → ⊥
+    → ((bytes : List ℕ) → GotOn mid after bytes → IsOne bytes → GivesGood good bytes ended)
+    → GotUnusable wrong e mid after → ⊥
 no_refusal good wrong ended e mid after fine gives (inl bad) =
     let g = gives bad.1.1.0 bad.1.1.1.1 (one_bad bad.1.1.0 bad.0 bad.1.1.1.0.bad) in
     let none = no_fault bad.1.1.0 g.tail g.body g.rest g.framed g.some g.short in
@@ -136,16 +142,17 @@ no_refusal good wrong ended e mid after fine gives (inl bad) =
 no_refusal good wrong ended e mid after fine gives (inr bad) =
     let g = gives (string bad.0) bad.1.1 (one_frame bad.0 bad.1.0) in
     let same = (one_string bad.0 g.body g.tail g.rest bad.1.0 g.short g.framed).0 in
-    let none : wrong (reply_at bad.0) ≡ None = ap (λ (w : List ℕ). wrong (reply_at w)) same ∙ (ap wrong g.reads ∙ fine g.read g.is_good) in
+    let none : wrong (reply_at bad.0) ≡ None = ap (λ (w : List ℕ). wrong (reply_at w)) same
+    ∙ (ap wrong g.reads ∙ fine g.read g.is_good) in
     let some = bad.1.2.1.0 in
     absurd cc
 
 -- ---- errors
 
 journal_only : (ended : Bool) (e : Error) (past : List Entry) (mid after : List Piece)
-    → (0 < awaited past → (bytes : List ℕ) → GotOn mid after bytes → IsOne bytes
+    → (0 < count_awaited past → (bytes : List ℕ) → GotOn mid after bytes → IsOne bytes
     → GivesGood (IsAllowed past) bytes ended)
-    → Behind ended e past mid after → Cause {T = Unit {0}} 0 0 (Err e) → e ≡ error.OutOfMemory
+    → HasPartialStep ended e past mid after → CountsLinkFault {T = Unit {0}} 0 0 (Err e) → e ≡ error.OutOfMemory
 journal_only ended error.OutOfMemory past mid after gives b why = refl
 journal_only ended error.LinkFault past mid after gives b why = absurd (omega (arith, why))
 journal_only ended error.LinkEnded past mid after gives b why =
@@ -156,39 +163,47 @@ journal_only ended other past mid after gives b why = absurd
 
 hello_only : (ended : Bool) (e : Error) (mid after : List Piece)
     → ((bytes : List ℕ) → GotOn mid after bytes → IsOne bytes → GivesGood IsVersion bytes ended)
-    → BehindHello ended e mid after → Cause {T = Unit {0}} 0 0 (Err e)
+    → BehindHello ended e mid after → CountsLinkFault {T = Unit {0}} 0 0 (Err e)
     → e ≡ error.OutOfMemory
 hello_only ended error.OutOfMemory mid after gives b why = refl
 hello_only ended error.LinkFault mid after gives b why = absurd (omega (arith, why))
 hello_only ended error.LinkEnded mid after gives b why = absurd
     (no_part IsVersion b.1.0 ended (gives b.1.0 b.1.1.1 (one_part b.1.0 b.1.1.0.short)) b.0 b.1.1.0.short)
-hello_only ended other mid after gives b why = absurd (no_refusal IsVersion refuses_hello ended other mid after version_fine gives b)
+hello_only ended other mid after gives b why = absurd (no_refusal IsVersion refuses_hello ended other mid after
+    version_fine gives b)
 
-unsent_only : (e : Error) → IsUnsent e → Cause {T = Unit {0}} 0 0 (Err e) → e ≡ error.OutOfMemory
+unsent_only : (e : Error) → IsUnsent e → CountsLinkFault {T = Unit {0}} 0 0 (Err e) → e ≡ error.OutOfMemory
 unsent_only error.OutOfMemory u why = refl
 unsent_only error.LinkFault u why = absurd (omega (arith, why))
 unsent_only other u why = absurd u
 
 -- over a link that serves, a run stops only for want of memory
-pub only_memory : (given : Given) (turns : List Turn) (ended : Bool) (e : Error) (log : List Piece)
-    → ServesLanes given log ended → EndsSession given turns ended e [] log → Cause {T = Unit {0}} 0 0 (Err e) → e
+pub only_memory : (given : SessionInputs) (turns : List Turn) (ended : Bool) (e : Error) (log : List Piece)
+    → ServesLanes given log ended → EndsSession given turns ended e [] log → CountsLinkFault {T = Unit {0}} 0 0 (Err e)
+    → e
     ≡ error.OutOfMemory
 only_memory given turns ended e log serves (inl (inl part)) why = unsent_only e part.0 why
-only_memory given turns ended e log serves (inl (inr h)) why = hello_only ended e h.0 log (λ bytes. serves.greets h.0 bytes h.1.0) h.1.1 why
+only_memory given turns ended e log serves (inl (inr h)) why =
+    hello_only ended e h.0 log (λ bytes. serves.greets h.0 bytes h.1.0) h.1.1 why
 only_memory given turns ended e log serves (inr x) why =
     let j = later_journal (setting_of given.lanes given.options x.extensions x.now) x.now x.later in
-    journal_only ended e x.now x.mid log (λ some bytes. serves.replies x.extensions x.now x.mid bytes j x.shows some) x.behind why
+    journal_only ended e x.now x.mid log (λ some bytes. serves.replies x.extensions x.now x.mid bytes j x.shows some)
+    x.behind why
 
 -- a link that counted no fault gave no cause for one
-no_cause : (before now : ℕ) (e : Error) → now ≡ before → Cause {T = Unit {0}} before now (Err e) → Cause {T = Unit {0}} 0 0 (Err e)
+no_cause : (before now : ℕ) (e : Error) → now ≡ before → CountsLinkFault {T = Unit {0}} before now (Err e)
+    → CountsLinkFault {T = Unit {0}} 0 0 (Err e)
 no_cause before now error.LinkFault same why = absurd (omega (arith, same, why))
 no_cause before now other same why = refl
 
 -- how a run ends over a link whose log was empty
-pub completes : (given : Given) (turns : List Turn) (ended : Bool) (e : Error) (faults faults_now : ℕ) (x y : Option (List Piece))
-    → Told (EndsSession given turns ended e) x y → Cause {T = Unit {0}} faults faults_now (Err e) → (log : List Piece) → x ≡ Some []
+pub completes : (given : SessionInputs) (turns : List Turn) (ended : Bool) (e : Error) (faults faults_now : ℕ)
+    (x y : Option (List Piece))
+    → IfLogged (EndsSession given turns ended e) x y → CountsLinkFault {T = Unit {0}} faults faults_now (Err e)
+    → (log : List Piece) → x ≡ Some []
     → y ≡ Some log → ServesLanes given log ended → faults_now ≡ faults → e ≡ error.OutOfMemory
 completes given turns ended e faults faults_now x y told why log empty shows serves same =
-    let ends : EndsSession given turns ended e [] log = subst (λ (w : Option (List Piece)). Told (EndsSession given turns ended e) (Some []) w) shows
-    (subst (λ (w : Option (List Piece)). Told (EndsSession given turns ended e) w y) empty told) in
+    let ends : EndsSession given turns ended e [] log = subst (λ (w : Option (List Piece)). IfLogged
+    (EndsSession given turns ended e) (Some []) w) shows
+    (subst (λ (w : Option (List Piece)). IfLogged (EndsSession given turns ended e) w y) empty told) in
     only_memory given turns ended e log serves ends (no_cause faults faults_now e same why)

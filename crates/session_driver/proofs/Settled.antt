@@ -10,12 +10,13 @@ use Rattle.session_model.specs.Calls.{Setting}
 use Rattle.session_model.specs.Settings.{facts_of, limits_told}
 use Rattle.sftp_model.specs.Lengths.{offers_limits}
 use Rattle.session_model.specs.Journals.{IsNext}
-use Rattle.session_model.specs.Runs.{OpensSession, queried}
+use Rattle.session_model.specs.Runs.{OpensSession, limits_query_sent}
 use Rattle.session_model.proofs.CallLaws.{next_take}
 use Rattle.session_model.proofs.RequestLaws.{answer_stays, answer_new}
-use Rattle.session_driver.specs.Session.{Given, IsFixed, IsLater}
+use Rattle.session_driver.specs.Session.{SessionInputs, IsFixed, IsLater}
 
-next_answers : (s : Setting) (past : List Entry) (e : Entry) (p : ℕ) (q : Reply) → IsNext s past e → answer past p ≡ Some q → answer (e ∷ past) p ≡ Some q
+next_answers : (s : Setting) (past : List Entry) (e : Entry) (p : ℕ) (q : Reply) → IsNext s past e → answer past p
+    ≡ Some q → answer (e ∷ past) p ≡ Some q
 next_answers s past (entry.Event (Take id r)) p q next is = answer_stays past id r q p (next_take s past id r next).0 is
 next_answers s past (entry.Event (Submit by id r)) p q next is = is
 next_answers s past (entry.Event Send) p q next is = is
@@ -26,7 +27,8 @@ next_answers s past (entry.LetGo lane) p q next is = is
 next_answers s past (entry.Kept fault) p q next is = is
 
 -- a reply stays as a journal goes on
-later_answers : (s : Setting) (a b : List Entry) (p : ℕ) (q : Reply) → IsLater s a b → answer a p ≡ Some q → answer b p ≡ Some q
+later_answers : (s : Setting) (a b : List Entry) (p : ℕ) (q : Reply) → IsLater s a b → answer a p ≡ Some q → answer b p
+    ≡ Some q
 later_answers s a [] p q same is = subst (λ (w : List Entry). answer w p ≡ Some q) same is
 later_answers s a (e ∷ past) p q (inl same) is = subst (λ (w : List Entry). answer w p ≡ Some q) same is
 later_answers s a (e ∷ past) p q (inr l) is = next_answers s past e p q l.0 (later_answers s a past p q l.1 is)
@@ -39,8 +41,8 @@ answered past opens =
     let may = opens.1.1.1 in
     let below : may.0 < 1 = may.1.0.1 in
     let first : may.0 ≡ 0 = omega (arith, below) in
-    let borne : bearer (queried id) id ≡ Some 0 = may.1.0.0 ∙ ap (λ (n : ℕ). Some n) first in
-    (r, ap (λ (w : List Entry). answer w 0) opens.1.1.2 ∙ answer_new (queried id) id 0 r borne)
+    let borne : bearer (limits_query_sent id) id ≡ Some 0 = may.1.0.0 ∙ ap (λ (n : ℕ). Some n) first in
+    (r, ap (λ (w : List Entry). answer w 0) opens.1.1.2 ∙ answer_new (limits_query_sent id) id 0 r borne)
 
 told_same : (l : Bool) (s : Setting) (a b : List Entry) → s.limits ≡ l → OpensSession s.limits a → IsLater s a b
     → limits_told l (answer a 0) ≡ limits_told l (answer b 0)
@@ -49,7 +51,8 @@ told_same true s a b is opens later =
     let came = answered a (subst (λ (l : Bool). OpensSession l a) is opens) in
     ap (limits_told true) (came.1 ∙ sym (later_answers s a b 0 came.0 later came.1))
 
-pub still_fixed : (given : Given) (version : Option Reply) (a b : List Entry) (s : Setting) → IsFixed given version a s
+pub still_fixed : (given : SessionInputs) (version : Option Reply) (a b : List Entry) (s : Setting)
+    → IsFixed given version a s
     → OpensSession s.limits a → IsLater s a b → IsFixed given version b s
 still_fixed given version a b s fixed opens later =
     let extensions = fixed.0 in

@@ -37,7 +37,7 @@ use Rattle.session_model.specs.declared.event.Owner.TheVariants as owner
 use Rattle.session_model.specs.declared.event.Event.TheVariants.{Submit, Send, Take, Cancel, End}
 use Rattle.session_model.specs.declared.entry.Entry.{Entry}
 use Rattle.session_model.specs.declared.entry.Entry.TheVariants as entry
-use Rattle.session_model.specs.Readings.{asked, sent, awaited, ended}
+use Rattle.session_model.specs.Readings.{count_submitted, count_sent, count_awaited, count_ended}
 use Rattle.session_model.specs.Calls.{Setting, move_of}
 use Rattle.session_model.specs.Journals.{MayTake, cancelled_end}
 use Rattle.session_model.specs.Turns.{RunProgress, ClosesTo, SettlesTo, RulesTo, TurnTo, MovesBy, begun_but, is_full}
@@ -86,9 +86,11 @@ same_progress before now is = same before.past now.past (ap (λ (w : RunProgress
 by_closes : (s : Setting) (before now : List Entry) → ClosesTo s before now → Extends before now
 by_closes s before [] c = ([], sym c)
 by_closes s before (e ∷ past) (inl is) = ([], sym is)
-by_closes s before (e ∷ past) (inr c) = let w = by_closes s before past c.1 in (e ∷ w.0, ap (λ (p : List Entry). e ∷ p) w.1)
+by_closes s before (e ∷ past) (inr c) = let w = by_closes s before past c.1 in
+    (e ∷ w.0, ap (λ (p : List Entry). e ∷ p) w.1)
 
-by_send : (b : Bool) (before now : List Entry) → MatchBool b (now ≡ entry.Event Send ∷ before) (now ≡ before) → Extends before now
+by_send : (b : Bool) (before now : List Entry) → MatchBool b (now ≡ entry.Event Send ∷ before) (now ≡ before)
+    → Extends before now
 by_send true before now is = (entry.Event Send ∷ [], is)
 by_send false before now is = ([], is)
 
@@ -100,14 +102,18 @@ by_rules s before now t = both before t.0 now (by_settling s before t.0 t.1.0) (
 
 -- ---- turns
 
-module _ (Follows : List Entry → List Entry → Type 0) (grows : (before now : List Entry) → Follows before now → Extends before now) where
+module _ (Follows : List Entry → List Entry → Type 0) (grows : (before now : List Entry) → Follows before now
+    → Extends before now) where
   by_move : (lane : ℕ) (a b : RunProgress) (m : Option Move) → MovesBy Follows lane a b m → Extends a.past b.past
   by_move lane a b None t = same_progress a b t
   by_move lane a b (Some (Wait place)) t = same a.past b.past (ap (λ (w : RunProgress). w.past) t)
-  by_move lane a b (Some (Ask r)) t = after_one (entry.Event (Submit (owner.Call lane (ended a.past lane)) t.1.0 r)) a.past b.past (grows _ b.past t.1.1.1)
-  by_move lane a b (Some (Done o site)) t = after_one (entry.Event (End lane (ended a.past lane) o)) a.past b.past (grows _ b.past t.1)
+  by_move lane a b (Some (Ask r)) t = after_one (entry.Event (Submit (owner.Call lane (count_ended a.past lane)) t.1.0
+      r)) a.past b.past (grows _ b.past t.1.1.1)
+  by_move lane a b (Some (Done o site)) t = after_one (entry.Event (End lane (count_ended a.past lane) o)) a.past b.past
+      (grows _ b.past t.1)
 
-  by_flush : (a b : RunProgress) (some : Bool) → MatchBool some ((b.begun ≡ a.begun) × Follows (entry.Event Send ∷ a.past) b.past) (b ≡ a) → Extends a.past b.past
+  by_flush : (a b : RunProgress) (some : Bool) → MatchBool some
+      ((b.begun ≡ a.begun) × Follows (entry.Event Send ∷ a.past) b.past) (b ≡ a) → Extends a.past b.past
   by_flush a b true t = after_one (entry.Event Send) a.past b.past (grows _ b.past t.1)
   by_flush a b false t = same_progress a b t
 
@@ -128,9 +134,10 @@ module _ (Follows : List Entry → List Entry → Type 0) (grows : (before now :
 
   by_turn_by : (s : Setting) (t : Turn) (a b : RunProgress) → TurnBy Follows s t a b → Extends a.past b.past
   by_turn_by s (turn.Step lane) a b t = by_move lane a b (move_of s a.past lane) t
-  by_turn_by s turn.Flush a b t = by_flush a b (nat_lt (sent a.past) (asked a.past)) t
-  by_turn_by s turn.Take a b t = by_take a b (nat_lt 0 (awaited a.past)) t
-  by_turn_by s (turn.Cancel lane) a b t = by_cancel lane a b (record { past = a.past; begun = begun_but a.begun lane }) _ t
+  by_turn_by s turn.Flush a b t = by_flush a b (nat_lt (count_sent a.past) (count_submitted a.past)) t
+  by_turn_by s turn.Take a b t = by_take a b (nat_lt 0 (count_awaited a.past)) t
+  by_turn_by s (turn.Cancel lane) a b t = by_cancel lane a b (record { past = a.past; begun = begun_but a.begun lane })
+      _ t
 
 by_turn : (s : Setting) (t : Turn) (a b : RunProgress) → TurnTo s t a b → Extends a.past b.past
 by_turn s (turn.Step lane) a b t = by_turn_by (RulesTo s) (by_rules s) s (turn.Step lane) a b t
@@ -146,11 +153,13 @@ by_turns s (u ∷ ts) a b t = both a.past t.0.past b.past (by_turn s u a t.0 t.1
 
 by_rounds : (s : Setting) (lane n : ℕ) (a b : RunProgress) → RoundsTo s lane n a b → Extends a.past b.past
 by_rounds s lane zero a b t = same_progress a b t
-by_rounds s lane (suc n) a b t = both a.past t.1.0.past b.past (by_turns s (round_of lane) a t.1.0 t.1.1.0) (by_rounds s lane n t.1.0 b t.1.1.1)
+by_rounds s lane (suc n) a b t = both a.past t.1.0.past b.past (by_turns s (round_of lane) a t.1.0 t.1.1.0)
+    (by_rounds s lane n t.1.0 b t.1.1.1)
 
 by_ends : (s : Setting) (n : ℕ) (a b : RunProgress) → EndsTo s n a b → Extends a.past b.past
 by_ends s zero a b t = same_progress a b t
-by_ends s (suc lane) a b t = both a.past t.0.past b.past (by_ends s lane a t.0 t.1.0) (by_rounds s lane t.1.1.0 t.0 b t.1.1.1)
+by_ends s (suc lane) a b t = both a.past t.0.past b.past (by_ends s lane a t.0 t.1.0)
+    (by_rounds s lane t.1.1.0 t.0 b t.1.1.1)
 
 by_letting_go : (s : Setting) (n : ℕ) (a b : RunProgress) → LetsGoTo s n a b → Extends a.past b.past
 by_letting_go s zero a b t = same_progress a b t
@@ -159,18 +168,23 @@ by_letting_go s (suc lane) a b t = both a.past t.0.past b.past (by_letting_go s 
 
 by_drains : (s : Setting) (n : ℕ) (a b : RunProgress) → DrainsTo s n a b → Extends a.past b.past
 by_drains s zero a b t = same_progress a b t
-by_drains s (suc n) a b t = both a.past t.1.0.past b.past (by_turns s drain_of a t.1.0 t.1.1.0) (by_drains s n t.1.0 b t.1.1.1)
+by_drains s (suc n) a b t = both a.past t.1.0.past b.past (by_turns s drain_of a t.1.0 t.1.1.0)
+    (by_drains s n t.1.0 b t.1.1.1)
 
 -- ---- parts that were stopped
 
-so_far_turn : (s : Setting) (t : Turn) (a : RunProgress) (past : List Entry) → TurnSoFar s t a past → Extends a.past past
+so_far_turn : (s : Setting) (t : Turn) (a : RunProgress) (past : List Entry) → TurnSoFar s t a past
+    → Extends a.past past
 so_far_turn s t a past (inl is) = same a.past past is
-so_far_turn s t a past (inr half) = subst (Extends a.past) half.is (by_turn_by (SettlesTo s) (by_settling s) s t a half.now half.event)
+so_far_turn s t a past (inr half) = subst (Extends a.past) half.is
+    (by_turn_by (SettlesTo s) (by_settling s) s t a half.now half.event)
 
-so_far_turns : (s : Setting) (ts : List Turn) (a : RunProgress) (past : List Entry) → TurnsSoFar s ts a past → Extends a.past past
+so_far_turns : (s : Setting) (ts : List Turn) (a : RunProgress) (past : List Entry) → TurnsSoFar s ts a past
+    → Extends a.past past
 so_far_turns s [] a past is = same a.past past is
 so_far_turns s (t ∷ ts) a past (inl part) = so_far_turn s t a past part
-so_far_turns s (t ∷ ts) a past (inr next) = both a.past next.0.past past (by_turn s t a next.0 next.1.0) (so_far_turns s ts next.0 past next.1.1)
+so_far_turns s (t ∷ ts) a past (inr next) = both a.past next.0.past past (by_turn s t a next.0 next.1.0)
+    (so_far_turns s ts next.0 past next.1.1)
 
 so_far_ends : (s : Setting) (n : ℕ) (a : RunProgress) (past : List Entry) → EndsSoFar s n a past → Extends a.past past
 so_far_ends s n a past p =
@@ -178,15 +192,18 @@ so_far_ends s n a past p =
     (both p.mid.past p.part.mid.past past (by_rounds s p.lane p.part.rounds p.mid p.part.mid p.part.whole)
     (so_far_turns s (round_of p.lane) p.part.mid past p.part.part))
 
-so_far_letting_go : (s : Setting) (n : ℕ) (a : RunProgress) (past : List Entry) → LetsGoSoFar s n a past → Extends a.past past
+so_far_letting_go : (s : Setting) (n : ℕ) (a : RunProgress) (past : List Entry) → LetsGoSoFar s n a past
+    → Extends a.past past
 so_far_letting_go s n a past p = both a.past p.mid.past past (by_letting_go s p.lane a p.mid p.whole) (last p.part)
   where
     last : (past ≡ p.mid.past) ⊎ SettlesTo s (entry.LetGo p.lane ∷ p.mid.past) past → Extends p.mid.past past
     last (inl is) = same p.mid.past past is
-    last (inr t) = after_one (entry.LetGo p.lane) p.mid.past past (by_settling s (entry.LetGo p.lane ∷ p.mid.past) past t)
+    last (inr t) = after_one (entry.LetGo p.lane) p.mid.past past
+        (by_settling s (entry.LetGo p.lane ∷ p.mid.past) past t)
 
 so_far_drains : (s : Setting) (a : RunProgress) (past : List Entry) → DrainsSoFar s a past → Extends a.past past
-so_far_drains s a past p = both a.past p.mid.past past (by_drains s p.drains a p.mid p.whole) (so_far_turns s drain_of p.mid past p.part)
+so_far_drains s a past p = both a.past p.mid.past past (by_drains s p.drains a p.mid p.whole)
+    (so_far_turns s drain_of p.mid past p.part)
 
 -- ---- the first turn
 
@@ -205,14 +222,16 @@ asks_first : (s : Setting) (lane : ℕ) (r : Request) (a b : RunProgress) (Follo
 asks_first s lane r a b Follows grows none m is t =
     let asks = subst (MovesBy Follows lane a b) is t in (
       asks.1.0,
-      subst (λ (p : List Entry). Extends (entry.Event (Submit (owner.Call lane (ended p lane)) asks.1.0 r) ∷ p)
+      subst (λ (p : List Entry). Extends (entry.Event (Submit (owner.Call lane (count_ended p lane)) asks.1.0 r) ∷ p)
           b.past) none (grows _ b.past asks.1.1.1),
     )
 
-goes_on : (lane : ℕ) (r : Request) (past now : List Entry) → BeginsWith lane r past → Extends past now → BeginsWith lane r now
+goes_on : (lane : ℕ) (r : Request) (past now : List Entry) → BeginsWith lane r past → Extends past now
+    → BeginsWith lane r now
 goes_on lane r past now b more = (b.0, both (submit lane 0 b.0 r ∷ []) past now b.1 more)
 
-module _ (s : Setting) (lane : ℕ) (turns : List Turn) (r : Request) (unasked : s.limits ≡ false) (moves : move_of s [] lane ≡ Some (Ask r)) where
+module _ (s : Setting) (lane : ℕ) (turns : List Turn) (r : Request) (unasked : s.limits ≡ false)
+    (moves : move_of s [] lane ≡ Some (Ask r)) where
   none_at_first : (opened : List Entry) → OpensSession s.limits opened → opened ≡ []
   none_at_first opened opens = none_opened s.limits opened unasked opens
 
@@ -245,25 +264,30 @@ module _ (s : Setting) (lane : ℕ) (turns : List Turn) (r : Request) (unasked :
   opening_empty false past is part = part
 
   -- where a schedule's first turn steps a lane that asks for something, a run so far is empty or begins with that
-  pub first_turn_first : (past : List Entry) → RunSoFar s (turn.Step lane ∷ turns) past → (past ≡ []) ⊎ BeginsWith lane r past
+  pub first_turn_first : (past : List Entry) → RunSoFar s (turn.Step lane ∷ turns) past → (past ≡ [])
+      ⊎ BeginsWith lane r past
   first_turn_first past (in_opening part) = inl (opening_empty s.limits past unasked part)
   first_turn_first past (in_turns opened opens part) = so_far_first opened past opens part
   first_turn_first past (in_rounds opened turned opens t part) =
-      inr (goes_on lane r turned.past past (turned_first opened turned opens t) (so_far_ends s (length s.lanes) turned past part))
+      inr (goes_on lane r turned.past past (turned_first opened turned opens t)
+      (so_far_ends s (length s.lanes) turned past part))
   first_turn_first past (in_letting_go opened turned ended opens t ends part) =
       inr (goes_on lane r turned.past past (turned_first opened turned opens t)
-      (both turned.past ended.past past (by_ends s (length s.lanes) turned ended ends) (so_far_letting_go s (length s.lanes) ended past part)))
+      (both turned.past ended.past past (by_ends s (length s.lanes) turned ended ends)
+      (so_far_letting_go s (length s.lanes) ended past part)))
   first_turn_first past (in_drains opened turned ended let_go opens t ends goes part) =
       inr (goes_on lane r turned.past past (turned_first opened turned opens t)
       (both turned.past ended.past past (by_ends s (length s.lanes) turned ended ends)
-      (both ended.past let_go.past past (by_letting_go s (length s.lanes) ended let_go goes) (so_far_drains s let_go past part))))
+      (both ended.past let_go.past past (by_letting_go s (length s.lanes) ended let_go goes)
+      (so_far_drains s let_go past part))))
   first_turn_first past (whole run) =
       let at = run.0 in
       let by = run.1.0 in
       inr (goes_on lane r at.turned.past past (turned_first at.opened at.turned by.opens by.turns)
       (both at.turned.past at.ended.past past (by_ends s (length s.lanes) at.turned at.ended by.ends)
       (both at.ended.past at.let_go.past past (by_letting_go s (length s.lanes) at.ended at.let_go by.lets_go)
-      (both at.let_go.past at.drained.past past (by_drains s by.drains.0 at.let_go at.drained by.drains.1) (same at.drained.past past (sym run.1.1))))))
+      (both at.let_go.past at.drained.past past (by_drains s by.drains.0 at.let_go at.drained by.drains.1)
+      (same at.drained.past past (sym run.1.1))))))
 
 -- ---- a row: rounds of the lanes before the schedule's turns
 
@@ -275,8 +299,11 @@ not_first (x ∷ y ∷ more) e f apart is = absurd cc
 -- the schedule steps lane 1, and lane 0 came first
 pub with_early_round : RunSoFar two_lanes (turn.Step 1 ∷ []) (submit 0 0 0 (open_of (codes "a")) ∷ []) → ⊥
 unfolding request_body attributes string uint32
-with_early_round part = by_first (first_turn_first two_lanes 1 [] (open_of (codes "b")) refl refl (submit 0 0 0 (open_of (codes "a")) ∷ []) part)
+with_early_round part = by_first (first_turn_first two_lanes 1 [] (open_of (codes "b")) refl refl
+    (submit 0 0 0 (open_of (codes "a")) ∷ []) part)
   where
-    by_first : ((submit 0 0 0 (open_of (codes "a")) ∷ []) ≡ []) ⊎ BeginsWith 1 (open_of (codes "b")) (submit 0 0 0 (open_of (codes "a")) ∷ []) → ⊥
+    by_first : ((submit 0 0 0 (open_of (codes "a")) ∷ []) ≡ [])
+        ⊎ BeginsWith 1 (open_of (codes "b")) (submit 0 0 0 (open_of (codes "a")) ∷ []) → ⊥
     by_first (inl none) = absurd cc
-    by_first (inr b) = not_first b.1.0 (submit 1 0 b.0 (open_of (codes "b"))) (submit 0 0 0 (open_of (codes "a"))) (λ e. absurd cc) b.1.1
+    by_first (inr b) = not_first b.1.0 (submit 1 0 b.0 (open_of (codes "b"))) (submit 0 0 0 (open_of (codes "a")))
+        (λ e. absurd cc) b.1.1

@@ -1,4 +1,4 @@
--- A call is added to a lane of an open session, and run to its end.
+-- Calls that are added to a lane of an open session, and run to their end.
 use Rattle.std.specs.Prelude.{◌≡◌, ◌⊎◌, ◌<◌, ℕ, true, false, List, [], ◌∷◌, ◌++◌, length, slice_get, slice_set}
 use Rattle.plan_model.specs.declared.call.Call.{Call}
 use Rattle.plan_model.specs.declared.call.Lane.{Lane}
@@ -10,29 +10,30 @@ use Rattle.session_model.specs.Turns.{RunProgress}
 use Rattle.session_driver.specs.declared.session.Phase.TheVariants.{Open}
 use Rattle.session_driver.specs.Ongoing.{EndsLane, Part}
 use Rattle.session_driver.specs.RunsSoFar.{RoundsSoFar}
-use Rattle.session_driver.specs.Session.{Continues, Seen}
+use Rattle.session_driver.specs.Session.{ContinuesJournal, SessionView}
 
--- the call is the last of its lane
+-- The lanes after the call was added as the last of its lane.
 abbrev pub with_call : List Lane → ℕ → Call → List Lane
 with_call lanes lane call = slice_set lanes lane (record { calls = calls_of (slice_get lanes lane) ++ call ∷ [] })
 
--- a call may be added: the session is open, the lane is there and was not let go, and the lanes are ok with the call
-pub record MayAdd (lane : ℕ) (call : Call) (seen : Seen) (calls : List Lane) : Type 0 where
+-- A call may be added: the session is open, the lane exists and was not released, and the lanes are valid with the
+-- call.
+pub record MayAdd (lane : ℕ) (call : Call) (seen : SessionView) (calls : List Lane) : Type 0 where
   pub opened : seen.phase ≡ Open
   pub there : lane < length calls
   pub held : was_let_go seen.progress.past lane ≡ false
   pub ok : are_ok (with_call calls lane call) ≡ true
 
--- the call's entry is the newest of the journal
+-- The call's entry is the newest of the journal.
 abbrev pub added_to : RunProgress → ℕ → Call → RunProgress
 added_to before lane call = record { past = entry.Added lane call ∷ before.past; begun = before.begun }
 
--- the call was added, and nothing else has changed
-pub record AddsTo (lane : ℕ) (call : Call) (before now : Seen) : Type 0 where
-  pub goes : Continues before now
+-- The call was added, and nothing else has changed.
+pub record AddsTo (lane : ℕ) (call : Call) (before now : SessionView) : Type 0 where
+  pub goes : ContinuesJournal before now
   pub is : now.progress ≡ added_to before.progress lane call
 
--- a call is added to a lane, and then come rounds of the lane until it has no call left
+-- A call is added to a lane, followed by rounds of the lane until it has no call left.
 abbrev pub call_of : ℕ → Call → Part
 call_of lane call =
     record {

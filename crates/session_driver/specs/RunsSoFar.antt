@@ -1,4 +1,4 @@
--- Runs so far: the parts that are whole, and what there is of the next one.
+-- Runs so far: the parts that are whole, and a part of the next one.
 use Rattle.std.specs.Prelude.{◌≡◌, ◌≢◌, ◌⊎◌, ◌<◌, ℕ, Bool, true, false, List, [], ◌∷◌, length, None}
 use Rattle.sftp_model.specs.declared.request.Request.TheVariants as request
 use Rattle.session_model.specs.declared.turn.Turn.{Turn}
@@ -7,7 +7,7 @@ use Rattle.session_model.specs.declared.event.Owner.TheVariants as owner
 use Rattle.session_model.specs.declared.event.Event.TheVariants.{Submit}
 use Rattle.session_model.specs.declared.entry.Entry.{Entry}
 use Rattle.session_model.specs.declared.entry.Entry.TheVariants as entry
-use Rattle.session_model.specs.Readings.{unanswered}
+use Rattle.session_model.specs.Readings.{count_unanswered}
 use Rattle.session_model.specs.Calls.{Setting, current, move_of}
 use Rattle.session_model.specs.Journals.{IsFree}
 use Rattle.session_model.specs.Turns.{RunProgress, TurnTo, MovesBy, FlushesBy, TakesBy, CancelsBy, SettlesTo}
@@ -20,34 +20,34 @@ use Rattle.session_model.specs.Runs.{
   OpensSession,
   IsRun,
   at_first,
-  queried,
+  limits_query_sent,
   round_of,
 }
 
--- one turn, where `Follows` says what follows its event
+-- One turn; `Follows` is the relation of what follows its event.
 abbrev pub TurnBy : (List Entry → List Entry → Type 0) → Setting → Turn → RunProgress → RunProgress → Type 0
 TurnBy Follows s (turn.Step lane) before now = MovesBy Follows lane before now (move_of s before.past lane)
 TurnBy Follows s turn.Flush before now = FlushesBy Follows before now
 TurnBy Follows s turn.Take before now = TakesBy Follows before now
 TurnBy Follows s (turn.Cancel lane) before now = CancelsBy Follows s lane before now
 
--- the event of a turn and the CLOSEs that are due then, and not the Send that may follow
+-- The event of a turn and the CLOSEs that are due then, without the Send that may follow.
 pub record HalfTurn (s : Setting) (t : Turn) (before : RunProgress) (past : List Entry) : Type 0 where
   pub now : RunProgress
   pub event : TurnBy (SettlesTo s) s t before now
   pub is : now.past ≡ past
 
--- of a turn there is nothing, or all but the Send that may follow its event
+-- Nothing of a turn was done, or all of it except the Send that may follow its event.
 abbrev pub TurnSoFar : Setting → Turn → RunProgress → List Entry → Type 0
 TurnSoFar s t before past = (past ≡ before.past) ⊎ HalfTurn s t before past
 
--- some of the turns are whole, and of the next there is a part
+-- Some of the turns are whole, and of the next there is a part.
 abbrev pub TurnsSoFar : Setting → List Turn → RunProgress → List Entry → Type 0
 TurnsSoFar s [] before past = past ≡ before.past
 TurnsSoFar s (t ∷ turns) before past = TurnSoFar s t before past
     ⊎ ((mid : RunProgress) × (TurnTo s t before mid × TurnsSoFar s turns mid past))
 
--- some rounds of a lane are whole, it has a call left, and of the next round there is a part
+-- Some rounds of a lane are whole, it has a call left, and of the next round there is a part.
 pub record RoundsSoFar (s : Setting) (lane : ℕ) (before : RunProgress) (past : List Entry) : Type 0 where
   pub rounds : ℕ
   pub mid : RunProgress
@@ -55,7 +55,7 @@ pub record RoundsSoFar (s : Setting) (lane : ℕ) (before : RunProgress) (past :
   pub left : current s mid.past lane ≢ None
   pub part : TurnsSoFar s (round_of lane) mid past
 
--- some of the first lanes have no call left, and of the next one's rounds there is a part
+-- Some of the first lanes have no call left, and of the next one's rounds there is a part.
 pub record EndsSoFar (s : Setting) (lanes : ℕ) (before : RunProgress) (past : List Entry) : Type 0 where
   pub lane : ℕ
   pub mid : RunProgress
@@ -63,11 +63,11 @@ pub record EndsSoFar (s : Setting) (lanes : ℕ) (before : RunProgress) (past : 
   pub whole : EndsTo s lane before mid
   pub part : RoundsSoFar s lane mid past
 
--- a lane isn't let go, or it is and the CLOSEs are there that are due then
+-- A lane isn't released, or it is and the CLOSEs that are due then have come.
 abbrev pub LetGoSoFar : Setting → ℕ → RunProgress → List Entry → Type 0
 LetGoSoFar s lane before past = (past ≡ before.past) ⊎ SettlesTo s (entry.LetGo lane ∷ before.past) past
 
--- some of the first lanes were let go, and of the next one's letting go there is a part
+-- Some of the first lanes were released, and of the next one's release there is a part.
 pub record LetsGoSoFar (s : Setting) (lanes : ℕ) (before : RunProgress) (past : List Entry) : Type 0 where
   pub lane : ℕ
   pub mid : RunProgress
@@ -75,26 +75,26 @@ pub record LetsGoSoFar (s : Setting) (lanes : ℕ) (before : RunProgress) (past 
   pub whole : LetsGoTo s lane before mid
   pub part : LetGoSoFar s lane mid past
 
--- a flush and a take
+-- A flush and a take.
 abbrev pub drain_of : List Turn
 drain_of = turn.Flush ∷ turn.Take ∷ []
 
--- some drains are whole, something is unanswered, and of the next drain there is a part
+-- Some drains are whole, something is unanswered, and of the next drain there is a part.
 pub record DrainsSoFar (s : Setting) (before : RunProgress) (past : List Entry) : Type 0 where
   pub drains : ℕ
   pub mid : RunProgress
   pub whole : DrainsTo s drains before mid
-  pub left : 0 < unanswered mid.past
+  pub left : 0 < count_unanswered mid.past
   pub part : TurnsSoFar s drain_of mid past
 
--- nothing has happened, or the query for limits was submitted, or it was sent
+-- Nothing has happened, or the query for limits was submitted, or it was sent.
 abbrev pub OpensSoFar : Bool → List Entry → Type 0
 OpensSoFar false past = past ≡ []
 OpensSoFar true past =
     (past ≡ []) ⊎ ((id : ℕ) × (IsFree [] id × ((past ≡ entry.Event (Submit owner.Setup id request.LimitsQuery) ∷ [])
-    ⊎ (past ≡ queried id))))
+    ⊎ (past ≡ limits_query_sent id))))
 
--- the journal of a run of the lanes under these turns, as far as it has come
+-- The journal of a run of the lanes under these turns, as far as it has come.
 pub data RunSoFar (s : Setting) (schedule : List Turn) (past : List Entry) : Type 0 where
   in_opening : OpensSoFar s.limits past → RunSoFar s schedule past
   in_turns : (opened : List Entry) → OpensSession s.limits opened → TurnsSoFar s schedule (at_first opened) past

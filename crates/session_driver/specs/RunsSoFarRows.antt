@@ -1,4 +1,4 @@
--- Worked runs so far, and one that nearly is one.
+-- Worked runs so far, and a near miss.
 use Rattle.std.specs.Prelude.{◌≡◌, ℕ, zero, suc, List, [], ◌∷◌, codes, refl}
 use Rattle.std.proofs.Common.{◌∙◌, ap, arith, inl, inr}
 use Rattle.ssh_encoding.specs.Writing.{uint32, string}
@@ -8,16 +8,16 @@ use Rattle.session_model.specs.declared.entry.Entry.{Entry}
 use Rattle.session_model.specs.declared.entry.Entry.TheVariants as entry
 use Rattle.session_model.specs.declared.turn.Turn.TheVariants as turn
 use Rattle.session_model.specs.Calls.{Setting}
-use Rattle.session_model.specs.Readings.{unanswered}
+use Rattle.session_model.specs.Readings.{count_unanswered}
 use Rattle.session_model.specs.Turns.{RunProgress, begun_with}
 use Rattle.session_model.specs.Runs.{DrainsTo, at_first}
 use Rattle.session_model.specs.RowWords.{setting_with, submit, send, open_of}
 use Rattle.session_model.specs.LaneRows.{opens}
 use Rattle.session_driver.specs.RunsSoFar.{RunSoFar, in_opening, in_turns, in_rounds, in_letting_go, in_drains, whole}
 
--- ---- a run that is cut within a turn
+-- ---- A run that is cut within a turn
 
--- one lane opens a file, and no request may stay unsent
+-- One lane opens a file, and no request may stay unsent.
 abbrev pub hasty : Setting
 hasty = record opens { max_pending = 0 }
 
@@ -27,7 +27,7 @@ submitted = submit 0 0 0 (open_of (codes "a")) ∷ []
 abbrev pub stepped : List Entry → RunProgress
 stepped past = record { past = past; begun = begun_with (at_first []).begun 0 }
 
--- the request was submitted, and the Send that follows has not come
+-- The request was submitted, and the Send that follows has not come.
 pub cut_in_turn : RunSoFar hasty (turn.Step 0 ∷ []) submitted
 unfolding request_body attributes string uint32
 cut_in_turn = in_turns [] refl (inl (inr (record {
@@ -37,7 +37,7 @@ cut_in_turn = in_turns [] refl (inl (inr (record {
   is = refl;
 })))
 
--- it has come: the turn is whole
+-- The Send has come: the turn is whole.
 pub cut_after_turn : RunSoFar hasty (turn.Step 0 ∷ []) (send ∷ submitted)
 unfolding request_body attributes string uint32
 cut_after_turn = in_turns [] refl (inr (
@@ -45,13 +45,14 @@ cut_after_turn = in_turns [] refl (inr (
   ((refl, (0, ((omega arith, refl), (submitted, ((inl refl, refl), refl))))), refl),
 ))
 
--- ---- no call is added in a run
+-- ---- No call is added in a run
 
 drained_none : (s : Setting) (n : ℕ) (before now : RunProgress) → before.past ≡ [] → DrainsTo s n before now → now.past
     ≡ []
 drained_none s zero before now none drains = ap (λ (w : RunProgress). w.past) drains ∙ none
-drained_none s (suc n) before now none drains = absurd (let some = drains.0 in let zero : unanswered before.past ≡ 0 =
-    ap unanswered none in omega (arith, some, zero))
+drained_none s (suc n) before now none drains = absurd (let some = drains.0 in let zero : count_unanswered before.past
+    ≡ 0 =
+    ap count_unanswered none in omega (arith, some, zero))
 
 pub with_added : (c : Call) → RunSoFar (setting_with []) [] (entry.Added 0 c ∷ []) → ⊥
 with_added c (in_opening past) = absurd cc
@@ -61,7 +62,8 @@ with_added c (in_letting_go opened turned ended opens turns ends part) =
     (let there = part.there in absurd (omega (arith, there)))
 with_added c (in_drains opened turned ended let_go opens turns ends goes part) =
     let none : let_go.past ≡ [] = ap (λ (w : RunProgress). w.past) (goes ∙ ends ∙ turns) ∙ opens in
-    let zero : unanswered part.mid.past ≡ 0 = ap unanswered (drained_none (setting_with []) part.drains let_go part.mid
+    let zero : count_unanswered part.mid.past ≡ 0 = ap count_unanswered
+    (drained_none (setting_with []) part.drains let_go part.mid
     none part.whole) in
     let some = part.left in
     absurd (omega (arith, some, zero))

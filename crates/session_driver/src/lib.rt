@@ -1,4 +1,4 @@
-//! Runs the lanes of an SFTP session over a link.
+//! A driver that runs the lanes of an SFTP session over a link.
 #![tactic(auto)]
 
 mod calls;

@@ -1,6 +1,7 @@
+//! Sessions without lanes.
 ghost use Rattle.std.specs.Prelude.{◌≡◌, ◌∷◌, [], IfOk, None, Some};
 ghost use Rattle.sftp_model.specs.Lengths.{offers_limits as offers};
-ghost use Rattle.session_driver.specs.NoLanes.{untouched, offered, asked_past};
+ghost use Rattle.session_driver.specs.NoLanes.{fresh_session, offered_extensions, asked_past};
 
 use crate::session::{Phase, RunsLanes, Stepped};
 use bitflags::Flags;
@@ -11,8 +12,10 @@ use ssh_encoding::OutOfMemory;
 use std::alloc::Global;
 use std::marker::Model;
 
-/// A session without lanes: it opens, and there is nothing to do then. It tells whether a server speaks version 3 of the
+/// A session without lanes: it opens, and then has nothing to do. It shows whether a server speaks version 3 of the
 /// protocol and what it offers.
+///
+/// Example: `crates/test_session/src/served.rt`.
 #[derive(Drop)]
 pub struct NoLanes {
     alloc: Global,
@@ -25,9 +28,9 @@ pub struct NoLanes {
 
 impl Model for NoLanes {
     ghost use Rattle.std.specs.Prelude.{reverse};
-    ghost use Rattle.session_driver.specs.NoLanes.{Bare, IsBare};
+    ghost use Rattle.session_driver.specs.NoLanes.{SessionWithoutLanes, IsBare};
 
-    ghost Value = { Bare };
+    ghost Value = { SessionWithoutLanes };
 
     ghost view = { λ s. record { options = s.options; phase = s.phase; version = s.version; past = reverse s.journal.items } };
 
@@ -35,9 +38,13 @@ impl Model for NoLanes {
 }
 
 impl NoLanes {
-    /// A session whose hello stands in the queue. Refused for want of memory.
+    /// Returns a session with its hello in the queue.
+    ///
+    /// # Errors
+    ///
+    /// `OutOfMemory` if an allocation fails.
     pub fn new(alloc: Global, options: &SftpOptions) -> Result<NoLanes, OutOfMemory>
-        ensures { IfOk result (λ session. session ≡ untouched options.now) }
+        ensures { IfOk result (λ session. session ≡ fresh_session options.now) }
     {
         Ok(NoLanes {
             alloc,
@@ -50,9 +57,9 @@ impl NoLanes {
     }
 }
 
-/// Whether a VERSION offers the query for limits.
+/// Returns true if a VERSION offers the query for limits.
 fn offers_limits(reply: &Reply) -> bool
-    ensures { result ≡ offers (offered (Some reply.now)) }
+    ensures { result ≡ offers (offered_extensions (Some reply.now)) }
 {
     match reply {
         Reply::Version { extensions, .. } => extensions.contains(Extensions::LIMITS),
@@ -60,7 +67,7 @@ fn offers_limits(reply: &Reply) -> bool
     }
 }
 
-/// The query for limits was submitted.
+/// Returns the entry of the query for limits.
 fn query_entry() -> Entry
     ensures { result ∷ [] ≡ asked_past }
 {

@@ -1,26 +1,26 @@
-// The opening of a session: the hello and VERSION, and the limits where the server offers to tell them.
+//! The opening of a session: the hello and VERSION, and the limits if the server offers to report them.
 ghost use Rattle.std.specs.Prelude.{◌<◌, ◌^◌, ◌-◌, true, IfErr, OnOk, IfOk};
-ghost use Rattle.sftp_link.specs.Told.{Told};
+ghost use Rattle.sftp_link.specs.Told.{IfLogged};
 ghost use Rattle.session_driver.specs.Session.{IsFresh, IsOpened, IsWelcomed, OpensOn};
-ghost use Rattle.session_exchange.specs.Causes.{Caused};
-ghost use Rattle.session_driver.specs.Logs.{KeepsTrace, Showing};
-ghost use Rattle.session_driver.specs.Ongoing.{HasStopped, MayAsk, StoppedAs, StoppedAtHello, at};
+ghost use Rattle.link_frames.specs.Causes.{IsCausedByLink};
+ghost use Rattle.session_driver.specs.Logs.{KeepsTrace, ShowsJournal};
+ghost use Rattle.session_driver.specs.Ongoing.{HasStopped, MayAsk, StoppedAs, StoppedAtHello, run_state};
 ghost use Rattle.session_driver.specs.RunsSoFar.{OpensSoFar};
 
 use crate::session::RunsLanes;
-use session_exchange::{read_frame, refused, send_pieces};
+use link_frames::{read_frame, refused, send_pieces};
 use sftp_link::Link;
 use sftp_model::Error;
 use std::alloc::Global;
 
-/// Sends the hello and takes VERSION; answers whether the limits are to be asked for.
+/// Sends the hello and takes VERSION. Returns true if the limits are to be asked for.
 fn greet<X: RunsLanes, L: Link>(alloc: Global, session: &mut X, link: &mut L) -> Result<bool, Error>
     requires fresh { IsFresh (X.seen session.old) }
     requires count { (L.LinkState.state link.old).faults < 2 ^ 64 - 1 }
     ensures welcomed { IfOk result (λ asks. IsWelcomed (X.seen session.old).given asks (X.seen session.new)) }
-    ensures log { OnOk result (Told (Showing (X.seen session.new).version (X.seen session.new).progress.past) (L.LinkState.state link.old).log (L.LinkState.state link.new).log) }
-    ensures stops { IfErr result (StoppedAtHello (at (X.seen session.old) (L.LinkState.state link.old)) (at (X.seen session.new) (L.LinkState.state link.new))) }
-    ensures caused { Caused (L.LinkState.state link.old) (L.LinkState.state link.new) result }
+    ensures log { OnOk result (IfLogged (ShowsJournal (X.seen session.new).version (X.seen session.new).progress.past) (L.LinkState.state link.old).log (L.LinkState.state link.new).log) }
+    ensures stops { IfErr result (StoppedAtHello (run_state (X.seen session.old) (L.LinkState.state link.old)) (run_state (X.seen session.new) (L.LinkState.state link.new))) }
+    ensures caused { IsCausedByLink (L.LinkState.state link.old) (L.LinkState.state link.new) result }
 {
     let chunk = match session.greet() {
         Ok(chunk) => chunk,
@@ -47,9 +47,9 @@ fn ask_limits<X: RunsLanes, L: Link>(
     requires welcomed { IsWelcomed (X.seen session.old).given true (X.seen session.old) }
     requires count { (L.LinkState.state link.old).faults < 2 ^ 64 - 1 }
     ensures opens { OnOk result (OpensOn (X.seen session.old) (X.seen session.new)) }
-    ensures log { OnOk result (Told (KeepsTrace (X.seen session.old).progress.past (X.seen session.new).progress.past) (L.LinkState.state link.old).log (L.LinkState.state link.new).log) }
-    ensures stops { IfErr result (StoppedAs (MayAsk (X.seen session.old)) (at (X.seen session.old) (L.LinkState.state link.old)) (at (X.seen session.new) (L.LinkState.state link.new))) }
-    ensures caused { Caused (L.LinkState.state link.old) (L.LinkState.state link.new) result }
+    ensures log { OnOk result (IfLogged (KeepsTrace (X.seen session.old).progress.past (X.seen session.new).progress.past) (L.LinkState.state link.old).log (L.LinkState.state link.new).log) }
+    ensures stops { IfErr result (StoppedAs (MayAsk (X.seen session.old)) (run_state (X.seen session.old) (L.LinkState.state link.old)) (run_state (X.seen session.new) (L.LinkState.state link.new))) }
+    ensures caused { IsCausedByLink (L.LinkState.state link.old) (L.LinkState.state link.new) result }
 {
     let chunk = match session.query() {
         Ok(chunk) => chunk,
@@ -67,7 +67,11 @@ fn ask_limits<X: RunsLanes, L: Link>(
     }
 }
 
-/// Opens a session: the hello and VERSION, and the limits where the server offers to tell them.
+/// Opens a session: the hello and VERSION, and the limits if the server offers to report them.
+///
+/// # Errors
+///
+/// `OutOfMemory` if an allocation fails, or the error of the link or of a frame that stopped the opening.
 pub fn open<X: RunsLanes, L: Link>(
     alloc: Global,
     session: &mut X,
@@ -76,9 +80,9 @@ pub fn open<X: RunsLanes, L: Link>(
     requires fresh { IsFresh (X.seen session.old) }
     requires count { (L.LinkState.state link.old).faults < 2 ^ 64 - 1 }
     ensures opened { OnOk result (IsOpened (X.seen session.old).given (X.seen session.new)) }
-    ensures log { OnOk result (Told (Showing (X.seen session.new).version (X.seen session.new).progress.past) (L.LinkState.state link.old).log (L.LinkState.state link.new).log) }
-    ensures stops { IfErr result (HasStopped (λ s. OpensSoFar s.limits) (at (X.seen session.old) (L.LinkState.state link.old)) (at (X.seen session.new) (L.LinkState.state link.new))) }
-    ensures caused { Caused (L.LinkState.state link.old) (L.LinkState.state link.new) result }
+    ensures log { OnOk result (IfLogged (ShowsJournal (X.seen session.new).version (X.seen session.new).progress.past) (L.LinkState.state link.old).log (L.LinkState.state link.new).log) }
+    ensures stops { IfErr result (HasStopped (λ s. OpensSoFar s.limits) (run_state (X.seen session.old) (L.LinkState.state link.old)) (run_state (X.seen session.new) (L.LinkState.state link.new))) }
+    ensures caused { IsCausedByLink (L.LinkState.state link.old) (L.LinkState.state link.new) result }
 {
     match greet(alloc, session, link)? {
         true => ask_limits(alloc, session, link),

@@ -1,10 +1,10 @@
-// The parts of a run, each a loop of turns.
+//! Parts of a run, each a loop of turns.
 ghost use Rattle.std.specs.Prelude.{◌≡◌, ◌≢◌, ◌<◌, ℕ, length, false, None, OnOk};
 ghost use Rattle.session_model.specs.Calls.{current};
-ghost use Rattle.session_model.specs.Readings.{unanswered, was_let_go};
+ghost use Rattle.session_model.specs.Readings.{count_unanswered, was_let_go};
 ghost use Rattle.session_model.specs.Runs.{round_of};
 ghost use Rattle.session_driver.specs.RunsSoFar.{drain_of};
-ghost use Rattle.session_driver.specs.Ongoing.{Ongoing, IsReady, at, turns_of, lane_of, lanes_end, let_go_of, lanes_go, draining};
+ghost use Rattle.session_driver.specs.Ongoing.{RunsPart, IsReady, run_state, turns_of, lane_of, lanes_end, let_go_of, lanes_go, drain_part};
 
 use crate::session::RunsLanes;
 use crate::turns::{flush_turn, one_turn, settle, step_turn, take_turn};
@@ -13,15 +13,15 @@ use sftp_link::Link;
 use sftp_model::Error;
 use std::alloc::Global;
 
-/// The turns of a schedule, in order.
+/// Makes the turns of a schedule, in order.
 pub(crate) fn run_turns<X: RunsLanes, L: Link>(
     alloc: Global,
     session: &mut X,
     link: &mut L,
     schedule: &[Turn],
 ) -> Result<(), Error>
-    requires ready { IsReady (at (X.seen session.old) (L.LinkState.state link.old)) }
-    ensures ongoing { Ongoing (turns_of schedule.now) (at (X.seen session.old) (L.LinkState.state link.old)) (at (X.seen session.new) (L.LinkState.state link.new)) result }
+    requires ready { IsReady (run_state (X.seen session.old) (L.LinkState.state link.old)) }
+    ensures ongoing { RunsPart (turns_of schedule.now) (run_state (X.seen session.old) (L.LinkState.state link.old)) (run_state (X.seen session.new) (L.LinkState.state link.new)) result }
 {
     for turn in schedule {
         one_turn(alloc, session, link, *turn)?;
@@ -29,15 +29,15 @@ pub(crate) fn run_turns<X: RunsLanes, L: Link>(
     Ok(())
 }
 
-/// A round of a lane: a step, a flush and a take. Where the lane has a call left, less is left to do then.
+/// Does a round of a lane: a step, a flush and a take. If the lane has a call left, less work is left then.
 fn one_round<X: RunsLanes, L: Link>(
     alloc: Global,
     session: &mut X,
     link: &mut L,
     lane: u32,
 ) -> Result<(), Error>
-    requires ready { IsReady (at (X.seen session.old) (L.LinkState.state link.old)) }
-    ensures ongoing { Ongoing (turns_of (round_of lane)) (at (X.seen session.old) (L.LinkState.state link.old)) (at (X.seen session.new) (L.LinkState.state link.new)) result }
+    requires ready { IsReady (run_state (X.seen session.old) (L.LinkState.state link.old)) }
+    ensures ongoing { RunsPart (turns_of (round_of lane)) (run_state (X.seen session.old) (L.LinkState.state link.old)) (run_state (X.seen session.new) (L.LinkState.state link.new)) result }
     ensures less { OnOk result (current (X.seen session.old).setting (X.seen session.old).progress.past lane ≢ None → (X.seen session.new).work < (X.seen session.old).work) }
 {
     step_turn(session, link, lane)?;
@@ -45,15 +45,15 @@ fn one_round<X: RunsLanes, L: Link>(
     take_turn(alloc, session, link)
 }
 
-/// Rounds until a lane has no call left.
+/// Does rounds until a lane has no call left.
 pub(crate) fn end_lane<X: RunsLanes, L: Link>(
     alloc: Global,
     session: &mut X,
     link: &mut L,
     lane: u32,
 ) -> Result<(), Error>
-    requires ready { IsReady (at (X.seen session.old) (L.LinkState.state link.old)) }
-    ensures ongoing { Ongoing (lane_of lane) (at (X.seen session.old) (L.LinkState.state link.old)) (at (X.seen session.new) (L.LinkState.state link.new)) result }
+    requires ready { IsReady (run_state (X.seen session.old) (L.LinkState.state link.old)) }
+    ensures ongoing { RunsPart (lane_of lane) (run_state (X.seen session.old) (L.LinkState.state link.old)) (run_state (X.seen session.new) (L.LinkState.state link.new)) result }
 {
     while !session.is_done(lane) {
         one_round(alloc, session, link, lane)?;
@@ -61,14 +61,14 @@ pub(crate) fn end_lane<X: RunsLanes, L: Link>(
     Ok(())
 }
 
-/// Rounds of each lane in order, until none has a call left.
+/// Does rounds of each lane in order, until none has a call left.
 pub(crate) fn end_lanes<X: RunsLanes, L: Link>(
     alloc: Global,
     session: &mut X,
     link: &mut L,
 ) -> Result<(), Error>
-    requires ready { IsReady (at (X.seen session.old) (L.LinkState.state link.old)) }
-    ensures ongoing { Ongoing lanes_end (at (X.seen session.old) (L.LinkState.state link.old)) (at (X.seen session.new) (L.LinkState.state link.new)) result }
+    requires ready { IsReady (run_state (X.seen session.old) (L.LinkState.state link.old)) }
+    ensures ongoing { RunsPart lanes_end (run_state (X.seen session.old) (L.LinkState.state link.old)) (run_state (X.seen session.new) (L.LinkState.state link.new)) result }
 {
     for lane in 0..session.lane_count() {
         end_lane(alloc, session, link, lane)?;
@@ -76,13 +76,13 @@ pub(crate) fn end_lanes<X: RunsLanes, L: Link>(
     Ok(())
 }
 
-/// Lets go of one lane.
+/// Releases one lane.
 fn let_go_one<X: RunsLanes, L: Link>(session: &mut X, link: &mut L, lane: u32) -> Result<(), Error>
-    requires ready { IsReady (at (X.seen session.old) (L.LinkState.state link.old)) }
+    requires ready { IsReady (run_state (X.seen session.old) (L.LinkState.state link.old)) }
     requires there { lane < length (X.seen session.old).setting.lanes }
     requires done { current (X.seen session.old).setting (X.seen session.old).progress.past lane ≡ None }
     requires holds { was_let_go (X.seen session.old).progress.past lane ≡ false }
-    ensures ongoing { Ongoing (let_go_of lane) (at (X.seen session.old) (L.LinkState.state link.old)) (at (X.seen session.new) (L.LinkState.state link.new)) result }
+    ensures ongoing { RunsPart (let_go_of lane) (run_state (X.seen session.old) (L.LinkState.state link.old)) (run_state (X.seen session.new) (L.LinkState.state link.new)) result }
 {
     match session.let_go(lane) {
         Ok(()) => settle(session, link),
@@ -90,12 +90,16 @@ fn let_go_one<X: RunsLanes, L: Link>(session: &mut X, link: &mut L, lane: u32) -
     }
 }
 
-/// Lets go of each lane in order.
+/// Releases each lane in order.
+///
+/// # Errors
+///
+/// `OutOfMemory` if an allocation fails, or the error of the link that stopped a send.
 pub fn let_go_lanes<X: RunsLanes, L: Link>(session: &mut X, link: &mut L) -> Result<(), Error>
-    requires ready { IsReady (at (X.seen session.old) (L.LinkState.state link.old)) }
+    requires ready { IsReady (run_state (X.seen session.old) (L.LinkState.state link.old)) }
     requires done { (lane : ℕ) → lane < length (X.seen session.old).setting.lanes → current (X.seen session.old).setting (X.seen session.old).progress.past lane ≡ None }
     requires holds { (lane : ℕ) → was_let_go (X.seen session.old).progress.past lane ≡ false }
-    ensures ongoing { Ongoing lanes_go (at (X.seen session.old) (L.LinkState.state link.old)) (at (X.seen session.new) (L.LinkState.state link.new)) result }
+    ensures ongoing { RunsPart lanes_go (run_state (X.seen session.old) (L.LinkState.state link.old)) (run_state (X.seen session.new) (L.LinkState.state link.new)) result }
 {
     for lane in 0..session.lane_count() {
         let_go_one(session, link, lane)?;
@@ -103,28 +107,32 @@ pub fn let_go_lanes<X: RunsLanes, L: Link>(session: &mut X, link: &mut L) -> Res
     Ok(())
 }
 
-/// A flush and a take. Where something is unanswered, less is left to do then.
+/// Does a flush and a take. If something is unanswered, less work is left then.
 fn one_drain<X: RunsLanes, L: Link>(
     alloc: Global,
     session: &mut X,
     link: &mut L,
 ) -> Result<(), Error>
-    requires ready { IsReady (at (X.seen session.old) (L.LinkState.state link.old)) }
-    ensures ongoing { Ongoing (turns_of drain_of) (at (X.seen session.old) (L.LinkState.state link.old)) (at (X.seen session.new) (L.LinkState.state link.new)) result }
-    ensures less { OnOk result (0 < unanswered (X.seen session.old).progress.past → (X.seen session.new).work < (X.seen session.old).work) }
+    requires ready { IsReady (run_state (X.seen session.old) (L.LinkState.state link.old)) }
+    ensures ongoing { RunsPart (turns_of drain_of) (run_state (X.seen session.old) (L.LinkState.state link.old)) (run_state (X.seen session.new) (L.LinkState.state link.new)) result }
+    ensures less { OnOk result (0 < count_unanswered (X.seen session.old).progress.past → (X.seen session.new).work < (X.seen session.old).work) }
 {
     flush_turn(session, link)?;
     take_turn(alloc, session, link)
 }
 
-/// The last replies: flushes and takes until nothing is unanswered.
+/// Takes the last replies: flushes and takes until nothing is unanswered.
+///
+/// # Errors
+///
+/// `OutOfMemory` if an allocation fails, or the error of the link or of a frame that stopped it.
 pub fn drain<X: RunsLanes, L: Link>(
     alloc: Global,
     session: &mut X,
     link: &mut L,
 ) -> Result<(), Error>
-    requires ready { IsReady (at (X.seen session.old) (L.LinkState.state link.old)) }
-    ensures ongoing { Ongoing draining (at (X.seen session.old) (L.LinkState.state link.old)) (at (X.seen session.new) (L.LinkState.state link.new)) result }
+    requires ready { IsReady (run_state (X.seen session.old) (L.LinkState.state link.old)) }
+    ensures ongoing { RunsPart drain_part (run_state (X.seen session.old) (L.LinkState.state link.old)) (run_state (X.seen session.new) (L.LinkState.state link.new)) result }
 {
     while session.unanswered() > 0 {
         one_drain(alloc, session, link)?;

@@ -15,13 +15,16 @@ bare_at zero k = refl
 bare_at (suc n) zero = refl
 bare_at (suc n) (suc k) = bare_at n k
 
-pub bare_within : (facts : Facts) (directory : List ℕ) → AreWithin facts (record { slots = fresh_site.slots; directory = directory })
+pub bare_within : (facts : Facts) (directory : List ℕ) → AreWithin facts
+    (record { slots = fresh_site.slots; directory = directory })
 bare_within facts directory k = subst (λ (x : Slot). IsWithin facts x) (sym (bare_at 16 k)) tt
 
 -- it awaits nothing
-pub bare_pends : (directory tickets : List ℕ) (q : ℕ) → pends q None (record { slots = fresh_site.slots; directory = directory }) ≤ tickets_for tickets q
+pub bare_pends : (directory tickets : List ℕ) (q : ℕ) → pends q None
+    (record { slots = fresh_site.slots; directory = directory }) ≤ tickets_for tickets q
 bare_pends directory tickets q = by_test (is_in q tickets)
   where
-    by_test : (b : Bool) → pends q None (record { slots = fresh_site.slots; directory = directory }) ≤ (if b then 1 else 0)
+    by_test : (b : Bool) → pends q None (record { slots = fresh_site.slots; directory = directory }) ≤
+        (if b then 1 else 0)
     by_test true = omega arith
     by_test false = omega arith

@@ -2,11 +2,11 @@
 use Rattle.std.proofs.Common.{◌≡◌, ℕ, Bool, List, [], ◌∷◌, ◌++◌, refl, ap, sym, ◌∙◌}
 use Rattle.sftp_model.specs.declared.request.Request.{Request}
 use Rattle.sftp_core.specs.declared.id_record.IdRecord.{IdRecord}
-use Rattle.sftp_core.specs.Core.{Core, handed_out, queued_last, with_record, without as removed}
+use Rattle.sftp_core.specs.Core.{Core, handed_out, queued_last, with_record, without_record as removed}
 use Rattle.session_model.specs.declared.event.Owner.{Owner}
 use Rattle.session_model.specs.declared.event.Event.TheVariants.{Send, Submit}
 use Rattle.session_model.specs.declared.entry.Entry.{Entry}
-use Rattle.session_model.specs.Readings.{unsent}
+use Rattle.session_model.specs.Readings.{unsent_requests}
 use Rattle.session_model.specs.Calls.{Setting}
 use Rattle.session_laws.specs.Lanes.{CoreTied}
 use Rattle.session_model.specs.declared.entry.Entry.TheVariants as entry
@@ -26,11 +26,20 @@ core_queued s past core by id r wanted c =
     }
 
 -- what is queued is sent
-pub core_sent : (s : Setting) (past : List Entry) (core : Core) → CoreTied s past core → CoreTied s (entry.Event Send ∷ past) (handed_out core)
-core_sent s past core c = record { info = c.info; phase = c.phase; read_len = c.read_len; unfailed = c.unfailed; greeted = refl; queue = refl }
+pub core_sent : (s : Setting) (past : List Entry) (core : Core) → CoreTied s past core
+    → CoreTied s (entry.Event Send ∷ past) (handed_out core)
+core_sent s past core c = record {
+  info = c.info;
+  phase = c.phase;
+  read_len = c.read_len;
+  unfailed = c.unfailed;
+  greeted = refl;
+  queue = refl;
+}
 
 -- nothing is queued or sent, and another place stands under an id, or none
-pub core_on : (s : Setting) (past now : List Entry) (core : Core) → unsent now ≡ unsent past → CoreTied s past core → CoreTied s now core
+pub core_on : (s : Setting) (past now : List Entry) (core : Core) → unsent_requests now ≡ unsent_requests past
+    → CoreTied s past core → CoreTied s now core
 core_on s past now core same c = record {
   info = c.info;
   phase = c.phase;
@@ -40,8 +49,24 @@ core_on s past now core same c = record {
   queue = c.queue ∙ sym same;
 }
 
-pub core_placed : (s : Setting) (past : List Entry) (core : Core) (id : ℕ) (p : IdRecord) → CoreTied s past core → CoreTied s past (with_record core id p)
-core_placed s past core id p c = record { info = c.info; phase = c.phase; read_len = c.read_len; unfailed = c.unfailed; greeted = c.greeted; queue = c.queue }
+pub core_placed : (s : Setting) (past : List Entry) (core : Core) (id : ℕ) (p : IdRecord) → CoreTied s past core
+    → CoreTied s past (with_record core id p)
+core_placed s past core id p c = record {
+  info = c.info;
+  phase = c.phase;
+  read_len = c.read_len;
+  unfailed = c.unfailed;
+  greeted = c.greeted;
+  queue = c.queue;
+}
 
-pub core_removed : (s : Setting) (past : List Entry) (core : Core) (id : ℕ) → CoreTied s past core → CoreTied s past (removed core id)
-core_removed s past core id c = record { info = c.info; phase = c.phase; read_len = c.read_len; unfailed = c.unfailed; greeted = c.greeted; queue = c.queue }
+pub core_removed : (s : Setting) (past : List Entry) (core : Core) (id : ℕ) → CoreTied s past core
+    → CoreTied s past (removed core id)
+core_removed s past core id c = record {
+  info = c.info;
+  phase = c.phase;
+  read_len = c.read_len;
+  unfailed = c.unfailed;
+  greeted = c.greeted;
+  queue = c.queue;
+}

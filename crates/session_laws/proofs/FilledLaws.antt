@@ -1,4 +1,5 @@
--- What a lane's runner asks bears the handles of the lane's grants, and its CLOSE is that of the grant that the journal says.
+-- What a lane's runner asks bears the handles of the lane's grants, and its CLOSE is that of the grant that the journal
+-- says.
 use Rattle.std.proofs.Common.{◌≡◌, ◌==◌, ℕ, Bool, true, false, List, [], ◌∷◌, Option, Some, None, refl, ap, sym, ◌∙◌, subst, inl, inr, if◌then◌else◌}
 use Rattle.std.specs.Prelude.{◌||◌, ◌<◌, ◌≤◌, slice_get}
 use Rattle.std.proofs.lemmas.Bool.Decides.{eqb_tells}
@@ -8,12 +9,12 @@ use Rattle.sftp_model.specs.declared.slot.Site.{Site}
 use Rattle.sftp_model.specs.Slots.{grant_of, slot_at}
 use Rattle.plan_model.specs.GoodMoves.{ClosesGrant}
 use Rattle.plan_model.specs.Moves.{Answers, handle_of}
-use Rattle.plan_model.specs.OwnRequests.{Extends}
+use Rattle.plan_model.specs.OwnRequests.{ExtendsAnswers}
 use Rattle.plan_runner.specs.declared.next.Asked.{Asked}
 use Rattle.plan_runner.specs.declared.next.Running.{Running}
-use Rattle.session_model.specs.Readings.{answer, asked, ended}
+use Rattle.session_model.specs.Readings.{answer, count_submitted, count_ended}
 use Rattle.session_model.specs.Calls.{site_of, Setting, current}
-use Rattle.session_model.specs.Grants.{closed_by, is_granted, closed, closes}
+use Rattle.session_model.specs.Grants.{closed_by, is_granted, closed_grants, closes}
 use Rattle.session_model.specs.Ids.{ReadsId}
 use Rattle.session_model.proofs.IdLaws.{reads}
 use Rattle.session_model.proofs.PlannedLaws.{AsksClose, asks_close}
@@ -25,7 +26,7 @@ use Rattle.sftp_model.specs.declared.reply.Reply.TheVariants as reply
 use Rattle.sftp_model.specs.declared.request.Request.TheVariants as request
 use Rattle.plan_runner.specs.declared.next.Asked.TheVariants as asked
 use Rattle.plan_model.specs.CallPlans.{next}
-use Rattle.sftp_core.specs.Core.{at}
+use Rattle.sftp_core.specs.Core.{record_at}
 use Rattle.plan_runner.specs.Runners.{RunsByPlan, bytes_of}
 use Rattle.plan_model.specs.declared.call.Call.{Call}
 use Rattle.session_model.specs.declared.entry.Entry.{Entry}
@@ -40,7 +41,8 @@ handles_agree s past lane k v dues g l got = (let state = grant_state past v.gra
     (subst (ReadsId past g.grant.id) state.1 (reads past g.grant.id)).1)
 
 -- what has come is the same later
-same_later : (known answers : Answers) (g : ℕ) → is_granted (known g) ≡ true → Extends known answers → answers g ≡ known g
+same_later : (known answers : Answers) (g : ℕ) → is_granted (known g) ≡ true → ExtendsAnswers known answers → answers g
+    ≡ known g
 same_later known answers g came more = by_known (known g) refl came
   where
     by_known : (x : Option Reply) → known g ≡ x → is_granted x ≡ true → answers g ≡ known g
@@ -57,7 +59,8 @@ later_in h g = by_first (h == g) (first_in g [])
     by_first true e = refl
     by_first false e = e
 
-filled_later : (a : Asked) (known : Answers) → ((g : ℕ) → is_in g (grants_named a) ≡ true → is_granted (known g) ≡ true) → IsFilled a known
+filled_later : (a : Asked) (known : Answers) → ((g : ℕ) → is_in g (grants_named a) ≡ true → is_granted (known g) ≡ true)
+    → IsFilled a known
 filled_later (asked.Plain r) known came answers more = refl
 filled_later (asked.Close grant) known came answers more = ap (λ x. request.Close (handle_of x))
     (same_later known answers grant (came grant (first_in grant [])) more)
@@ -98,8 +101,8 @@ one_handle g p = if p == g then Some (reply.Handle (1 ∷ [])) else None
 pub closes_agree :
     (s : Setting) (past : List Entry) (lane g : ℕ) (v : LaneValue) (dues : List ℕ) (c : Call) (r : Running)
     (site : Site) → LaneTied s past lane v dues → current s past lane ≡ Some c → v.running ≡ None
-    → RunsByPlan (next c v.site s.facts) (asked past) (bytes_of c) site s.facts (step.Ask (asked.Close g) r)
-    → closes s past (closed s past) (owner.Call lane (ended past lane)) ≡ Some g
+    → RunsByPlan (next c v.site s.facts) (count_submitted past) (bytes_of c) site s.facts (step.Ask (asked.Close g) r)
+    → closes s past (closed_grants s past) (owner.Call lane (count_ended past lane)) ≡ Some g
 closes_agree s past lane g v dues c r site l is none goes =
     let answers : Answers = one_handle g in
     let asks : next c v.site s.facts [] answers ≡ Ask (request.Close (handle_of (answers g))) = (goes answers).0 in

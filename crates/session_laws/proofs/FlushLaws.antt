@@ -9,32 +9,38 @@ use Rattle.sftp_model.specs.declared.slot.Slot.{Slot}
 use Rattle.sftp_model.specs.declared.slot.Slot.TheVariants.{Empty, File, Buffered}
 use Rattle.sftp_model.specs.Slots.{slot_at}
 use Rattle.plan_model.specs.Moves.{Answers, Own, left_on_buffered}
-use Rattle.plan_model.specs.BufferPlans.{is_good, unflushed, with_deferred}
+use Rattle.plan_model.specs.BufferPlans.{is_good, unflushed_writes, with_deferred}
 use Rattle.plan_runner.specs.declared.next.Running.{Running}
 use Rattle.plan_runner.specs.Buffers.{left_flushed, oldest, oldest_in}
 use Rattle.plan_runner.specs.Cancelling.{left_after, left_behind}
-use Rattle.plan_runner.specs.Runners.{awaited}
+use Rattle.plan_runner.specs.Runners.{awaited_place}
 use Rattle.plan_runner.specs.declared.next.Running.TheVariants as running
 
 flushed : (slot : ℕ) (file : FileAt) (buffer : Buffer) (site : Site) (writes : List (ℕ × ℕ)) (answers : Answers) (p : ℕ)
     (y : Reply) → oldest writes ≡ Some p → answers p ≡ Some y
-    → with_deferred slot file buffer site (unflushed answers writes) ≡ left_flushed slot file buffer site writes y answers
+    → with_deferred slot file buffer site (unflushed_writes answers writes)
+    ≡ left_flushed slot file buffer site writes y answers
 flushed slot file buffer site [] answers p y at got = absurd cc
 flushed slot file buffer site (write ∷ writes) answers p y at got =
     let same : write.0 ≡ p = cc in
-    ap (λ (r : Option Reply). with_deferred slot file buffer site (if is_good r then unflushed answers writes else write ∷ writes)) (ap answers same ∙ got)
+    ap (λ (r : Option Reply). with_deferred slot file buffer site
+    (if is_good r then unflushed_writes answers writes else write ∷ writes)) (ap answers same ∙ got)
 
-by_slot : (slot : ℕ) (site : Site) (answers : Answers) (p : ℕ) (y : Reply) (x : Slot) → oldest_in x ≡ Some p → answers p ≡ Some y
-    → left_on_buffered x site (λ file buffer. with_deferred slot file buffer site (unflushed answers buffer.deferred))
+by_slot : (slot : ℕ) (site : Site) (answers : Answers) (p : ℕ) (y : Reply) (x : Slot) → oldest_in x ≡ Some p → answers p
+    ≡ Some y
+    → left_on_buffered x site (λ file buffer. with_deferred slot file buffer site
+    (unflushed_writes answers buffer.deferred))
     ≡ left_on_buffered x site (λ file buffer. left_flushed slot file buffer site buffer.deferred y answers)
 by_slot slot site answers p y Empty at got = absurd cc
 by_slot slot site answers p y (File file) at got = absurd cc
-by_slot slot site answers p y (Buffered file buffer) at got = flushed slot file buffer site buffer.deferred answers p y at got
+by_slot slot site answers p y (Buffered file buffer) at got =
+    flushed slot file buffer site buffer.deferred answers p y at got
 
 pub left_came : (r : Running) (bytes : List ℕ) (site : Site) (facts : Facts) (later : Own) (answers : Answers) (p : ℕ)
-    (y : Reply) → awaited r site ≡ Some p → answers p ≡ Some y
+    (y : Reply) → awaited_place r site ≡ Some p → answers p ≡ Some y
     → left_behind r bytes site facts later answers ≡ left_after r bytes site facts (Some y) later answers
-left_came (running.Flushing slot) bytes site facts later answers p y at got = by_slot slot site answers p y (slot_at site slot) at got
+left_came (running.Flushing slot) bytes site facts later answers p y at got =
+    by_slot slot site answers p y (slot_at site slot) at got
 left_came other bytes site facts later answers p y at got = refl
 
 -- where no reply is awaited, too

@@ -12,17 +12,18 @@ use Rattle.session_model.proofs.IdLaws.{reads}
 use Rattle.session_laws.specs.Changes.{IsBare}
 use Rattle.session_laws.specs.Places.{is_in}
 use Rattle.session_laws.specs.Lanes.{AllOf, among}
-use Rattle.session_laws.specs.Tables.{Tabled, place_of, replied, stand}
+use Rattle.session_laws.specs.Tables.{TableMatches, place_of, record_of_reply, stand}
 use Rattle.session_laws.proofs.HoldLaws.{of_in}
 use Rattle.session_laws.proofs.PollLaws.{among_self}
 use Rattle.sftp_model.specs.declared.reply.Reply.TheVariants as reply
 
-unwanted : (b c : Bool) (e : Expected) (r : Reply) → replied b c e r ≡ None → b ≡ false
+unwanted : (b c : Bool) (e : Expected) (r : Reply) → record_of_reply b c e r ≡ None → b ≡ false
 unwanted true c e r h = absurd cc
 unwanted false c e r h = refl
 
 -- nothing stands under the id: its place is not wanted
-pub free_unwanted : (past : List Entry) (w g : ℕ → Bool) (table : ℕ → Option IdRecord) (id p : ℕ) → Tabled past w g table
+pub free_unwanted : (past : List Entry) (w g : ℕ → Bool) (table : ℕ → Option IdRecord) (id p : ℕ)
+    → TableMatches past w g table
     → table id ≡ None → place_of (id_state past id) ≡ Some p → w p ≡ false
 free_unwanted past w g table id p t none at = by_state (id_state past id) at (sym (t id) ∙ none)
   where
@@ -33,7 +34,7 @@ free_unwanted past w g table id p t none at = by_state (id_state past id) at (sy
 
 -- so no ticket of a lane bears it
 pub free_bare : (past : List Entry) (tickets : ℕ → List ℕ) (g : ℕ → Bool) (table : ℕ → Option IdRecord) (id lane : ℕ)
-    → Tabled past (among past tickets) g table → table id ≡ None → AllOf past lane (tickets lane)
+    → TableMatches past (among past tickets) g table → table id ≡ None → AllOf past lane (tickets lane)
     → IsBare past id (tickets lane)
 free_bare past tickets g table id lane t none all p at = by_test (is_in p (tickets lane)) refl
   where
@@ -43,18 +44,19 @@ free_bare past tickets g table id lane t none all p at = by_test (is_in p (ticke
         sym (free_unwanted past (among past tickets) g table id p t none at)
         ∙ (among_self past tickets lane p mine.0 mine.1.0 mine.1.1 ∙ e) in cc)
 
-granted_stands : (e : Expected) (r : Reply) → is_handle r ≡ true → replied false true e r ≡ None → ⊥
+granted_stands : (e : Expected) (r : Reply) → is_handle r ≡ true → record_of_reply false true e r ≡ None → ⊥
 granted_stands e (reply.Handle handle) is none = absurd cc
 granted_stands e other is none = absurd cc
 
 -- nothing stands under the id: the grants of a lane don't bear it
 pub free_bare_grants : (past : List Entry) (tickets grants : ℕ → List ℕ) (table : ℕ → Option IdRecord) (id lane : ℕ)
-    → Tabled past (among past tickets) (among past grants) table → table id ≡ None → AllOf past lane (grants lane)
+    → TableMatches past (among past tickets) (among past grants) table → table id ≡ None → AllOf past lane (grants lane)
     → ((g : ℕ) → is_in g (grants lane) ≡ true → is_grant past g ≡ true)
     → ((g : ℕ) → is_in g (grants lane) ≡ true → is_in g (tickets lane) ≡ false) → IsBare past id (grants lane)
 free_bare_grants past tickets grants table id lane t none all granted apart p at = by_test (is_in p (grants lane)) refl
   where
-    by_state : (x : IdState) → ReadsId past id x → place_of x ≡ Some p → stand (among past tickets) (among past grants) x
+    by_state : (x : IdState) → ReadsId past id x → place_of x ≡ Some p
+        → stand (among past tickets) (among past grants) x
         ≡ None → among past tickets p ≡ false → among past grants p ≡ true → is_grant past p ≡ true → ⊥
     by_state Free r at h none_of some_of got = absurd cc
     by_state (Pending q a was_sent) r at h none_of some_of got = absurd cc
@@ -77,5 +79,6 @@ some_is : (m n : ℕ) → (◌≡◌ {A = Option ℕ} (Some m) (Some n)) → m �
 some_is m n e = cc
 
 -- the id bears this place, which is none of these
-pub borne_bare : (past : List Entry) (id g : ℕ) (ps : List ℕ) → place_of (id_state past id) ≡ Some g → is_in g ps ≡ false → IsBare past id ps
+pub borne_bare : (past : List Entry) (id g : ℕ) (ps : List ℕ) → place_of (id_state past id) ≡ Some g → is_in g ps
+    ≡ false → IsBare past id ps
 borne_bare past id g ps borne out p is = ap (λ (n : ℕ). is_in n ps) (sym (some_is g p (sym borne ∙ is))) ∙ out

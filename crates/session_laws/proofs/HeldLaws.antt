@@ -1,4 +1,5 @@
--- The grants of a runner's site are those that its lane holds: no invariant says it, for what a cancelled call leaves has them.
+-- The grants of a runner's site are those that its lane holds: no invariant says it, for what a cancelled call leaves
+-- has them.
 use Rattle.std.proofs.Common.{Option, None, true, false, ◌≡◌, ℕ, List, [], ◌∷◌, Some, refl, ap, sym, ◌∙◌}
 use Rattle.sftp_model.specs.declared.slot.Facts.{Facts}
 use Rattle.sftp_model.specs.declared.slot.Slot.{Slot}
@@ -15,9 +16,9 @@ use Rattle.plan_model.specs.BufferPlans.{
   cancelled_buf_flush,
   cancelled_buf_read,
   cancelled_buf_write,
-  carried,
-  freed,
-  unflushed,
+  carried_length,
+  with_oldest_settled,
+  unflushed_writes,
   with_deferred,
 }
 use Rattle.plan_model.proofs.SlotLaws.{same_set}
@@ -26,13 +27,13 @@ use Rattle.plan_runner.specs.declared.next.Running.{Running}
 use Rattle.plan_runner.specs.Runners.{bytes_of}
 use Rattle.plan_model.specs.declared.call.Call.{Call}
 use Rattle.session_model.specs.declared.entry.Entry.{Entry}
-use Rattle.session_model.specs.Readings.{answer, own, ended}
+use Rattle.session_model.specs.Readings.{answer, own, count_ended}
 use Rattle.session_model.specs.Calls.{Setting, current, given_up, held_by, held_site, site_of}
 use Rattle.session_laws.specs.Running.{CancelTied}
 use Rattle.session_laws.proofs.CancelLaws.{cancel_leaves}
 use Rattle.plan_runner.specs.declared.next.Running.TheVariants as running
 use Rattle.plan_model.specs.declared.call.Call.TheVariants as call
-use Rattle.plan_model.specs.CallPlans.{cancelled}
+use Rattle.plan_model.specs.CallPlans.{site_after_cancel}
 
 transfer_grants : (slot : ℕ) (site : Site) (facts : Facts) (own : Own) (answers : Answers) (g : ℕ)
     → has_grant (cancelled_transfer slot site facts own answers) g ≡ has_grant site g
@@ -42,7 +43,8 @@ transfer_grants slot site facts own answers g = by_slot (slot_at site slot) refl
         (λ file. with_slot site slot (File (record file { offset = last_offset file.offset own })))) g
         ≡ has_grant site g
     by_slot Empty at = refl
-    by_slot (File file) at = same_set site slot file.grant (File (record file { offset = last_offset file.offset own })) (ap grant_of at) refl g
+    by_slot (File file) at = same_set site slot file.grant (File (record file { offset = last_offset file.offset own }))
+        (ap grant_of at) refl g
     by_slot (Buffered file buffer) at = refl
 
 read_grants : (slot : ℕ) (site : Site) (facts : Facts) (own : Own) (answers : Answers) (g : ℕ)
@@ -55,24 +57,27 @@ read_grants slot site facts (asked ∷ later) answers g = by_slot (slot_at site 
         ≡ has_grant site g
     by_slot Empty at = refl
     by_slot (File file) at = refl
-    by_slot (Buffered file buffer) at = same_set site slot file.grant (Buffered file (record buffer { reading = Some asked.0 })) (ap grant_of at) refl g
+    by_slot (Buffered file buffer) at = same_set site slot file.grant
+        (Buffered file (record buffer { reading = Some asked.0 })) (ap grant_of at) refl g
 
 flush_grants : (slot : ℕ) (site : Site) (facts : Facts) (own : Own) (answers : Answers) (g : ℕ)
     → has_grant (cancelled_buf_flush slot site facts own answers) g ≡ has_grant site g
 flush_grants slot site facts own answers g = by_slot (slot_at site slot) refl
   where
     by_slot : (x : Slot) → slot_at site slot ≡ x → has_grant (left_on_buffered x site
-        (λ file buffer. with_deferred slot file buffer site (unflushed answers buffer.deferred))) g ≡ has_grant site g
+        (λ file buffer. with_deferred slot file buffer site (unflushed_writes answers buffer.deferred))) g
+        ≡ has_grant site g
     by_slot Empty at = refl
     by_slot (File file) at = refl
     by_slot (Buffered file buffer) at = same_set site slot file.grant
-        (Buffered file (record buffer { deferred = unflushed answers buffer.deferred })) (ap grant_of at) refl g
+        (Buffered file (record buffer { deferred = unflushed_writes answers buffer.deferred })) (ap grant_of at) refl g
 
 -- writes move the file of a slot, and leave its grant
-grant_stays : (facts : Facts) (file : FileAt) (buffer : Buffer) (own : Own) → grant_of (after_writes facts file buffer own) ≡ Some file.grant
+grant_stays : (facts : Facts) (file : FileAt) (buffer : Buffer) (own : Own)
+    → grant_of (after_writes facts file buffer own) ≡ Some file.grant
 grant_stays facts file buffer [] = refl
-grant_stays facts file buffer (asked ∷ later) = grant_stays facts (further file (carried asked.1))
-    (after_write (freed facts buffer) asked.0 (carried asked.1)) later
+grant_stays facts file buffer (asked ∷ later) = grant_stays facts (further file (carried_length asked.1))
+    (after_write (with_oldest_settled facts buffer) asked.0 (carried_length asked.1)) later
 
 write_grants : (slot : ℕ) (site : Site) (facts : Facts) (own : Own) (answers : Answers) (g : ℕ)
     → has_grant (cancelled_buf_write slot site facts own answers) g ≡ has_grant site g
@@ -87,7 +92,7 @@ write_grants slot site facts own answers g = by_slot (slot_at site slot) refl
 
 -- what a cancelled call leaves has the grants that it holds, whatever the call
 pub cancelled_grants : (c : Call) (site : Site) (facts : Facts) (own : Own) (answers : Answers) (g : ℕ)
-    → has_grant (cancelled c site facts own answers) g ≡ has_grant (given_up c own site) g
+    → has_grant (site_after_cancel c site facts own answers) g ≡ has_grant (given_up c own site) g
 cancelled_grants (call.Close slot) site facts [] answers g = refl
 cancelled_grants (call.Close slot) site facts (asked ∷ later) answers g = refl
 cancelled_grants (call.ReadAll slot n) site facts own answers g = transfer_grants slot site facts own answers g
@@ -107,7 +112,8 @@ kept_grants (Some slot) site facts own answers g = transfer_grants slot site fac
 -- and those of the runner's site
 pub left_grants : (r : Running) (bytes : List ℕ) (site : Site) (facts : Facts) (answers : Answers) (g : ℕ)
     → has_grant (left_behind r bytes site facts [] answers) g ≡ has_grant site g
-left_grants (running.Gathering place slot file got left len) bytes site facts answers g = transfer_grants slot site facts [] answers g
+left_grants (running.Gathering place slot file got left len) bytes site facts answers g =
+    transfer_grants slot site facts [] answers g
 left_grants (running.Writing place slot file done) bytes site facts answers g = kept_grants slot site facts [] answers g
 left_grants (running.Flushing slot) bytes site facts answers g = flush_grants slot site facts [] answers g
 left_grants (running.AwaitingRoom slot start) bytes site facts answers g = write_grants slot site facts [] answers g
@@ -122,7 +128,7 @@ pub held_grants : (s : Setting) (past : List Entry) (lane : ℕ) (r : Running) (
     → CancelTied s past lane (Some r) site → current s past lane ≡ Some c → has_grant (held_site s past lane) g
     ≡ has_grant site g
 held_grants s past lane r site c g tied is =
-    let mine : Own = own past lane (ended past lane) in
+    let mine : Own = own past lane (count_ended past lane) in
     let had : Site = site_of s past lane in
     ap (λ x. has_grant (held_by x mine had) g) is
     ∙ (sym (cancelled_grants c had s.facts mine (answer past) g)

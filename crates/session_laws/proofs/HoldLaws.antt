@@ -32,19 +32,19 @@ use Rattle.sftp_model.specs.declared.reply.Reply.{Reply}
 use Rattle.sftp_model.specs.Slots.{has_grant}
 use Rattle.session_model.specs.declared.event.Owner.{Owner}
 use Rattle.session_model.specs.declared.entry.Entry.{Entry}
-use Rattle.session_model.specs.Readings.{AskedRequest, answer, asked_at, ended, is_by, own}
+use Rattle.session_model.specs.Readings.{AskedRequest, answer, asked_at, count_ended, is_by, own}
 use Rattle.session_model.specs.Calls.{Setting, current, held_site, site_of}
-use Rattle.session_model.specs.Grants.{closed, holds, is_asked_by, is_grant, is_granted, is_held, is_one_of, is_unended_asker}
+use Rattle.session_model.specs.Grants.{closed_grants, holds, is_asked_by, is_grant, is_granted, is_held, is_one_of, is_unended_asker}
 use Rattle.session_model.proofs.GrantLaws.{any_passes}
 use Rattle.session_model.proofs.HolderLaws.{slots_owned}
 use Rattle.session_model.proofs.PlannedLaws.{held_less}
 use Rattle.session_model.specs.Ids.{Replied, id_state}
 use Rattle.session_model.specs.Journals.{IsJournal}
 use Rattle.session_model.proofs.ClosedLaws.{gone_unheld}
-use Rattle.session_laws.specs.Places.{IsRising, is_in, without, IsBelow}
+use Rattle.session_laws.specs.Places.{IsRising, is_in, without_index, IsBelow}
 use Rattle.session_laws.specs.Tables.{place_of}
 use Rattle.session_laws.specs.Lanes.{AllOf, GrantsTied, Held, LaneHolds, Ticketed, TicketsTied, grant_places, is_of, ticket_places}
-use Rattle.session_laws.specs.Changes.{Brought, brought}
+use Rattle.session_laws.specs.Changes.{BringsHandle, grant_of_ticket}
 use Rattle.session_laws.proofs.EndLaws.{AreGrants}
 use Rattle.session_laws.proofs.PlaceLaws.{at_in, push_other, push_rising, push_self, without_other, without_out, without_rising, without_self}
 use Rattle.sftp_model.specs.declared.reply.Reply.TheVariants as reply
@@ -52,12 +52,14 @@ use Rattle.session_model.specs.declared.event.Owner.TheVariants as owner
 
 -- ---- lists
 
-pub ticket_index : (ts : List Ticketed) (k : ℕ) (t : Ticketed) → slice_get ts k ≡ Some t → slice_get (ticket_places ts) k ≡ Some t.place
+pub ticket_index : (ts : List Ticketed) (k : ℕ) (t : Ticketed) → slice_get ts k ≡ Some t
+    → slice_get (ticket_places ts) k ≡ Some t.place
 ticket_index [] k t at = absurd cc
 ticket_index (x ∷ xs) zero t at = (let same : x ≡ t = cc in ap (λ (y : Ticketed). Some y.place) same)
 ticket_index (x ∷ xs) (suc k) t at = ticket_index xs k t at
 
-pub ticket_without : (ts : List Ticketed) (k : ℕ) → ticket_places (without k ts) ≡ without k (ticket_places ts)
+pub ticket_without : (ts : List Ticketed) (k : ℕ) → ticket_places (without_index k ts)
+    ≡ without_index k (ticket_places ts)
 ticket_without [] k = refl
 ticket_without (x ∷ xs) zero = refl
 ticket_without (x ∷ xs) (suc k) = ap (λ (l : List ℕ). x.place ∷ l) (ticket_without xs k)
@@ -65,20 +67,24 @@ ticket_without (x ∷ xs) (suc k) = ap (λ (l : List ℕ). x.place ∷ l) (ticke
 pub ticket_at : (past : List Entry) (ts : List Ticketed) (k : ℕ) (t : Ticketed) → TicketsTied past ts → slice_get ts k
     ≡ Some t → place_of (id_state past t.ticket) ≡ Some t.place
 ticket_at past [] k t tied at = absurd cc
-ticket_at past (x ∷ xs) zero t tied at = (let same : x ≡ t = cc in subst (λ (y : Ticketed). place_of (id_state past y.ticket) ≡ Some y.place) same tied.0)
+ticket_at past (x ∷ xs) zero t tied at = (let same : x ≡ t = cc in
+    subst (λ (y : Ticketed). place_of (id_state past y.ticket) ≡ Some y.place) same tied.0)
 ticket_at past (x ∷ xs) (suc k) t tied at = ticket_at past xs k t tied.1 at
 
-tied_without : (past : List Entry) (ts : List Ticketed) (k : ℕ) → TicketsTied past ts → TicketsTied past (without k ts)
+tied_without : (past : List Entry) (ts : List Ticketed) (k : ℕ) → TicketsTied past ts
+    → TicketsTied past (without_index k ts)
 tied_without past [] k tied = tt
 tied_without past (x ∷ xs) zero tied = tied.1
 tied_without past (x ∷ xs) (suc k) tied = (tied.0, tied_without past xs k tied.1)
 
-pub of_without : (past : List Entry) (lane : ℕ) (ps : List ℕ) (k : ℕ) → AllOf past lane ps → AllOf past lane (without k ps)
+pub of_without : (past : List Entry) (lane : ℕ) (ps : List ℕ) (k : ℕ) → AllOf past lane ps
+    → AllOf past lane (without_index k ps)
 of_without past lane [] k all = tt
 of_without past lane (x ∷ xs) zero all = all.1
 of_without past lane (x ∷ xs) (suc k) all = (all.0, of_without past lane xs k all.1)
 
-pub of_in : (past : List Entry) (lane : ℕ) (ps : List ℕ) (p : ℕ) → AllOf past lane ps → is_in p ps ≡ true → (a : AskedRequest)
+pub of_in : (past : List Entry) (lane : ℕ) (ps : List ℕ) (p : ℕ) → AllOf past lane ps → is_in p ps ≡ true
+    → (a : AskedRequest)
     × ((asked_at past p ≡ Some a) × (is_of a.by lane ≡ true))
 of_in past lane [] p all e = absurd cc
 of_in past lane (h ∷ hs) p all e = elim (eqb_tells h p) [
@@ -88,14 +94,19 @@ of_in past lane (h ∷ hs) p all e = elim (eqb_tells h p) [
 
 is_lane : (o : Owner) (m n : ℕ) → is_of o m ≡ true → is_of o n ≡ true → m ≡ n
 is_lane (owner.Call c d) m n x y = elim (eqb_tells c m) [
-  | inl t ↦ elim (eqb_tells c n) [ inl u ↦ sym t.1 ∙ u.1 | inr u ↦ absurd (let clash : false ≡ true = sym u.0 ∙ y in cc) ]
+  | inl t ↦ elim (eqb_tells c n) [
+    | inl u ↦ sym t.1 ∙ u.1
+    | inr u ↦
+        absurd (let clash : false ≡ true = sym u.0 ∙ y in cc)
+  ]
   | inr t ↦ absurd (let clash : false ≡ true = sym t.0 ∙ x in cc)
 ]
 is_lane owner.Setup m n x y = absurd cc
 is_lane owner.Close m n x y = absurd cc
 
 -- one lane asked for a place
-pub one_lane : (past : List Entry) (p m n : ℕ) → ((a : AskedRequest) × ((asked_at past p ≡ Some a) × (is_of a.by m ≡ true)))
+pub one_lane : (past : List Entry) (p m n : ℕ) → ((a : AskedRequest)
+    × ((asked_at past p ≡ Some a) × (is_of a.by m ≡ true)))
     → ((a : AskedRequest) × ((asked_at past p ≡ Some a) × (is_of a.by n ≡ true))) → m ≡ n
 one_lane past p m n x y = (let same : x.0 ≡ y.0 = some_asked x.0 y.0 (sym x.1.0 ∙ y.1.0) in
     is_lane y.0.by m n (ap (λ (a : AskedRequest). is_of a.by m) (sym same) ∙ x.1.1) y.1.1)
@@ -122,11 +133,12 @@ places_push (h ∷ hs) g = ap (λ (l : List ℕ). h.place ∷ l) (places_push hs
 
 pub spent_holds : (s : Setting) (past : List Entry) (lane k : ℕ) (ts : List Ticketed) (gs : List Held) (dues : List ℕ)
     (t : Ticketed) → LaneHolds s past lane ts gs dues → slice_get ts k ≡ Some t → is_grant past t.place ≡ false
-    → (is_asked_by (asked_at past t.place) lane (ended past lane) ≡ true → answer past t.place ≡ None → ⊥) → LaneHolds s past lane (without k ts) gs dues
+    → (is_asked_by (asked_at past t.place) lane (count_ended past lane) ≡ true → answer past t.place ≡ None → ⊥)
+    → LaneHolds s past lane (without_index k ts) gs dues
 spent_holds s past lane k ts gs dues t h at plain done =
     let ps : List ℕ = ticket_places ts in
     let here : slice_get ps k ≡ Some t.place = ticket_index ts k t at in
-    let left : ticket_places (without k ts) ≡ without k ps = ticket_without ts k in
+    let left : ticket_places (without_index k ts) ≡ without_index k ps = ticket_without ts k in
     record {
       tied = tied_without past ts k h.tied;
       tied_of = subst (λ (l : List ℕ). AllOf past lane l) (sym left) (of_without past lane ps k h.tied_of);
@@ -136,7 +148,7 @@ spent_holds s past lane k ts gs dues t h at plain done =
       held_rise = h.held_rise;
       apart = λ g e. ap (is_in g) left ∙ without_out ps k g (h.apart g e);
       asks = λ p mine none. ap (is_in p) left ∙ (without_other ps k t.place p here
-          (λ e. done (ap (λ (n : ℕ). is_asked_by (asked_at past n) lane (ended past lane)) (sym e) ∙ mine)
+          (λ e. done (ap (λ (n : ℕ). is_asked_by (asked_at past n) lane (count_ended past lane)) (sym e) ∙ mine)
           (ap (answer past) (sym e) ∙ none)) ∙ h.asks p mine none);
       whole = λ g granted unclosed holder out. ap (is_in g) left
           ∙ (without_other ps k t.place g here (λ e. (let clash : false ≡ true = sym plain
@@ -146,13 +158,13 @@ spent_holds s past lane k ts gs dues t h at plain done =
 
 pub granted_holds : (s : Setting) (past : List Entry) (lane k : ℕ) (ts : List Ticketed) (gs : List Held) (dues : List ℕ)
     (t : Ticketed) (handle : List ℕ) → LaneHolds s past lane ts gs dues → slice_get ts k ≡ Some t
-    → Brought s past lane gs dues t handle
-    → LaneHolds s past lane (without k ts) (gs ++ brought t handle ∷ []) dues
+    → BringsHandle s past lane gs dues t handle
+    → LaneHolds s past lane (without_index k ts) (gs ++ grant_of_ticket t handle ∷ []) dues
 granted_holds s past lane k ts gs dues t handle h at b =
     let ps : List ℕ = ticket_places ts in
     let here : slice_get ps k ≡ Some t.place = ticket_index ts k t at in
-    let left : ticket_places (without k ts) ≡ without k ps = ticket_without ts k in
-    let new : Held = brought t handle in
+    let left : ticket_places (without_index k ts) ≡ without_index k ps = ticket_without ts k in
+    let new : Held = grant_of_ticket t handle in
     let more : grant_places (gs ++ new ∷ []) ≡ grant_places gs ++ t.place ∷ [] = places_push gs new in
     let grant : is_grant past t.place ≡ true = ap is_granted b.got in
     record {
@@ -163,10 +175,13 @@ granted_holds s past lane k ts gs dues t handle h at b =
       held_of = subst (λ (l : List ℕ). AllOf past lane l) (sym more)
           (of_push past lane (grant_places gs) t.place h.held_of (of_in past lane ps t.place h.tied_of
           (at_in ps k t.place here)));
-      held_rise = subst (λ (l : List ℕ). IsRising l) (sym more) (push_rising (grant_places gs) t.place h.held_rise b.newer);
+      held_rise = subst (λ (l : List ℕ). IsRising l) (sym more)
+          (push_rising (grant_places gs) t.place h.held_rise b.newer);
       apart = λ g e. elim (eqb_tells g t.place) [
-        | inl d ↦ ap (is_in g) left ∙ (ap (λ (n : ℕ). is_in n (without k ps)) d.1 ∙ without_self ps k t.place h.tied_rise here)
-        | inr d ↦ ap (is_in g) left ∙ without_out ps k g (h.apart g (sym (push_other (grant_places gs) t.place g d.1) ∙ (ap (is_in g) (sym more) ∙ e)))
+        | inl d ↦ ap (is_in g) left ∙ (ap (λ (n : ℕ). is_in n (without_index k ps)) d.1
+            ∙ without_self ps k t.place h.tied_rise here)
+        | inr d ↦ ap (is_in g) left ∙ without_out ps k g (h.apart g
+            (sym (push_other (grant_places gs) t.place g d.1) ∙ (ap (is_in g) (sym more) ∙ e)))
       ];
       asks = λ p mine none. ap (is_in p) left ∙ (without_other ps k t.place p here
           (λ e. (let clash : ◌≡◌ {A = Option Reply} None (Some (reply.Handle handle)) = sym none
@@ -179,7 +194,7 @@ granted_holds s past lane k ts gs dues t handle h at b =
           ∙ h.whole g granted open_g holds_g (sym (push_other (grant_places gs) t.place g apart)
           ∙ (ap (is_in g) (sym more) ∙ out))));
       holding = λ g e. elim (eqb_tells g t.place) [
-        | inl d ↦ subst (λ (n : ℕ). (is_grant past n ≡ true) × ((is_one_of (closed s past) n ≡ false)
+        | inl d ↦ subst (λ (n : ℕ). (is_grant past n ≡ true) × ((is_one_of (closed_grants s past) n ≡ false)
             × (is_in n dues ≡ false → holds s past n lane ≡ true))) (sym d.1) (grant, (b.unclosed, b.holder))
         | inr d ↦ h.holding g (sym (push_other (grant_places gs) t.place g d.1) ∙ (ap (is_in g) (sym more) ∙ e))
       ];
@@ -189,8 +204,8 @@ granted_holds s past lane k ts gs dues t handle h at b =
 
 -- what a lane holds has no CLOSE
 pub held_unclosed : (s : Setting) (past : List Entry) (g lane : ℕ) → IsJournal s past → lane < length s.lanes
-    → holds s past g lane ≡ true → is_one_of (closed s past) g ≡ false
-held_unclosed s past g lane j there holder = open_still (is_one_of (closed s past) g)
+    → holds s past g lane ≡ true → is_one_of (closed_grants s past) g ≡ false
+held_unclosed s past g lane j there holder = open_still (is_one_of (closed_grants s past) g)
     (λ e. (let lost : is_held s past g ≡ false = (gone_unheld s past g j e).1 in let kept : is_held s past g ≡ true =
     any_passes (holds s past g) (length s.lanes) lane there holder in
     let clash : false ≡ true = sym lost ∙ kept in absurd cc))
@@ -200,23 +215,28 @@ held_unclosed s past g lane j there holder = open_still (is_one_of (closed s pas
     open_still false never = refl
 
 -- the current call holds what it asked for
-pub asker_holds : (s : Setting) (past : List Entry) (g lane : ℕ) → is_unended_asker past lane g ≡ true → holds s past g lane ≡ true
+pub asker_holds : (s : Setting) (past : List Entry) (g lane : ℕ) → is_unended_asker past lane g ≡ true
+    → holds s past g lane ≡ true
 asker_holds s past g lane mine = or_right (has_grant (held_site s past lane) g) (is_unended_asker past lane g) mine
 
 -- a lane that holds a grant asked for it
 pub holder_asked : (s : Setting) (past : List Entry) (g w : ℕ) → IsJournal s past → holds s past g w ≡ true → (c : ℕ)
     × (is_asked_by (asked_at past g) w c ≡ true)
 holder_asked s past g w j h = elim (or_cases (has_grant (held_site s past w) g) (is_unended_asker past w g) h) [
-  | inl has ↦ (let mine = slots_owned s past w g j (held_less (current s past w) (own past w (ended past w))
+  | inl has ↦ (let mine = slots_owned s past w g j (held_less (current s past w) (own past w (count_ended past w))
       (site_of s past w) g has) in (mine.1.0, mine.1.1.1))
-  | inr asks ↦ (ended past w, asks)
+  | inr asks ↦ (count_ended past w, asks)
 ]
 
 pub one_asker : (a : AskedRequest) (l w c : ℕ) → is_of a.by l ≡ true → is_by a.by w c ≡ true → w ≡ l
 one_asker a l w c x y = by_who a.by x y
   where
     two : (m n : ℕ) (b : Bool) → (m == n) ≡ b → b ≡ true → m ≡ n
-    two m n b e t = elim (eqb_tells m n) [ inl d ↦ d.1 | inr d ↦ absurd (let clash : false ≡ true = sym d.0 ∙ (e ∙ t) in cc) ]
+    two m n b e t = elim (eqb_tells m n) [
+      | inl d ↦ d.1
+      | inr d ↦
+          absurd (let clash : false ≡ true = sym d.0 ∙ (e ∙ t) in cc)
+    ]
 
     first : (b c : Bool) → (b && c) ≡ true → b ≡ true
     first true c e = refl
@@ -232,7 +252,8 @@ pub are_grants : (s : Setting) (past : List Entry) (lane : ℕ) (ts : List Ticke
     → AreGrants s past lane (grant_places gs)
 are_grants s past lane ts gs j h polled =
     record {
-      all = λ g granted unclosed holder. in_or g granted (is_in g (grant_places gs)) refl (λ out. h.whole g granted unclosed holder out);
+      all = λ g granted unclosed holder. in_or g granted (is_in g (grant_places gs)) refl
+          (λ out. h.whole g granted unclosed holder out);
       granted = λ g e. (h.holding g e).0;
       unclosed = λ g e. (h.holding g e).1.0;
       alone = λ g w e holder.
@@ -251,7 +272,8 @@ pub in_more : (ps : List ℕ) (p q : ℕ) → is_in q ps ≡ true → is_in q (p
 in_more [] p q e = absurd cc
 in_more (h ∷ hs) p q e = by_head (h == q) e (λ rest. in_more hs p q rest)
   where
-    by_head : (b : Bool) → (b || is_in q hs) ≡ true → (is_in q hs ≡ true → is_in q (hs ++ p ∷ []) ≡ true) → (b || is_in q (hs ++ p ∷ [])) ≡ true
+    by_head : (b : Bool) → (b || is_in q hs) ≡ true → (is_in q hs ≡ true → is_in q (hs ++ p ∷ []) ≡ true)
+        → (b || is_in q (hs ++ p ∷ [])) ≡ true
     by_head true e more = refl
     by_head false e more = more e
 
@@ -264,24 +286,29 @@ pub are_grants_with : (s : Setting) (past : List Entry) (lane p : ℕ) (ts : Lis
     → AreGrants s past lane (grant_places gs ++ p ∷ [])
 are_grants_with s past lane p ts gs j there h has grant mine newer only =
     record {
-      all = λ g granted unclosed holder. in_or g granted (is_in g (grant_places gs)) refl (λ out. h.whole g granted unclosed holder out);
+      all = λ g granted unclosed holder. in_or g granted (is_in g (grant_places gs)) refl
+          (λ out. h.whole g granted unclosed holder out);
       granted = λ g e. elim (eqb_tells g p) [
         | inl t ↦ ap (is_grant past) t.1 ∙ grant
         | inr t ↦
             (h.holding g (sym (push_other (grant_places gs) p g t.1) ∙ e)).0
       ];
       unclosed = λ g e. elim (eqb_tells g p) [
-        | inl t ↦ ap (is_one_of (closed s past)) t.1 ∙ held_unclosed s past p lane j there (asker_holds s past p lane mine)
+        | inl t ↦ ap (is_one_of (closed_grants s past)) t.1 ∙ held_unclosed s past p lane j there
+            (asker_holds s past p lane mine)
         | inr t ↦ (h.holding g (sym (push_other (grant_places gs) p g t.1) ∙ e)).1.0
       ];
       alone = λ g w e holder. elim (eqb_tells g p) [
-        | inl t ↦ by_asker_of g w (of_in past lane (ticket_places ts) g h.tied_of (ap (λ (n : ℕ). is_in n (ticket_places ts)) t.1 ∙ has)) holder
-        | inr t ↦ by_asker_of g w (of_in past lane (grant_places gs) g h.held_of (sym (push_other (grant_places gs) p g t.1) ∙ e)) holder
+        | inl t ↦ by_asker_of g w (of_in past lane (ticket_places ts) g h.tied_of
+            (ap (λ (n : ℕ). is_in n (ticket_places ts)) t.1 ∙ has)) holder
+        | inr t ↦ by_asker_of g w (of_in past lane (grant_places gs) g h.held_of
+            (sym (push_other (grant_places gs) p g t.1) ∙ e)) holder
       ];
       rising = push_rising (grant_places gs) p h.held_rise newer;
     }
   where
-    by_asker_of : (g w : ℕ) → ((a : AskedRequest) × ((asked_at past g ≡ Some a) × (is_of a.by lane ≡ true))) → holds s past g w ≡ true → w ≡ lane
+    by_asker_of : (g w : ℕ) → ((a : AskedRequest) × ((asked_at past g ≡ Some a) × (is_of a.by lane ≡ true)))
+        → holds s past g w ≡ true → w ≡ lane
     by_asker_of g w own_of holder = (let who = holder_asked s past g w j holder in
         one_asker own_of.0 lane w who.0 own_of.1.1 (ap (λ x. is_asked_by x w who.0) (sym own_of.1.0) ∙ who.1))
 

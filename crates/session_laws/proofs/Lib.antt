@@ -1,11 +1,11 @@
 pub mod AskHolds
 pub mod AskLaws
-pub mod AskTied
+mod AskTied
 pub mod AskedLaws
-pub mod BareSites
+mod BareSites
 pub mod BudgetLaws
 pub mod CameLaws
-pub mod CancelLaws
+mod CancelLaws
 pub mod CloseLaws
 pub mod CoreLaws
 pub mod CountedLaws
@@ -14,18 +14,18 @@ pub mod EndHolds
 pub mod EndLaws
 pub mod ExchangeLaws
 pub mod FilledLaws
-pub mod FlushLaws
+mod FlushLaws
 pub mod ForgetLaws
 pub mod FreeLaws
-pub mod GoesLaws
-pub mod GoneLaws
+mod GoesLaws
+mod GoneLaws
 pub mod HandleLaws
-pub mod HeldLaws
+mod HeldLaws
 pub mod HoldLaws
 pub mod KeptLaws
 pub mod LaneLaws
-pub mod LetGoTied
-pub mod LettingLaws
+mod LetGoTied
+mod LettingLaws
 pub mod OrderLaws
 pub mod OtherLaws
 pub mod PendLaws
@@ -33,17 +33,17 @@ pub mod PlaceLaws
 pub mod PollLaws
 pub mod ReplyLaws
 pub mod RestLaws
-pub mod RunningLaws
+mod RunningLaws
 pub mod SameLaws
-pub mod SendLaws
+mod SendLaws
 pub mod SessionLaws
 pub mod StartLaws
-pub mod StepLaws
+mod StepLaws
 pub mod CancelSteps
 pub mod CloseSteps
 pub mod LettingSteps
 pub mod TableLaws
 pub mod TakeDues
-pub mod TakeHolds
+mod TakeHolds
 pub mod TransferLaws
 pub mod TurnLaws

@@ -12,8 +12,8 @@ use Rattle.session_model.specs.declared.entry.Entry.{Entry}
 use Rattle.session_model.specs.Readings.{AskedRequest, answer, asked_at}
 use Rattle.session_model.specs.Ids.{IdState, Free, Pending, Replied, id_state, ReadsId}
 use Rattle.session_model.proofs.IdLaws.{reads}
-use Rattle.session_laws.specs.Places.{IsRising, is_in, without, with_places}
-use Rattle.session_laws.specs.Tables.{Tabled, place_of, replied, stand}
+use Rattle.session_laws.specs.Places.{IsRising, is_in, without_index, with_places}
+use Rattle.session_laws.specs.Tables.{TableMatches, place_of, record_of_reply, stand}
 use Rattle.session_laws.specs.Lanes.{among, by_asker, by_owner, is_of}
 use Rattle.session_laws.proofs.TableLaws.{spend_tabled, polled_handle}
 use Rattle.session_laws.proofs.PlaceLaws.{without_other, without_self, push_other, push_self}
@@ -22,7 +22,7 @@ use Rattle.session_model.specs.declared.event.Owner.TheVariants as owner
 
 -- ---- what the core gives is the journal's
 
-gave : (b c : Bool) (e : Expected) (r y : Reply) → reply_in (replied b c e r) ≡ Some y → r ≡ y
+gave : (b c : Bool) (e : Expected) (r y : Reply) → reply_in (record_of_reply b c e r) ≡ Some y → r ≡ y
 gave true c e r y h = cc
 gave false true e (reply.Handle handle) y h = absurd cc
 gave false true e (reply.Version version extensions) y h = absurd cc
@@ -35,11 +35,13 @@ gave false false e r y h = absurd cc
 
 -- a reply that the core has for the ticket of a place
 pub came_answer : (past : List Entry) (w g : ℕ → Bool) (table : ℕ → Option IdRecord) (id p : ℕ) (y : Reply)
-    → Tabled past w g table → place_of (id_state past id) ≡ Some p → reply_in (table id) ≡ Some y
+    → TableMatches past w g table → place_of (id_state past id) ≡ Some p → reply_in (table id) ≡ Some y
     → (a : AskedRequest) × ((id_state past id ≡ Replied p a y) × (answer past p ≡ Some y))
-came_answer past w g table id p y t at has = by_state (id_state past id) (reads past id) at (ap reply_in (sym (t id)) ∙ has)
+came_answer past w g table id p y t at has = by_state (id_state past id) (reads past id) at
+    (ap reply_in (sym (t id)) ∙ has)
   where
-    by_state : (x : IdState) → ReadsId past id x → place_of x ≡ Some p → reply_in (stand w g x) ≡ Some y → (a : AskedRequest)
+    by_state : (x : IdState) → ReadsId past id x → place_of x ≡ Some p → reply_in (stand w g x) ≡ Some y
+        → (a : AskedRequest)
         × ((x ≡ Replied p a y) × (answer past p ≡ Some y))
     by_state Free r at has = absurd cc
     by_state (Pending q a was_sent) r at has = absurd cc
@@ -49,11 +51,14 @@ came_answer past w g table id p y t at has = by_state (id_state past id) (reads 
         (a, ((λ i. Replied (same i) a (is i)), ap (answer past) (sym same) ∙ (r.1 ∙ ap (λ (x : Reply). Some x) is))))
 
 -- a wanted reply that the core does not have was not taken
-pub missing_answer : (past : List Entry) (w g : ℕ → Bool) (table : ℕ → Option IdRecord) (id p : ℕ) → Tabled past w g table
+pub missing_answer : (past : List Entry) (w g : ℕ → Bool) (table : ℕ → Option IdRecord) (id p : ℕ)
+    → TableMatches past w g table
     → place_of (id_state past id) ≡ Some p → w p ≡ true → reply_in (table id) ≡ None → answer past p ≡ None
-missing_answer past w g table id p t at wanted none = by_state (id_state past id) (reads past id) at (ap reply_in (sym (t id)) ∙ none)
+missing_answer past w g table id p t at wanted none = by_state (id_state past id) (reads past id) at
+    (ap reply_in (sym (t id)) ∙ none)
   where
-    by_state : (x : IdState) → ReadsId past id x → place_of x ≡ Some p → reply_in (stand w g x) ≡ None → answer past p ≡ None
+    by_state : (x : IdState) → ReadsId past id x → place_of x ≡ Some p → reply_in (stand w g x) ≡ None → answer past p
+        ≡ None
     by_state Free r at none = absurd cc
     by_state (Pending q a was_sent) r at none = (let same : q ≡ p = cc in ap (answer past) (sym same) ∙ r.1)
     by_state (Replied q a z) r at none =
@@ -62,7 +67,8 @@ missing_answer past w g table id p t at wanted none = by_state (id_state past id
         let clash : ◌≡◌ {A = Option Reply} (Some z) None = rw here at none in absurd cc)
 
 -- a ticket that a lane has is one that the core counts
-pub ticket_counts : (past : List Entry) (w g : ℕ → Bool) (table : ℕ → Option IdRecord) (id p : ℕ) → Tabled past w g table
+pub ticket_counts : (past : List Entry) (w g : ℕ → Bool) (table : ℕ → Option IdRecord) (id p : ℕ)
+    → TableMatches past w g table
     → place_of (id_state past id) ≡ Some p → w p ≡ true → is_ticket (table id) ≡ true
 ticket_counts past w g table id p t at wanted = ap is_ticket (t id) ∙ by_state (id_state past id) at
   where
@@ -73,9 +79,11 @@ ticket_counts past w g table id p t at wanted = ap is_ticket (t id) ∙ by_state
 
 -- and a grant alike
 pub grant_counts : (past : List Entry) (w g : ℕ → Bool) (table : ℕ → Option IdRecord) (id p : ℕ) (a : AskedRequest)
-    (handle : List ℕ) → Tabled past w g table → id_state past id ≡ Replied p a (reply.Handle handle) → w p ≡ false → g p
+    (handle : List ℕ) → TableMatches past w g table → id_state past id ≡ Replied p a (reply.Handle handle) → w p ≡ false
+    → g p
     ≡ true → table id ≡ Some (Granted handle 1)
-grant_counts past w g table id p a handle t at none some = t id ∙ ap (stand w g) at ∙ polled_handle w g p a handle none some
+grant_counts past w g table id p a handle t at none some = t id ∙ ap (stand w g) at
+    ∙ polled_handle w g p a handle none some
 
 -- another place is among the same
 pub among_other : (past : List Entry) (places : ℕ → List ℕ) (lane q : ℕ) (now : List ℕ) → is_in q now
@@ -88,12 +96,14 @@ among_other past places lane q now same = by_state (asked_at past q)
       | inr t ↦ rw t.0 refl
     ]
 
-    by_who : (o : Owner) → by_owner o (λ l. is_in q (places l)) ≡ by_owner o (λ l. is_in q (if lane == l then now else places l))
+    by_who : (o : Owner) → by_owner o (λ l. is_in q (places l))
+        ≡ by_owner o (λ l. is_in q (if lane == l then now else places l))
     by_who (owner.Call l c) = by_lane l
     by_who owner.Setup = refl
     by_who owner.Close = refl
 
-    by_state : (x : Option AskedRequest) → by_asker x (λ l. is_in q (places l)) ≡ by_asker x (λ l. is_in q (if lane == l then now else places l))
+    by_state : (x : Option AskedRequest) → by_asker x (λ l. is_in q (places l))
+        ≡ by_asker x (λ l. is_in q (if lane == l then now else places l))
     by_state None = refl
     by_state (Some a) = by_who a.by
 
@@ -121,33 +131,41 @@ pub spent_tabled : (past : List Entry) (tickets grants : ℕ → List ℕ) (lane
     (table now : ℕ → Option IdRecord) → asked_at past p ≡ Some a → is_of a.by lane ≡ true → IsRising (tickets lane)
     → slice_get (tickets lane) k ≡ Some p
     → place_of (id_state past id) ≡ Some p
-    → now id ≡ stand (λ q. among past (with_places tickets lane (without k (tickets lane))) q)
+    → now id ≡ stand (λ q. among past (with_places tickets lane (without_index k (tickets lane))) q)
     (λ q. among past grants q) (id_state past id) → ((i : ℕ) → i ≢ id → now i ≡ table i)
-    → Tabled past (among past tickets) (among past grants) table
-    → Tabled past (among past (with_places tickets lane (without k (tickets lane)))) (among past grants) now
+    → TableMatches past (among past tickets) (among past grants) table
+    → TableMatches past (among past (with_places tickets lane (without_index k (tickets lane)))) (among past grants) now
 spent_tabled past tickets grants lane k id p a table now at mine rising here borne is elsewhere t =
-    spend_tabled past (among past tickets) (among past (with_places tickets lane (without k (tickets lane))))
+    spend_tabled past (among past tickets) (among past (with_places tickets lane (without_index k (tickets lane))))
     (among past grants) (among past grants) table now id p borne is elsewhere
-    (λ q ne. (among_other past tickets lane q (without k (tickets lane)) (without_other (tickets lane) k p q here ne), refl)) t
+    (λ q ne. (
+      among_other past tickets lane q (without_index k (tickets lane))
+          (without_other (tickets lane) k p q here ne),
+      refl,
+    )) t
 
 -- what is wanted no more
-pub spent_unwanted : (past : List Entry) (tickets : ℕ → List ℕ) (lane k p : ℕ) (a : AskedRequest) → asked_at past p ≡ Some a
+pub spent_unwanted : (past : List Entry) (tickets : ℕ → List ℕ) (lane k p : ℕ) (a : AskedRequest) → asked_at past p
+    ≡ Some a
     → is_of a.by lane ≡ true → IsRising (tickets lane) → slice_get (tickets lane) k ≡ Some p
-    → among past (with_places tickets lane (without k (tickets lane))) p ≡ false
+    → among past (with_places tickets lane (without_index k (tickets lane))) p ≡ false
 spent_unwanted past tickets lane k p a at mine rising here =
-    among_self past (with_places tickets lane (without k (tickets lane))) lane p a at mine
-    ∙ (ap (is_in p) (now_places tickets lane (without k (tickets lane)))
+    among_self past (with_places tickets lane (without_index k (tickets lane))) lane p a at mine
+    ∙ (ap (is_in p) (now_places tickets lane (without_index k (tickets lane)))
     ∙ without_self (tickets lane) k p rising here)
 
 -- A HANDLE was polled: the ticket is gone, and its place has a grant.
-pub granted_tabled : (past : List Entry) (tickets grants : ℕ → List ℕ) (lane k id p : ℕ) (a b : AskedRequest) (handle : List ℕ)
+pub granted_tabled : (past : List Entry) (tickets grants : ℕ → List ℕ) (lane k id p : ℕ) (a b : AskedRequest)
+    (handle : List ℕ)
     (table now : ℕ → Option IdRecord) → asked_at past p ≡ Some a → is_of a.by lane ≡ true → IsRising (tickets lane)
     → slice_get (tickets lane) k ≡ Some p
-    → id_state past id ≡ Replied p b (reply.Handle handle) → now id ≡ Some (Granted handle 1) → ((i : ℕ) → i ≢ id → now i ≡ table i)
-    → Tabled past (among past tickets) (among past grants) table
-    → Tabled past (among past (with_places tickets lane (without k (tickets lane)))) (among past (with_places grants lane (grants lane ++ p ∷ []))) now
+    → id_state past id ≡ Replied p b (reply.Handle handle) → now id ≡ Some (Granted handle 1)
+    → ((i : ℕ) → i ≢ id → now i ≡ table i)
+    → TableMatches past (among past tickets) (among past grants) table
+    → TableMatches past (among past (with_places tickets lane (without_index k (tickets lane))))
+    (among past (with_places grants lane (grants lane ++ p ∷ []))) now
 granted_tabled past tickets grants lane k id p a b handle table now at mine rising here came is elsewhere t =
-    let w : ℕ → Bool = among past (with_places tickets lane (without k (tickets lane))) in
+    let w : ℕ → Bool = among past (with_places tickets lane (without_index k (tickets lane))) in
     let h : ℕ → Bool = among past (with_places grants lane (grants lane ++ p ∷ [])) in
     let none : w p ≡ false = spent_unwanted past tickets lane k p a at mine rising here in
     let some : h p ≡ true = among_self past (with_places grants lane (grants lane ++ p ∷ [])) lane p a at mine
@@ -155,6 +173,6 @@ granted_tabled past tickets grants lane k id p a b handle table now at mine risi
     spend_tabled past (among past tickets) w (among past grants) h table now id p (ap place_of came)
     (is ∙ sym (ap (stand w h) came ∙ polled_handle w h p b handle none some)) elsewhere
     (λ q ne. (
-      among_other past tickets lane q (without k (tickets lane)) (without_other (tickets lane) k p q here ne),
+      among_other past tickets lane q (without_index k (tickets lane)) (without_other (tickets lane) k p q here ne),
       among_other past grants lane q (grants lane ++ p ∷ []) (push_other (grants lane) p q ne),
     )) t

@@ -5,9 +5,9 @@ use Rattle.sftp_model.specs.declared.reply.Reply.{Reply}
 use Rattle.sftp_model.specs.declared.slot.Site.{Site}
 use Rattle.plan_runner.specs.declared.next.Running.{Running}
 use Rattle.session_model.specs.declared.entry.Entry.{Entry}
-use Rattle.session_model.specs.Readings.{AskedRequest, answer, asked_at, ended, own}
+use Rattle.session_model.specs.Readings.{AskedRequest, answer, asked_at, count_ended, own}
 use Rattle.session_model.specs.Calls.{Setting, current, site_of}
-use Rattle.session_model.specs.Grants.{any_below, is_held, closed, holds, is_asked_by, is_granted, is_one_of}
+use Rattle.session_model.specs.Grants.{any_below, is_held, closed_grants, holds, is_asked_by, is_granted, is_one_of}
 use Rattle.session_model.specs.Ids.{Replied, id_state}
 use Rattle.session_laws.specs.Lanes.{
   AllOf,
@@ -26,7 +26,7 @@ use Rattle.session_laws.specs.Lanes.{
 }
 use Rattle.session_laws.specs.Places.{is_in}
 use Rattle.session_laws.specs.Tables.{place_of}
-use Rattle.session_laws.specs.Dues.{AllDue, Dues}
+use Rattle.session_laws.specs.Dues.{AllDue, AreDueGrants}
 use Rattle.session_laws.proofs.CancelLaws.{cancel_by}
 use Rattle.session_laws.proofs.RunningLaws.{tied_by}
 use Rattle.sftp_model.specs.declared.reply.Reply.TheVariants as reply
@@ -38,11 +38,11 @@ pub record Same (s : Setting) (past now : List Entry) (w : ℕ) : Type 0 where
       → id_state now i ≡ Replied p a (reply.Handle handle)
   pub asks : (p : ℕ) → asked_at now p ≡ asked_at past p
   pub answers : (p : ℕ) → answer now p ≡ answer past p
-  pub ends : ended now w ≡ ended past w
+  pub ends : count_ended now w ≡ count_ended past w
   pub calls : current s past w ≢ None → current s now w ≡ current s past w
   pub site : site_of s now w ≡ site_of s past w
-  pub owns : own now w (ended now w) ≡ own past w (ended past w)
-  pub gone : closed s now ≡ closed s past
+  pub owns : own now w (count_ended now w) ≡ own past w (count_ended past w)
+  pub gone : closed_grants s now ≡ closed_grants s past
   pub holders : (g : ℕ) → holds s now g w ≡ holds s past g w
 
 pub tickets_same : (past now : List Entry) (ts : List Ticketed)
@@ -51,19 +51,29 @@ tickets_same past now [] same all = tt
 tickets_same past now (t ∷ ts) same all = (same t.ticket ∙ all.0, tickets_same past now ts same all.1)
 
 pub grants_same : (past now : List Entry) (gs : List Held) →
-    ((i p : ℕ) (a : AskedRequest) (handle : List ℕ) → id_state past i ≡ Replied p a (reply.Handle handle) → id_state now i
+    ((i p : ℕ) (a : AskedRequest) (handle : List ℕ) → id_state past i ≡ Replied p a (reply.Handle handle)
+    → id_state now i
     ≡ Replied p a (reply.Handle handle))
     → GrantsTied past gs → GrantsTied now gs
 grants_same past now [] same all = tt
-grants_same past now (g ∷ gs) same all = ((all.0.0, same g.grant.id g.place all.0.0 g.grant.handle all.0.1), grants_same past now gs same all.1)
+grants_same past now (g ∷ gs) same all = (
+  (all.0.0, same g.grant.id g.place all.0.0 g.grant.handle all.0.1),
+  grants_same past now gs same all.1,
+)
 
-pub of_same : (past now : List Entry) (lane : ℕ) (ps : List ℕ) → ((p : ℕ) → asked_at now p ≡ asked_at past p) → AllOf past lane ps → AllOf now lane ps
+pub of_same : (past now : List Entry) (lane : ℕ) (ps : List ℕ) → ((p : ℕ) → asked_at now p ≡ asked_at past p)
+    → AllOf past lane ps → AllOf now lane ps
 of_same past now lane [] same all = tt
-of_same past now lane (p ∷ ps) same all = ((all.0.0, (same p ∙ all.0.1.0, all.0.1.1)), of_same past now lane ps same all.1)
+of_same past now lane (p ∷ ps) same all = (
+  (all.0.0, (same p ∙ all.0.1.0, all.0.1.1)),
+  of_same past now lane ps same all.1,
+)
 
 -- what the lane has of tickets and grants, where no more of its grants are due than before
-pub holds_same : (s : Setting) (past now : List Entry) (w : ℕ) (ts : List Ticketed) (gs : List Held) (dues rest : List ℕ) → Same s past now w
-    → ((g : ℕ) → is_in g (grant_places gs) ≡ true → is_in g rest ≡ false → is_in g dues ≡ false) → LaneHolds s past w ts gs dues → LaneHolds s now w ts gs rest
+pub holds_same : (s : Setting) (past now : List Entry) (w : ℕ) (ts : List Ticketed) (gs : List Held)
+    (dues rest : List ℕ) → Same s past now w
+    → ((g : ℕ) → is_in g (grant_places gs) ≡ true → is_in g rest ≡ false → is_in g dues ≡ false)
+    → LaneHolds s past w ts gs dues → LaneHolds s now w ts gs rest
 holds_same s past now w ts gs dues rest k less h =
     record {
       tied = tickets_same past now ts k.places h.tied;
@@ -73,7 +83,7 @@ holds_same s past now w ts gs dues rest k less h =
       held_of = of_same past now w (grant_places gs) k.asks h.held_of;
       held_rise = h.held_rise;
       apart = h.apart;
-      asks = λ p mine none. h.asks p (ap (λ x. is_asked_by x w (ended past w)) (sym (k.asks p))
+      asks = λ p mine none. h.asks p (ap (λ x. is_asked_by x w (count_ended past w)) (sym (k.asks p))
           ∙ (ap (λ (n : ℕ). is_asked_by (asked_at now p) w n) (sym k.ends) ∙ mine)) (sym (k.answers p) ∙ none);
       whole = λ g granted unclosed holder out. h.whole g (ap is_granted (sym (k.answers g)) ∙ granted)
           (ap (λ c. is_one_of c g) (sym k.gone) ∙ unclosed) (sym (k.holders g) ∙ holder) out;
@@ -122,7 +132,8 @@ lane_same s past now w v dues rest k less l =
     }
 
 -- what is due
-pub dues_same : (s : Setting) (past now : List Entry) (dues : List ℕ) → ((w : ℕ) → Same s past now w) → Dues s past dues → Dues s now dues
+pub dues_same : (s : Setting) (past now : List Entry) (dues : List ℕ) → ((w : ℕ) → Same s past now w)
+    → AreDueGrants s past dues → AreDueGrants s now dues
 dues_same s past now dues k d =
     record {
       each = λ g granted unclosed out. held g ∙ d.each g (ap is_granted (sym ((k 0).answers g)) ∙ granted)

@@ -1,7 +1,7 @@
 -- A session on runners, as what is queued is sent.
 use Rattle.std.proofs.Common.{◌≡◌, ℕ, List, ◌∷◌, refl, ap}
 use Rattle.std.specs.Option.{option_map}
-use Rattle.sftp_core.specs.Core.{Core, at}
+use Rattle.sftp_core.specs.Core.{Core, record_at}
 use Rattle.sftp_core.specs.Table.{sent_record}
 use Rattle.session_model.specs.declared.event.Event.TheVariants.{Send}
 use Rattle.session_model.specs.declared.entry.Entry.{Entry}
@@ -36,9 +36,11 @@ send_same s past w =
 
 -- What was queued is sent.
 pub send_tied : (s : Setting) (past : List Entry) (core now : Core) (lanes : ℕ → LaneValue) (dues : List ℕ)
-    → CoreTied s (entry.Event Send ∷ past) now → ((id : ℕ) → at now id ≡ option_map sent_record (at core id))
+    → CoreTied s (entry.Event Send ∷ past) now → ((id : ℕ) → record_at now id
+    ≡ option_map sent_record (record_at core id))
     → SessionTied s past core lanes dues → SessionTied s (entry.Event Send ∷ past) now lanes dues
 send_tied s past core now lanes dues work sends h =
     same_tied s past (entry.Event Send ∷ past) core now lanes dues work
-    (send_tabled past (among past (tickets_of lanes)) (among past (grants_of lanes)) (at core) (at now) sends
+    (send_tabled past (among past (tickets_of lanes)) (among past (grants_of lanes)) (record_at core) (record_at now)
+    sends
     h.table) (send_same s past) h

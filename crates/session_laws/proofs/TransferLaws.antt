@@ -6,9 +6,9 @@ use Rattle.sftp_model.specs.declared.reply.Reply.{Reply}
 use Rattle.sftp_model.specs.declared.reply.Reply.TheVariants as reply
 use Rattle.sftp_model.specs.declared.request.Request.{Request}
 use Rattle.sftp_model.specs.declared.request.Request.TheVariants as request
-use Rattle.sftp_model.specs.Answers.{allows, is_handle, may_answer}
+use Rattle.sftp_model.specs.Answers.{allows_reply, is_handle, may_answer}
 use Rattle.session_model.specs.declared.entry.Entry.{Entry}
-use Rattle.session_model.specs.Readings.{AskedRequest, answer, asked, asked_at}
+use Rattle.session_model.specs.Readings.{AskedRequest, answer, count_submitted, asked_at}
 use Rattle.session_model.specs.Calls.{Setting}
 use Rattle.session_model.specs.Grants.{is_grant, is_granted}
 use Rattle.session_model.specs.Journals.{IsJournal}
@@ -19,23 +19,29 @@ use Rattle.session_laws.specs.Rest.{IsTransferAt, is_transfer}
 -- ---- its place
 
 -- what was asked stands below
-pub place_below : (past : List Entry) (p : ℕ) (a : AskedRequest) → asked_at past p ≡ Some a → p < asked past
-place_below past p a is = elim (cases_lt p (asked past)) [
+pub place_below : (past : List Entry) (p : ℕ) (a : AskedRequest) → asked_at past p ≡ Some a → p < count_submitted past
+place_below past p a is = elim (cases_lt p (count_submitted past)) [
   | inl lt ↦ lt
-  | inr le ↦ absurd (let none : asked_at past p ≡ None = asked_beyond past p le in let clash : ◌≡◌ {A = Option AskedRequest} None (Some a) = sym none ∙ is in cc)
+  | inr le ↦ absurd (let none : asked_at past p ≡ None = asked_beyond past p le in
+      let clash : ◌≡◌ {A = Option AskedRequest} None (Some a) = sym none ∙ is in cc)
 ]
 
 -- the request stays at its place
-pub transfer_on : (past now : List Entry) (p : ℕ) → ((q : ℕ) → q < asked past → asked_at now q ≡ asked_at past q) → IsTransferAt past p → IsTransferAt now p
-transfer_on past now p same t = record { asked = t.asked; here = same p (place_below past p t.asked t.here) ∙ t.here; transfers = t.transfers }
+pub transfer_on : (past now : List Entry) (p : ℕ) → ((q : ℕ) → q < count_submitted past → asked_at now q
+    ≡ asked_at past q) → IsTransferAt past p → IsTransferAt now p
+transfer_on past now p same t = record {
+  asked = t.asked;
+  here = same p (place_below past p t.asked t.here) ∙ t.here;
+  transfers = t.transfers;
+}
 
 -- ---- its reply
 
-content_plain : (len : ℕ) (r : Reply) → allows (expected.Content len) r ≡ true → is_handle r ≡ false
+content_plain : (len : ℕ) (r : Reply) → allows_reply (expected.Content len) r ≡ true → is_handle r ≡ false
 content_plain len (reply.Handle handle) may = absurd cc
 content_plain len other may = refl
 
-status_plain : (r : Reply) → allows expected.Status r ≡ true → is_handle r ≡ false
+status_plain : (r : Reply) → allows_reply expected.Status r ≡ true → is_handle r ≡ false
 status_plain (reply.Handle handle) may = absurd cc
 status_plain other may = refl
 
@@ -46,7 +52,8 @@ transfer_plain (request.Write handle offset content) r is may = status_plain r m
 transfer_plain other r is may = absurd cc
 
 -- so none came at its place
-pub transfer_ungranted : (s : Setting) (past : List Entry) (p : ℕ) → IsJournal s past → IsTransferAt past p → is_grant past p ≡ false
+pub transfer_ungranted : (s : Setting) (past : List Entry) (p : ℕ) → IsJournal s past → IsTransferAt past p
+    → is_grant past p ≡ false
 transfer_ungranted s past p j t = by_reply (answer past p) refl
   where
     by_reply : (y : Option Reply) → answer past p ≡ y → is_granted y ≡ false

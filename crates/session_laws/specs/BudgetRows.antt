@@ -1,4 +1,4 @@
--- Worked values of what calls may keep.
+-- Worked values of how many ids calls may keep.
 use Rattle.std.specs.Prelude.{◌≡◌, List, [], ◌∷◌, Option, Some, None, codes, refl}
 use Rattle.sftp_model.specs.declared.slot.Facts.{Facts}
 use Rattle.plan_model.specs.PlanWords.{facts}
@@ -8,15 +8,15 @@ use Rattle.plan_model.specs.declared.call.Call.{Call}
 use Rattle.plan_model.specs.declared.call.Call.TheVariants as call
 use Rattle.session_laws.specs.Budgets.{budget, budgets, in_hand}
 
--- a session with eight READs under way at the most
+-- A session with at most eight READs under way.
 abbrev pub eight : Facts
 eight = facts 0 4 2 4 8
 
--- a lane reads from a file, reads another as a whole and looks at it
+-- A lane reads from a file, reads another as a whole and asks for its attributes.
 abbrev pub calls : List Call
 calls = call.Read 0 4 ∷ call.FsRead (codes "b") 100 ∷ call.Stat (codes "b") ∷ []
 
--- the whole read, with two READs under way
+-- The whole read, with two READs under way.
 abbrev pub reading : Option Running
 reading =
     Some (running.ReadingWhole 3 100
@@ -26,26 +26,26 @@ reading =
           { place = 5; offset = 4; len = 4 } ∷ [];
     }))
 
--- a whole read may keep nine ids, one of them for its handle
+-- A whole read may keep nine ids, one of them for its handle.
 pub whole_read : budget (call.FsRead (codes "b") 100) eight ≡ 9
 whole_read = refl
 
--- bytes that are left to a buffered file one each, and two more
+-- A write of bytes that are left to a buffered file may keep one id for each byte, and two more.
 pub buffered : budget (call.BufWriteAll 0 (codes "abc")) eight ≡ 5
 buffered = refl
 
--- any other call two
+-- Any other call may keep two.
 pub written : budget (call.FsWrite (codes "b") (codes "abc")) eight ≡ 2
 written = refl
 
--- a lane keeps the budgets of its ended calls
+-- A lane keeps the budgets of its ended calls.
 pub two_ended : budgets eight calls 2 ≡ 11
 two_ended = refl
 
 pub more_than_there_are : budgets eight calls 9 ≡ 13
 more_than_there_are = refl
 
--- and of the running call no more than it made, or the READs that it has under way
+-- Of the running call it keeps no more than that made, or the READs that it has under way.
 pub idle : in_hand 9 None 7 ≡ 0
 idle = refl
 

@@ -1,4 +1,4 @@
--- What a turn makes of one lane, and what must hold for it.
+-- Effects of a turn on one lane, and their preconditions.
 use Rattle.std.specs.Prelude.{
   ◌≡◌,
   ◌+◌,
@@ -25,11 +25,11 @@ use Rattle.plan_runner.specs.declared.next.Running.{Running}
 use Rattle.plan_model.specs.declared.call.Call.{Call}
 use Rattle.session_model.specs.declared.event.Event.TheVariants.{Send, Submit, Take}
 use Rattle.session_model.specs.declared.entry.Entry.{Entry}
-use Rattle.session_model.specs.Readings.{AskedRequest, answer, asked_at, ended, own}
+use Rattle.session_model.specs.Readings.{AskedRequest, answer, asked_at, count_ended, own}
 use Rattle.session_model.specs.Calls.{Setting, site_of}
-use Rattle.session_model.specs.Grants.{closed, holds, is_grant, is_one_of}
+use Rattle.session_model.specs.Grants.{closed_grants, holds, is_grant, is_one_of}
 use Rattle.session_model.specs.Ids.{Replied, id_state}
-use Rattle.session_laws.specs.Places.{IsBelow, IsRising, is_in, with_places, without}
+use Rattle.session_laws.specs.Places.{IsBelow, IsRising, is_in, with_places, without_index}
 use Rattle.session_laws.specs.Tables.{place_of}
 use Rattle.session_laws.specs.Lanes.{
   AllOf,
@@ -47,56 +47,56 @@ use Rattle.session_model.specs.declared.event.Owner.TheVariants as owner
 use Rattle.session_model.specs.declared.entry.Entry.TheVariants as entry
 use Rattle.sftp_model.specs.declared.reply.Reply.TheVariants as reply
 
--- this lane is so now
+-- The lanes with this value for one lane.
 abbrev pub with_lane : (ℕ → LaneValue) → ℕ → LaneValue → ℕ → LaneValue
 with_lane lanes lane v w = if lane == w then v else lanes w
 
--- ---- a ticket is spent: its reply was polled, or it was dropped
+-- ---- A ticket is consumed: its reply was polled, or it was dropped
 
--- the places that are wanted without the ticket at an index
+-- True for the places that are still awaited without the ticket at an index.
 abbrev pub wants_but : List Entry → (ℕ → LaneValue) → ℕ → ℕ → ℕ → Bool
 wants_but past lanes lane k = among past (with_places (tickets_of lanes) lane
-    (without k (ticket_places (lanes lane).tickets)))
+    (without_index k (ticket_places (lanes lane).tickets)))
 
--- the lane without it
+-- The lane without that ticket.
 abbrev pub spent_lane : LaneValue → ℕ → Option Running → Site → LaneValue
 spent_lane v k running site = record {
   running = running;
   site = site;
-  tickets = without k v.tickets;
+  tickets = without_index k v.tickets;
   grants = v.grants;
   ended = v.ended;
 }
 
--- ---- a HANDLE is polled
+-- ---- A HANDLE is polled
 
--- the grant that a ticket brought
-abbrev pub brought : Ticketed → List ℕ → Held
-brought t handle = record { place = t.place; grant = record { id = t.ticket; handle = handle } }
+-- The grant that a ticket brought.
+abbrev pub grant_of_ticket : Ticketed → List ℕ → Held
+grant_of_ticket t handle = record { place = t.place; grant = record { id = t.ticket; handle = handle } }
 
--- the lane with it
+-- The lane with that grant.
 abbrev pub granted_lane : LaneValue → ℕ → Ticketed → List ℕ → Option Running → Site → LaneValue
 granted_lane v k t handle running site = record {
   running = running;
   site = site;
-  tickets = without k v.tickets;
-  grants = v.grants ++ brought t handle ∷ [];
+  tickets = without_index k v.tickets;
+  grants = v.grants ++ grant_of_ticket t handle ∷ [];
   ended = v.ended;
 }
 
--- The handle came for a request that stands behind those of the lane's grants. The lane holds the grant, or it is due.
-pub record Brought (s : Setting) (past : List Entry) (lane : ℕ) (gs : List Held) (dues : List ℕ) (t : Ticketed)
+-- The handle came for a request after those of the lane's grants. The lane holds the grant, or it is due.
+pub record BringsHandle (s : Setting) (past : List Entry) (lane : ℕ) (gs : List Held) (dues : List ℕ) (t : Ticketed)
     (handle : List ℕ) : Type 0 where
   pub asked : AskedRequest
   pub came : id_state past t.ticket ≡ Replied t.place asked (reply.Handle handle)
   pub got : answer past t.place ≡ Some (reply.Handle handle)
-  pub unclosed : is_one_of (closed s past) t.place ≡ false
+  pub unclosed : is_one_of (closed_grants s past) t.place ≡ false
   pub holder : is_in t.place dues ≡ false → holds s past t.place lane ≡ true
   pub newer : IsBelow t.place (grant_places gs)
 
--- ---- a request is submitted
+-- ---- A request is submitted
 
--- the lane with its newest ticket, and the grants that are left
+-- The lane with its newest ticket, and the grants that are left.
 abbrev pub asking_lane : LaneValue → ℕ → ℕ → List Held → Running → Site → LaneValue
 asking_lane v place id left r site = record {
   running = Some r;
@@ -107,48 +107,48 @@ asking_lane v place id left r site = record {
   ended = v.ended;
 }
 
--- if the id has a place, it is none of these
+-- If the id has a place, it is none of these.
 abbrev pub IsBare : List Entry → ℕ → List ℕ → Type 0
 IsBare past id ps = (p : ℕ) → place_of (id_state past id) ≡ Some p → is_in p ps ≡ false
 
--- The grants that are left after a request: all, or all but the one whose CLOSE it is.
+-- The grants that are left after a request: all, or all except the one whose CLOSE it is.
 pub record GrantsLeft (s : Setting) (past : List Entry) (e : Entry) (lane : ℕ) (gs left : List Held)
     (dues rest : List ℕ) : Type 0 where
   pub held : GrantsTied past left
   pub held_of : AllOf past lane (grant_places left)
   pub held_rise : IsRising (grant_places left)
   pub some : (q : ℕ) → is_in q (grant_places left) ≡ true → is_in q (grant_places gs) ≡ true
-  pub gone : (q : ℕ) → is_in q (grant_places left) ≡ false → is_one_of (closed s (e ∷ past)) q ≡ false
+  pub gone : (q : ℕ) → is_in q (grant_places left) ≡ false → is_one_of (closed_grants s (e ∷ past)) q ≡ false
       → is_in q (grant_places gs) ≡ false
-  pub unclosed : (q : ℕ) → is_in q (grant_places left) ≡ true → is_one_of (closed s (e ∷ past)) q ≡ false
-  pub less : (q : ℕ) → is_one_of (closed s (e ∷ past)) q ≡ false → is_one_of (closed s past) q ≡ false
+  pub unclosed : (q : ℕ) → is_in q (grant_places left) ≡ true → is_one_of (closed_grants s (e ∷ past)) q ≡ false
+  pub less : (q : ℕ) → is_one_of (closed_grants s (e ∷ past)) q ≡ false → is_one_of (closed_grants s past) q ≡ false
   pub holder : (q : ℕ) → is_in q (grant_places left) ≡ true → is_grant past q ≡ true → is_in q rest ≡ false
       → (is_in q dues ≡ false → holds s past q lane ≡ true) → holds s (e ∷ past) q lane ≡ true
 
--- the lane without the grant at an index
+-- The lane without the grant at an index.
 abbrev pub closed_lane : LaneValue → ℕ → LaneValue
 closed_lane v k = record {
   running = v.running;
   site = v.site;
   tickets = v.tickets;
-  grants = without k v.grants;
+  grants = without_index k v.grants;
   ended =
       v.ended;
 }
 
--- ---- a call ends
+-- ---- A call ends
 
--- the lane between its calls
+-- The lane between its calls.
 abbrev pub ended_lane : LaneValue → Site → LaneValue
 ended_lane v site = record { running = None; site = site; tickets = v.tickets; grants = v.grants; ended = v.ended + 1 }
 
--- ---- a lane is let go
+-- ---- A lane is released
 
--- the site with nothing in its slots
+-- The site with nothing in its slots.
 abbrev pub bare_site : Site → Site
 bare_site site = record { slots = fresh_site.slots; directory = site.directory }
 
--- the lane with nothing in its slots; its tickets and grants are still to be dropped and closed
+-- The lane with nothing in its slots; its tickets and grants are still to be dropped and closed.
 abbrev pub let_go_lane : LaneValue → LaneValue
 let_go_lane v = record {
   running = None;
@@ -159,24 +159,24 @@ let_go_lane v = record {
       v.ended;
 }
 
--- ---- the start
+-- ---- Start
 
--- a lane that has done nothing
+-- A lane that has done nothing.
 abbrev pub fresh_lane : LaneValue
 fresh_lane = record { running = None; site = fresh_site; tickets = []; grants = []; ended = 0 }
 
 -- Nothing has happened to a lane yet, and no handle has come.
-pub record Unbegun (s : Setting) (past : List Entry) : Type 0 where
-  pub ends : (lane : ℕ) → ended past lane ≡ 0
+pub record HasNoHistory (s : Setting) (past : List Entry) : Type 0 where
+  pub ends : (lane : ℕ) → count_ended past lane ≡ 0
   pub owns : (lane : ℕ) → own past lane 0 ≡ []
   pub asks : (p lane : ℕ) (a : AskedRequest) → asked_at past p ≡ Some a → is_of a.by lane ≡ false
   pub site : (lane : ℕ) → site_of s past lane ≡ fresh_site
   pub ungranted : (g : ℕ) → is_grant past g ≡ false
 
--- So it is with no entry, and behind a request of the session's own, a Send, a reply without a handle and a call that
+-- This holds with no entry, and after a request of the session's own, a Send, a reply without a handle and a call that
 -- is added.
 pub record StaysUnbegun (s : Setting) (past : List Entry) : Type 0 where
-  pub queried : (id : ℕ) (r : Request) → Unbegun s (entry.Event (Submit owner.Setup id r) ∷ past)
-  pub sent : Unbegun s (entry.Event Send ∷ past)
-  pub taken : (id : ℕ) (r : Reply) → is_handle r ≡ false → Unbegun s (entry.Event (Take id r) ∷ past)
-  pub added : (lane : ℕ) (c : Call) → Unbegun s (entry.Added lane c ∷ past)
+  pub queried : (id : ℕ) (r : Request) → HasNoHistory s (entry.Event (Submit owner.Setup id r) ∷ past)
+  pub sent : HasNoHistory s (entry.Event Send ∷ past)
+  pub taken : (id : ℕ) (r : Reply) → is_handle r ≡ false → HasNoHistory s (entry.Event (Take id r) ∷ past)
+  pub added : (lane : ℕ) (c : Call) → HasNoHistory s (entry.Added lane c ∷ past)

@@ -2,41 +2,41 @@
 use Rattle.std.proofs.Common.{◌≡◌, ◌<◌, ◌==◌, ℕ, zero, suc, Bool, true, false, List, [], ◌∷◌, if◌then◌else◌, refl}
 use Rattle.std.specs.List.{list_any}
 
--- each of these is greater
+-- Each of these is greater.
 abbrev pub IsAbove : ℕ → List ℕ → Type 0
 IsAbove g [] = Unit {0}
 IsAbove g (h ∷ hs) = (g < h) × IsAbove g hs
 
--- each of these is less
+-- Each of these is less.
 abbrev pub IsBelow : ℕ → List ℕ → Type 0
 IsBelow p [] = Unit {0}
 IsBelow p (h ∷ hs) = (h < p) × IsBelow p hs
 
--- each is greater than the one before
+-- Each is greater than the one before.
 abbrev pub IsRising : List ℕ → Type 0
 IsRising [] = Unit {0}
 IsRising (g ∷ gs) = IsAbove g gs × IsRising gs
 
--- the place is one of these
+-- True if the place is one of these.
 abbrev pub is_in : ℕ → List ℕ → Bool
 is_in g gs = list_any (λ h. h == g) gs
 
--- the list without what stands at an index
-abbrev pub without : {A : Type 0} → ℕ → List A → List A
-without k [] = []
-without zero (p ∷ ps) = ps
-without (suc k) (p ∷ ps) = p ∷ without k ps
+-- The list without the item at an index.
+abbrev pub without_index : {A : Type 0} → ℕ → List A → List A
+without_index k [] = []
+without_index zero (p ∷ ps) = ps
+without_index (suc k) (p ∷ ps) = p ∷ without_index k ps
 
--- the places of a lane are these now
+-- The places with these for one lane.
 abbrev pub with_places : (ℕ → List ℕ) → ℕ → List ℕ → ℕ → List ℕ
 with_places places lane now w = if lane == w then now else places w
 
--- ---- worked rows
+-- ---- Worked rows
 
-third_of_three : without {A = ℕ} 2 (4 ∷ 7 ∷ 9 ∷ []) ≡ 4 ∷ 7 ∷ []
+third_of_three : without_index {A = ℕ} 2 (4 ∷ 7 ∷ 9 ∷ []) ≡ 4 ∷ 7 ∷ []
 third_of_three = refl
 
-none_beyond : without {A = ℕ} 5 (4 ∷ 7 ∷ []) ≡ 4 ∷ 7 ∷ []
+none_beyond : without_index {A = ℕ} 5 (4 ∷ 7 ∷ []) ≡ 4 ∷ 7 ∷ []
 none_beyond = refl
 
 one_of_two : is_in 7 (4 ∷ 7 ∷ []) ≡ true

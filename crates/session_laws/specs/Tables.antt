@@ -1,4 +1,5 @@
--- What a core keeps under each id, by the journal and by the places that the lanes have tickets and grants of.
+-- The records that a core keeps under each id, by the journal and by the places that the lanes have tickets and grants
+-- of.
 use Rattle.std.specs.Prelude.{◌≡◌, ℕ, Bool, true, false, List, Option, Some, None}
 use Rattle.sftp_model.specs.Answers.{expected_of}
 use Rattle.sftp_model.specs.declared.answers.Expected.{Expected}
@@ -10,22 +11,22 @@ use Rattle.session_model.specs.Ids.{IdState, Free, Pending, Replied, id_state}
 use Rattle.sftp_model.specs.declared.reply.Reply.TheVariants as reply
 
 -- A reply that a lane has a ticket for is kept for it. A handle that a lane has as a grant is a grant with one user.
-abbrev pub replied : Bool → Bool → Expected → Reply → Option IdRecord
-replied true granted expected r = Some (Answered expected r)
-replied false true expected (reply.Handle handle) = Some (Granted handle 1)
-replied false true expected other = None
-replied false false expected r = None
+abbrev pub record_of_reply : Bool → Bool → Expected → Reply → Option IdRecord
+record_of_reply true granted expected r = Some (Answered expected r)
+record_of_reply false true expected (reply.Handle handle) = Some (Granted handle 1)
+record_of_reply false true expected other = None
+record_of_reply false false expected r = None
 
--- what stands under an id, by its last request
+-- The record under an id, by its last request.
 abbrev pub stand : (ℕ → Bool) → (ℕ → Bool) → IdState → Option IdRecord
 stand wanted granted Free = None
 stand wanted granted (Pending place a was_sent) = Some (Waiting (expected_of a.request) was_sent (wanted place))
-stand wanted granted (Replied place a r) = replied (wanted place) (granted place) (expected_of a.request) r
+stand wanted granted (Replied place a r) = record_of_reply (wanted place) (granted place) (expected_of a.request) r
 
-abbrev pub Tabled : List Entry → (ℕ → Bool) → (ℕ → Bool) → (ℕ → Option IdRecord) → Type 0
-Tabled past wanted granted table = (id : ℕ) → table id ≡ stand wanted granted (id_state past id)
+abbrev pub TableMatches : List Entry → (ℕ → Bool) → (ℕ → Bool) → (ℕ → Option IdRecord) → Type 0
+TableMatches past wanted granted table = (id : ℕ) → table id ≡ stand wanted granted (id_state past id)
 
--- ---- the place of an id
+-- ---- The place of an id
 
 abbrev pub place_of : IdState → Option ℕ
 place_of Free = None

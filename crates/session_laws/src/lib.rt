@@ -1,4 +1,4 @@
-//! What a session of lanes keeps by its journal, and that each step keeps it: what is sent and taken, an end, a cancel,
-//! the CLOSE of a grant that is due, and a lane that is let go. Laws alone, generic in the calls; the definitions stand
-//! in `specs/`.
+//! Invariants of a session of lanes by its journal, and laws that each step keeps them: sends and takes, an end, a
+//! cancel, the CLOSE of a due grant, and the release of a lane. It has only laws, generic in the calls; the definitions
+//! are in `specs/`.
 #![tactic(auto)]

@@ -10,7 +10,8 @@ none_below f zero h = refl
 none_below f (suc n) h = rw (none_below f n (λ k lt. h k (omega arith)), h n (omega arith)) refl
 
 -- one number passes
-pub one_below : (f : ℕ → Bool) (n g : ℕ) → g < n → f g ≡ true → ((k : ℕ) → k ≢ g → f k ≡ false) → first_below f n ≡ Some g
+pub one_below : (f : ℕ → Bool) (n g : ℕ) → g < n → f g ≡ true → ((k : ℕ) → k ≢ g → f k ≡ false) → first_below f n
+    ≡ Some g
 one_below f zero g lt is others = absurd (omega arith)
 one_below f (suc n) g lt is others =
     elim (eqb_tells n g) [
@@ -20,7 +21,8 @@ one_below f (suc n) g lt is others =
     ]
 
 -- the first number that passes does, and none below it
-first_here : (f : ℕ → Bool) (b : Option ℕ) (n g : ℕ) → first_or b (f n) n ≡ Some g → (b ≡ Some g) ⊎ ((b ≡ None) × (n ≡ g) × (f n ≡ true))
+first_here : (f : ℕ → Bool) (b : Option ℕ) (n g : ℕ) → first_or b (f n) n ≡ Some g → (b ≡ Some g)
+    ⊎ ((b ≡ None) × (n ≡ g) × (f n ≡ true))
 first_here f (Some k) n g e = inl e
 first_here f None n g e = let h = by_test (f n) refl e in inr (refl, h.0, h.1)
   where

@@ -14,6 +14,6 @@ pub mod CallsSoFar
 pub mod RequestLaws
 pub mod RunLaws
 pub mod WholeRunLaws
-pub mod NoRuns
+mod NoRuns
 pub mod WithinLaws
 pub mod ReadsLaws

@@ -18,9 +18,12 @@ pub run_without_send : (turns : List Turn) → IsRun opens turns (close 0 (handl
 run_without_send turns run = let e = (runs_are_over opens turns (close 0 (handle 7) ∷ without_close) run).2 in absurd cc
 
 -- a second CLOSE
-pub run_with_two_closes : (turns : List Turn) → IsRun opens turns (close 1 (handle 7) ∷ close 0 (handle 7) ∷ without_close) → ⊥
-run_with_two_closes turns run = (runs_are_journals opens turns (close 1 (handle 7) ∷ close 0 (handle 7) ∷ without_close) run).0
+pub run_with_two_closes : (turns : List Turn) → IsRun opens turns
+    (close 1 (handle 7) ∷ close 0 (handle 7) ∷ without_close) → ⊥
+run_with_two_closes turns run = (runs_are_journals opens turns (close 1 (handle 7) ∷ close 0 (handle 7) ∷ without_close)
+    run).0
 
 -- the lane was not let go
 pub run_without_letting_go : (turns : List Turn) → IsRun s turns was_closed → ⊥
-run_without_letting_go turns run = let e : false ≡ true = (runs_are_over s turns was_closed run).0 0 (omega arith) in absurd cc
+run_without_letting_go turns run = let e : false ≡ true = (runs_are_over s turns was_closed run).0 0 (omega arith) in
+    absurd cc

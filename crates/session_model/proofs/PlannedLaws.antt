@@ -1,4 +1,5 @@
--- What the laws of the plans say of a lane's calls. A further call whose numbers have a range is one line of `planned_fits`.
+-- What the laws of the plans say of a lane's calls. A further call whose numbers have a range is one line of
+-- `planned_fits`.
 use Rattle.std.proofs.Common.{
   ◌≡◌,
   ◌≤◌,
@@ -44,7 +45,7 @@ use Rattle.sftp_model.specs.Fits.{FitsLong, FitsNumber, FitsSet}
 use Rattle.sftp_model.specs.Slots.{slot_at, with_slot, slot_has, has_grant}
 use Rattle.plan_model.specs.Moves.{Answers, Own, once_answered, done_by}
 use Rattle.plan_model.specs.FilePlans.{close_slot_next}
-use Rattle.plan_model.specs.GoodMoves.{FitsCall, WithinRange, ReadsWithin, IsBrought, ClosesGrant, brings, closes}
+use Rattle.plan_model.specs.GoodMoves.{FitsCall, WithinRange, ReadsWithin, IsBrought, ClosesGrant, MayBringGrant, MayCloseGrant}
 use Rattle.plan_model.proofs.CallLaws.{asks_good, done_holds}
 use Rattle.plan_model.proofs.CancelLaws.{cancelled_holds}
 use Rattle.plan_model.proofs.MoveLaws.{by_status}
@@ -55,7 +56,7 @@ use Rattle.plan_model.specs.declared.call.Call.{Call}
 use Rattle.plan_model.specs.declared.call.Call.TheVariants as call
 use Rattle.plan_model.specs.Lanes.{fits_u64, is_short, is_slot, is_some_long, is_within}
 use Rattle.session_model.specs.Calls.{held_by, move_at}
-use Rattle.plan_model.specs.CallPlans.{cancelled, next}
+use Rattle.plan_model.specs.CallPlans.{site_after_cancel, next}
 
 -- ---- the numbers of a call fit their fields
 
@@ -108,7 +109,8 @@ empty_less : (g : ℕ) (site : Site) (k : ℕ) → has_grant (with_slot site k E
 empty_less g site k e = elim (set_has g site.slots k Empty e) [ inl was ↦ was | inr is ↦ absurd cc ]
 
 -- within a call a lane holds no other grant
-pub held_less : (c : Option Call) (own : Own) (site : Site) (g : ℕ) → has_grant (held_by c own site) g ≡ true → has_grant site g ≡ true
+pub held_less : (c : Option Call) (own : Own) (site : Site) (g : ℕ) → has_grant (held_by c own site) g ≡ true
+    → has_grant site g ≡ true
 held_less None own site g e = e
 held_less (Some (call.Close slot)) [] site g e = e
 held_less (Some (call.Close slot)) (a ∷ later) site g e = empty_less g site slot e
@@ -126,7 +128,8 @@ held_more (Some other) true own new site g e = e
 -- ---- what a call leaves
 
 -- what a call brings came with its first request
-brought_first : (c : Call) (own : Own) (answers : Answers) (g : ℕ) → brings c own answers g → IsBrought own answers g
+brought_first : (c : Call) (own : Own) (answers : Answers) (g : ℕ) → MayBringGrant c own answers g
+    → IsBrought own answers g
 brought_first (call.OpenFile slot flags path) own answers g b = b
 brought_first (call.FsRead path bound) own answers g b = b
 brought_first (call.FsWrite path bytes) own answers g b = b
@@ -140,8 +143,10 @@ grant_left emptied place None o left is = absurd cc
 grant_left emptied place (Some r) o left is = by_status (λ m. m ≡ Done o left → emptied ≡ left) r emptied
     (Done outcome.Done emptied) (λ n same. cc) (λ same. cc) is
 
-close_has : (slot : ℕ) (site : Site) (a : ℕ × Request) (later : Own) (answers : Answers) (g : ℕ) (o : Outcome) (left : Site) (x : Slot) → slot_at site slot ≡ x
-    → close_slot_next slot site (a ∷ later) answers x ≡ Done o left → has_grant left g ≡ true → has_grant (with_slot site slot Empty) g ≡ true
+close_has : (slot : ℕ) (site : Site) (a : ℕ × Request) (later : Own) (answers : Answers) (g : ℕ) (o : Outcome)
+    (left : Site) (x : Slot) → slot_at site slot ≡ x
+    → close_slot_next slot site (a ∷ later) answers x ≡ Done o left → has_grant left g ≡ true
+    → has_grant (with_slot site slot Empty) g ≡ true
 close_has slot site a later answers g o left Empty at is h = let same : site ≡ left = cc in
     set_alike g site.slots slot Empty (ap (slot_has g) (sym at)) ∙ ap (λ y. has_grant y g) same ∙ h
 close_has slot site a later answers g o left (File file) at is h =
@@ -165,11 +170,12 @@ done_has c site facts own answers g o left is h =
     still : (d : Call) (asked : Own) → next d site facts asked answers ≡ Done o left → has_grant site g ≡ true
         → has_grant (held_by (Some d) asked site) g ≡ true
     still (call.Close slot) [] is was = was
-    still (call.Close slot) (a ∷ later) is was = close_has slot site a later answers g o left (slot_at site slot) refl is h
+    still (call.Close slot) (a ∷ later) is was = close_has slot site a later answers g o left (slot_at site slot) refl
+        is h
     still other asked is was = was
 
 pub cancelled_has : (c : Call) (site : Site) (facts : Facts) (own : Own) (answers : Answers) (g : ℕ)
-    → has_grant (cancelled c site facts own answers) g ≡ true → has_grant (held_by (Some c) own site) g ≡ true
+    → has_grant (site_after_cancel c site facts own answers) g ≡ true → has_grant (held_by (Some c) own site) g ≡ true
 cancelled_has (call.Close slot) site facts [] answers g e = e
 cancelled_has (call.Close slot) site facts (a ∷ later) answers g e = e
 cancelled_has other site facts own answers g e = cancelled_holds other site facts own answers g e
@@ -184,15 +190,17 @@ close_within other site facts own answers handle is = tt
 
 -- a call that asks for a CLOSE: a `close` whose slot alone has the grant
 abbrev pub AsksClose : Option Call → Site → Own → Answers → List ℕ → Type 0
-AsksClose c site own answers handle = (slot : ℕ) × ((c ≡ Some (call.Close slot)) × ClosesGrant slot site own answers handle)
+AsksClose c site own answers handle = (slot : ℕ) × ((c ≡ Some (call.Close slot))
+    × ClosesGrant slot site own answers handle)
 
 pub asks_close : (c : Option Call) (site : Site) (facts : Facts) (own : Own) (answers : Answers) (handle : List ℕ)
     → move_at c site facts own answers ≡ Some (Ask (request.Close handle)) → AsksClose c site own answers handle
 asks_close None site facts own answers handle e = absurd cc
 asks_close (Some c) site facts own answers handle e =
     let is : next c site facts own answers ≡ Ask (request.Close handle) = cc e in
-    by_call c (asks_good c site facts own answers (request.Close handle) (close_within c site facts own answers handle is) is)
+    by_call c (asks_good c site facts own answers (request.Close handle)
+    (close_within c site facts own answers handle is) is)
   where
-    by_call : (d : Call) → closes d site own answers handle → AsksClose (Some d) site own answers handle
+    by_call : (d : Call) → MayCloseGrant d site own answers handle → AsksClose (Some d) site own answers handle
     by_call (call.Close slot) may = (slot, (refl, may))
     by_call other may = absurd may

@@ -52,15 +52,15 @@ use Rattle.session_model.specs.declared.event.Owner.{Owner}
 use Rattle.session_model.specs.declared.event.Event.TheVariants.{Submit, End}
 use Rattle.session_model.specs.declared.entry.Entry.{Entry}
 use Rattle.session_model.specs.declared.entry.Entry.TheVariants as entry
-use Rattle.session_model.specs.Readings.{AskedRequest, asked, asked_at, answer, is_by, own, ended, last_cancel}
+use Rattle.session_model.specs.Readings.{AskedRequest, count_submitted, asked_at, answer, is_by, own, count_ended, last_cancel}
 use Rattle.session_model.specs.Calls.{Setting, call_at, current, left_by, site_left, site_of}
 use Rattle.session_model.specs.Journals.{IsJournal}
-use Rattle.session_model.specs.Submitted.{submitted, submitted_at}
+use Rattle.session_model.specs.Submitted.{submitted_request, submitted_at}
 use Rattle.session_model.proofs.CallLaws.{site_end}
 use Rattle.session_model.proofs.CallsSoFar.{calls_so_far}
 use Rattle.session_model.proofs.HolderLaws.{ending}
 use Rattle.session_model.proofs.RequestLaws.{asked_beyond, asked_new, asked_other}
-use Rattle.plan_model.specs.CallPlans.{cancelled}
+use Rattle.plan_model.specs.CallPlans.{site_after_cancel}
 
 -- ---- the requests of a journal
 
@@ -68,9 +68,9 @@ use Rattle.plan_model.specs.CallPlans.{cancelled}
 requests_stay : (past : List Entry) (by : Owner) (id : ℕ) (r : Request) (p : ℕ) (q : Request) → submitted_at past p
     ≡ Some q → submitted_at (entry.Event (Submit by id r) ∷ past) p ≡ Some q
 requests_stay past by id r p q is =
-    elim (cases_lt p (asked past)) [
-      | inl lt ↦ ap submitted (asked_other past by id p r lt) ∙ is
-      | inr le ↦ absurd (let none : submitted_at past p ≡ None = ap submitted (asked_beyond past p le) in cc)
+    elim (cases_lt p (count_submitted past)) [
+      | inl lt ↦ ap submitted_request (asked_other past by id p r lt) ∙ is
+      | inr le ↦ absurd (let none : submitted_at past p ≡ None = ap submitted_request (asked_beyond past p le) in cc)
     ]
 
 -- ---- a call's own requests stand at their places
@@ -80,7 +80,8 @@ at_later : (before after : Requests) (requests : Own) → ((p : ℕ) (q : Reques
 at_later before after [] stays at = tt
 at_later before after (a ∷ requests) stays at = (stays a.0 a.1 at.0, at_later before after requests stays at.1)
 
-at_more : (places : Requests) (requests : Own) (new : ℕ × Request) → AreAt places requests → places new.0 ≡ Some new.1 → AreAt places (requests ++ new ∷ [])
+at_more : (places : Requests) (requests : Own) (new : ℕ × Request) → AreAt places requests → places new.0 ≡ Some new.1
+    → AreAt places (requests ++ new ∷ [])
 at_more places [] new at is = (is, tt)
 at_more places (a ∷ requests) new at is = (at.0, at_more places requests new at.1 is)
 
@@ -92,9 +93,9 @@ own_at (entry.Event (Submit by id r) ∷ past) lane call =
   where
     by_owner : (b : Bool) → AreAt (submitted_at (entry.Event (Submit by id r) ∷ past)) (own past lane call)
         → AreAt (submitted_at (entry.Event (Submit by id r) ∷ past))
-        (if b then own past lane call ++ (asked past, r) ∷ [] else own past lane call)
+        (if b then own past lane call ++ (count_submitted past, r) ∷ [] else own past lane call)
     by_owner true old = at_more (submitted_at (entry.Event (Submit by id r) ∷ past)) (own past lane call)
-        (asked past, r) old (ap submitted (asked_new past by id r))
+        (count_submitted past, r) old (ap submitted_request (asked_new past by id r))
     by_owner false old = old
 own_at (_ ∷ past) lane call = own_at past lane call
 
@@ -104,7 +105,8 @@ stand_later : (before after : Requests) (site : Site) → ((p : ℕ) (q : Reques
     → ReadsStand before site → ReadsStand after site
 stand_later before after site stays b =
     record {
-      each = λ k p file buffer is reading. (let old : (buffer.bytes ≡ []) × IsReadAt (before p) file.offset = b.each k p file buffer is reading in
+      each = λ k p file buffer is reading. (let old : (buffer.bytes ≡ []) × IsReadAt (before p) file.offset =
+          b.each k p file buffer is reading in
           (old.0, record { handle = old.1.handle; len = old.1.len; is = stays p _ old.1.is; below = old.1.below }));
     }
 
@@ -114,10 +116,15 @@ empty_at (suc n) zero = refl
 empty_at (suc n) (suc k) = empty_at n k
 
 -- slots that hold nothing have no buffer
-fresh_stand : (requests : Requests) (directory : List ℕ) → ReadsStand requests (record { slots = fresh_site.slots; directory = directory })
-fresh_stand requests directory = record { each = λ k p file buffer is reading. absurd (let none = sym (empty_at 16 k) ∙ is in cc none) }
+fresh_stand : (requests : Requests) (directory : List ℕ) → ReadsStand requests
+    (record { slots = fresh_site.slots; directory = directory })
+fresh_stand requests directory = record {
+  each = λ k p file buffer is reading. absurd
+      (let none = sym (empty_at 16 k) ∙ is in cc none);
+}
 
-moved_stand : (requests : Requests) (site : Site) (m : Move) → ReadsStand requests site → EndsLeaving (ReadsStand requests) m → ReadsStand requests (left_by m site)
+moved_stand : (requests : Requests) (site : Site) (m : Move) → ReadsStand requests site
+    → EndsLeaving (ReadsStand requests) m → ReadsStand requests (left_by m site)
 moved_stand requests site (Done o after) was leaves = leaves
 moved_stand requests site other was leaves = was
 
@@ -125,22 +132,26 @@ moved_stand requests site other was leaves = was
 left_stand : (s : Setting) (past : List Entry) (lane : ℕ) → IsJournal s past
     → ReadsStand (submitted_at past) (site_of s past lane) → (c : Option Call) → current s past lane ≡ c
     → (cancel : Option ℕ)
-    → ReadsStand (submitted_at past) (site_left c cancel (site_of s past lane) s.facts (own past lane (ended past lane)) (answer past))
+    → ReadsStand (submitted_at past) (site_left c cancel (site_of s past lane) s.facts
+    (own past lane (count_ended past lane)) (answer past))
 left_stand s past lane j was None is cancel = was
 left_stand s past lane j was (Some c) is None =
     moved_stand (submitted_at past) (site_of s past lane) _ was
-    (ended_stand (submitted_at past) c (site_of s past lane) s.facts (own past lane (ended past lane)) (answer past)
+    (ended_stand (submitted_at past) c (site_of s past lane) s.facts (own past lane (count_ended past lane))
+    (answer past)
     was)
 left_stand s past lane j was (Some c) is (Some l) =
     let goes = calls_so_far s past lane c j is in
-    subst (λ (o : Own). ReadsStand (submitted_at past) (cancelled c (site_of s past lane) s.facts o (answer past))) goes.are
+    subst (λ (o : Own). ReadsStand (submitted_at past) (site_after_cancel c (site_of s past lane) s.facts o
+    (answer past))) goes.are
     (cancelled_stand (submitted_at past) c (site_of s past lane) s.facts goes.requests (answer past) goes.so_far.asked
-    (subst (AreAt (submitted_at past)) (sym goes.are) (own_at past lane (ended past lane))) was)
+    (subst (AreAt (submitted_at past)) (sym goes.are) (own_at past lane (count_ended past lane))) was)
 
 -- ---- the law
 
 -- in a run so far each lane's READs under way stand where their files do
-pub reads_stand : (s : Setting) (past : List Entry) (lane : ℕ) → IsJournal s past → ReadsStand (submitted_at past) (site_of s past lane)
+pub reads_stand : (s : Setting) (past : List Entry) (lane : ℕ) → IsJournal s past
+    → ReadsStand (submitted_at past) (site_of s past lane)
 reads_stand s [] lane j = fresh_stand (submitted_at []) []
 reads_stand s (entry.Event (Submit by id r) ∷ past) lane j =
     stand_later (submitted_at past) (submitted_at (entry.Event (Submit by id r) ∷ past)) (site_of s past lane)
@@ -170,10 +181,13 @@ some_request a b e = cc
 pub read_fits : (s : Setting) (past : List Entry) (lane k p : ℕ) (file : FileAt) (buffer : Buffer) (a : AskedRequest)
     (bytes : List ℕ) → IsJournal s past → slot_at (site_of s past lane) k ≡ Buffered file buffer → buffer.reading
     ≡ Some p
-    → asked_at past p ≡ Some a → may_answer a.request (reply.Content bytes) ≡ true → length bytes ≤ (2 ^ 64 - 1) - file.offset
+    → asked_at past p ≡ Some a → may_answer a.request (reply.Content bytes) ≡ true
+    → length bytes ≤ (2 ^ 64 - 1) - file.offset
 read_fits s past lane k p file buffer a bytes j at reading found may =
-    let stands : IsReadAt (submitted_at past p) file.offset = ((reads_stand s past lane j).each k p file buffer at reading).1 in
-    let same : a.request ≡ request.Read stands.handle file.offset stands.len = some_request a.request _ (sym (ap submitted found) ∙ stands.is) in
+    let stands : IsReadAt (submitted_at past p) file.offset = ((reads_stand s past lane j).each k p file buffer at
+    reading).1 in
+    let same : a.request ≡ request.Read stands.handle file.offset stands.len =
+    some_request a.request _ (sym (ap submitted_request found) ∙ stands.is) in
     let fits : length bytes ≤ stands.len = (content_fits (request.Read stands.handle file.offset stands.len) bytes
     (subst (λ (r : Request). MayAnswer r (reply.Content bytes)) same may)).1 in
     omega (arith, fits, stands.below)

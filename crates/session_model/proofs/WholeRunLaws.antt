@@ -14,7 +14,7 @@ use Rattle.session_model.specs.declared.event.Owner.TheVariants as owner
 use Rattle.session_model.specs.declared.event.Event.TheVariants.{Submit, Send, Take, Cancel, End}
 use Rattle.session_model.specs.declared.entry.Entry.{Entry}
 use Rattle.session_model.specs.declared.entry.Entry.TheVariants as entry
-use Rattle.session_model.specs.Readings.{asked, sent, answer, own, ended, was_let_go, awaited}
+use Rattle.session_model.specs.Readings.{count_submitted, count_sent, answer, own, count_ended, was_let_go, count_awaited}
 use Rattle.session_model.specs.Calls.{Setting, current, site_of, move_at, move_of}
 use Rattle.session_model.specs.Journals.{MayTake, close_of, cancelled_end}
 use Rattle.session_model.specs.Turns.{RunProgress, TurnTo, MovesBy, RulesTo, ClosesTo, is_full, begun_but}
@@ -32,7 +32,11 @@ keeps_self : (s : Setting) (past : List Entry) → Keeps s past past
 keeps_self s past = record { idle = λ lane e. e; unlet = λ lane. refl }
 
 keeps_on : (s : Setting) (a b c : List Entry) → Keeps s a b → Keeps s b c → Keeps s a c
-keeps_on s a b c p q = record { idle = λ lane e. q.idle lane (p.idle lane e); unlet = λ lane. q.unlet lane ∙ p.unlet lane }
+keeps_on s a b c p q = record {
+  idle = λ lane e. q.idle lane (p.idle lane e);
+  unlet = λ lane. q.unlet lane
+      ∙ p.unlet lane;
+}
 
 keeps_same : (s : Setting) (before now : List Entry) → now ≡ before → Keeps s before now
 keeps_same s before now e = subst (λ (p : List Entry). Keeps s before p) (sym e) (keeps_self s before)
@@ -45,17 +49,22 @@ closes_keep s before [] e = keeps_same s before [] (sym e)
 closes_keep s before (e ∷ past) (inl same) = keeps_same s before (e ∷ past) (sym same)
 closes_keep s before (e ∷ past) (inr (due, rest)) =
     subst (λ (x : Entry). Keeps s before (x ∷ past)) (sym due.1.1.1.1)
-    (keeps_on s before past (close_of past due.0 due.1.1.0 ∷ past) (closes_keep s before past rest) (close_keeps s past due.0 due.1.1.0))
+    (keeps_on s before past (close_of past due.0 due.1.1.0 ∷ past) (closes_keep s before past rest)
+    (close_keeps s past due.0 due.1.1.0))
 
-pub sends_keep : (s : Setting) (mid now : List Entry) (b : Bool) → MatchBool b (now ≡ entry.Event Send ∷ mid) (now ≡ mid) → Keeps s mid now
+pub sends_keep : (s : Setting) (mid now : List Entry) (b : Bool)
+    → MatchBool b (now ≡ entry.Event Send ∷ mid) (now ≡ mid) → Keeps s mid now
 sends_keep s mid now false e = keeps_same s mid now e
-sends_keep s mid now true e = subst (λ (p : List Entry). Keeps s mid p) (sym e) (record { idle = λ lane none. none; unlet = λ lane. refl })
+sends_keep s mid now true e = subst (λ (p : List Entry). Keeps s mid p) (sym e)
+    (record { idle = λ lane none. none; unlet = λ lane. refl })
 
 rules_keep : (s : Setting) (first now : List Entry) → RulesTo s first now → Keeps s first now
-rules_keep s first now to = keeps_on s first to.0 now (closes_keep s first to.0 to.1.0.0) (sends_keep s to.0 now (is_full s to.0) to.1.1)
+rules_keep s first now to = keeps_on s first to.0 now (closes_keep s first to.0 to.1.0.0)
+    (sends_keep s to.0 now (is_full s to.0) to.1.1)
 
 -- an end of a lane that had a call
-end_keeps : (s : Setting) (past : List Entry) (lane call : ℕ) (o : Outcome) → current s past lane ≢ None → Keeps s past (entry.Event (End lane call o) ∷ past)
+end_keeps : (s : Setting) (past : List Entry) (lane call : ℕ) (o : Outcome) → current s past lane ≢ None
+    → Keeps s past (entry.Event (End lane call o) ∷ past)
 end_keeps s past lane call o some =
     record {
       idle = λ l none. elim (eqb_tells lane l) [
@@ -69,19 +78,23 @@ has_call : (c : Option Call) (m : Option Move) → m ≢ None → (c ≡ None �
 has_call c m some f = λ none. some (f none)
 
 no_move : (s : Setting) (past : List Entry) (lane : ℕ) → current s past lane ≡ None → move_of s past lane ≡ None
-no_move s past lane e = ap (λ (c : Option Call). move_at c (site_of s past lane) s.facts (own past lane (ended past lane)) (answer past)) e
+no_move s past lane e = ap (λ (c : Option Call). move_at c (site_of s past lane) s.facts
+    (own past lane (count_ended past lane)) (answer past)) e
 
 moves_keep : (s : Setting) (lane : ℕ) (before now : RunProgress) (m : Option Move) → move_of s before.past lane ≡ m
     → MovesBy (RulesTo s) lane before now m → Keeps s before.past now.past
 moves_keep s lane before now None move e = keeps_same s before.past now.past (ap (λ (x : RunProgress). x.past) e)
-moves_keep s lane before now (Some (Wait place)) move e = keeps_same s before.past now.past (ap (λ (x : RunProgress). x.past) e)
+moves_keep s lane before now (Some (Wait place)) move e = keeps_same s before.past now.past
+    (ap (λ (x : RunProgress). x.past) e)
 moves_keep s lane before now (Some (Ask r)) move to =
-    let e : Entry = entry.Event (Submit (owner.Call lane (ended before.past lane)) to.1.0 r) in
-    keeps_on s before.past (e ∷ before.past) now.past (record { idle = λ l none. none; unlet = λ l. refl }) (rules_keep s (e ∷ before.past) now.past to.1.1.1)
+    let e : Entry = entry.Event (Submit (owner.Call lane (count_ended before.past lane)) to.1.0 r) in
+    keeps_on s before.past (e ∷ before.past) now.past (record { idle = λ l none. none; unlet = λ l. refl })
+    (rules_keep s (e ∷ before.past) now.past to.1.1.1)
 moves_keep s lane before now (Some (Done o site)) move to =
-    let e : Entry = entry.Event (End lane (ended before.past lane) o) in
+    let e : Entry = entry.Event (End lane (count_ended before.past lane) o) in
     let some : current s before.past lane ≢ None = λ none. absurd (let gone = no_move s before.past lane none in cc) in
-    keeps_on s before.past (e ∷ before.past) now.past (end_keeps s before.past lane (ended before.past lane) o some)
+    keeps_on s before.past (e ∷ before.past) now.past (end_keeps s before.past lane (count_ended before.past lane) o
+    some)
     (rules_keep s (e ∷ before.past) now.past to.1)
 
 flush_keeps : (s : Setting) (before now : RunProgress) (b : Bool) →
@@ -100,13 +113,15 @@ take_keeps : (s : Setting) (before now : RunProgress) (b : Bool)
 take_keeps s before now false e = keeps_same s before.past now.past (ap (λ (x : RunProgress). x.past) e)
 take_keeps s before now true to =
     let e : Entry = entry.Event (Take to.1.0 to.1.1.0) in
-    keeps_on s before.past (e ∷ before.past) now.past (record { idle = λ l none. none; unlet = λ l. refl }) (rules_keep s (e ∷ before.past) now.past to.1.1.1.1)
+    keeps_on s before.past (e ∷ before.past) now.past (record { idle = λ l none. none; unlet = λ l. refl })
+    (rules_keep s (e ∷ before.past) now.past to.1.1.1.1)
 
 some_call : (c : Option Call) (b : Bool) → (is_some c && b) ≡ true → c ≢ None
 some_call None b e = absurd cc
 some_call (Some c) b e = λ none. absurd cc
 
-cancel_keeps : (s : Setting) (lane : ℕ) (before now : RunProgress) (b : Bool) → (is_some (current s before.past lane) && before.begun lane) ≡ b
+cancel_keeps : (s : Setting) (lane : ℕ) (before now : RunProgress) (b : Bool)
+    → (is_some (current s before.past lane) && before.begun lane) ≡ b
     → MatchBool b ((now.begun ≡ begun_but before.begun lane)
     × RulesTo s (cancelled_end (entry.Event (Cancel lane) ∷ before.past) lane ∷ entry.Event (Cancel lane) ∷ before.past)
     now.past) (now ≡ before) → Keeps s before.past now.past
@@ -116,16 +131,18 @@ cancel_keeps s lane before now true is to =
     let some : current s before.past lane ≢ None = some_call (current s before.past lane) (before.begun lane) is in
     let first : Keeps s before.past (c ∷ before.past) = record { idle = λ l none. none; unlet = λ l. refl } in
     let second : Keeps s (c ∷ before.past) (cancelled_end (c ∷ before.past) lane ∷ c ∷ before.past) =
-    end_keeps s (c ∷ before.past) lane (ended before.past lane) outcome.Cancelled some in
+    end_keeps s (c ∷ before.past) lane (count_ended before.past lane) outcome.Cancelled some in
     keeps_on s before.past (c ∷ before.past) now.past first
     (keeps_on s (c ∷ before.past) (cancelled_end (c ∷ before.past) lane ∷ c ∷ before.past) now.past second
     (rules_keep s (cancelled_end (c ∷ before.past) lane ∷ c ∷ before.past) now.past to.1))
 
 turn_keeps : (s : Setting) (t : Turn) (before now : RunProgress) → TurnTo s t before now → Keeps s before.past now.past
 turn_keeps s (turn.Step lane) before now to = moves_keep s lane before now (move_of s before.past lane) refl to
-turn_keeps s turn.Flush before now to = flush_keeps s before now (nat_lt (sent before.past) (asked before.past)) to
-turn_keeps s turn.Take before now to = take_keeps s before now (nat_lt 0 (awaited before.past)) to
-turn_keeps s (turn.Cancel lane) before now to = cancel_keeps s lane before now (is_some (current s before.past lane) && before.begun lane) refl to
+turn_keeps s turn.Flush before now to = flush_keeps s before now
+    (nat_lt (count_sent before.past) (count_submitted before.past)) to
+turn_keeps s turn.Take before now to = take_keeps s before now (nat_lt 0 (count_awaited before.past)) to
+turn_keeps s (turn.Cancel lane) before now to = cancel_keeps s lane before now
+    (is_some (current s before.past lane) && before.begun lane) refl to
 
 -- ---- turns, rounds and drains
 
@@ -134,12 +151,21 @@ pub record Passes (s : Setting) (before now : RunProgress) : Type 0 where
   pub keeps : Keeps s before.past now.past
 
 passes_self : (s : Setting) (before now : RunProgress) → now ≡ before → Passes s before now
-passes_self s before now e = record { good = λ g. subst (GoodStage s) (sym e) g; keeps = keeps_same s before.past now.past (ap (λ (x : RunProgress). x.past) e) }
+passes_self s before now e = record {
+  good = λ g. subst (GoodStage s) (sym e) g;
+  keeps =
+      keeps_same s before.past now.past (ap (λ (x : RunProgress). x.past) e);
+}
 
 passes_on : (s : Setting) (a b c : RunProgress) → Passes s a b → Passes s b c → Passes s a c
-passes_on s a b c p q = record { good = λ g. q.good (p.good g); keeps = keeps_on s a.past b.past c.past p.keeps q.keeps }
+passes_on s a b c p q = record {
+  good = λ g. q.good (p.good g);
+  keeps =
+      keeps_on s a.past b.past c.past p.keeps q.keeps;
+}
 
-pub turns_pass : (s : Setting) (turns : List Turn) (before now : RunProgress) → TurnsTo s turns before now → Passes s before now
+pub turns_pass : (s : Setting) (turns : List Turn) (before now : RunProgress) → TurnsTo s turns before now
+    → Passes s before now
 turns_pass s [] before now e = passes_self s before now e
 turns_pass s (t ∷ turns) before now to =
     passes_on s before to.0 now (record {

@@ -1,4 +1,4 @@
--- The calls of a session's lanes: what each does next and what it leaves, by the session's journal.
+-- Calls of a session's lanes: the next move of each and what it leaves, according to the session's journal.
 use Rattle.std.specs.Prelude.{
   ◌≡◌,
   ℕ,
@@ -32,61 +32,64 @@ use Rattle.plan_model.specs.declared.call.Lane.{Lane}
 use Rattle.session_model.specs.declared.event.Event.TheVariants.{End}
 use Rattle.session_model.specs.declared.entry.Entry.{Entry}
 use Rattle.session_model.specs.declared.entry.Entry.TheVariants as entry
-use Rattle.session_model.specs.Readings.{answer, own, ended, last_cancel}
-use Rattle.plan_model.specs.CallPlans.{cancelled, next}
+use Rattle.session_model.specs.Readings.{answer, own, count_ended, last_cancel}
+use Rattle.plan_model.specs.CallPlans.{site_after_cancel, next}
 
--- What a session is opened with and what VERSION and the limits fix: the lanes handed in, the facts that plans
--- go by, whether the server offers to tell its limits, and the most requests that stay unsent.
+-- The values with which a session is opened and those that VERSION and the limits fix: the lanes passed in, the facts
+-- that plans use, whether the server offers to report its limits, and the most requests that may stay unsent.
 pub record Setting : Type 0 where
   pub lanes : List Lane
   pub facts : Facts
   pub limits : Bool
   pub max_pending : ℕ
 
--- what a `close` holds once it has asked: its slot is given up
+-- The site within a `close` that has asked: its slot is given up.
 abbrev pub given_up : Call → Own → Site → Site
 given_up (call.Close slot) (asked ∷ later) site = with_slot site slot Empty
 given_up other own site = site
 
--- ---- the calls of a lane
+-- ---- Calls of a lane
 
--- the calls that were added to a lane, the first one first
-abbrev pub added : List Entry → ℕ → List Call
-added [] lane = []
-added (entry.Added l c ∷ past) lane = if l == lane then added past lane ++ c ∷ [] else added past lane
-added (_ ∷ past) lane = added past lane
+-- The calls that were added to a lane, the first one first.
+abbrev pub calls_added_to : List Entry → ℕ → List Call
+calls_added_to [] lane = []
+calls_added_to (entry.Added l c ∷ past) lane = if l == lane then calls_added_to past lane ++ c ∷ [] else
+    calls_added_to past lane
+calls_added_to (_ ∷ past) lane = calls_added_to past lane
 
--- the calls of a lane that may not be there
+-- The calls of a lane that may be missing.
 abbrev pub calls_of : Option Lane → List Call
 calls_of None = []
 calls_of (Some lane) = lane.calls
 
--- the calls of a lane: those handed in stand before those that were added
+-- The calls of a lane: those passed in come before those that were added.
 abbrev pub lane_calls : Setting → List Entry → ℕ → List Call
-lane_calls s past lane = calls_of (slice_get s.lanes lane) ++ added past lane
+lane_calls s past lane = calls_of (slice_get s.lanes lane) ++ calls_added_to past lane
 
--- a call by its number
+-- A call by its number.
 abbrev pub call_at : Setting → List Entry → ℕ → ℕ → Option Call
 call_at s past lane call = slice_get (lane_calls s past lane) call
 
--- the call of a lane that hasn't ended and is the next to move; nothing where the lane has no call left
+-- The call of a lane that is the next to move; None if the lane has no call left.
 abbrev pub current : Setting → List Entry → ℕ → Option Call
-current s past lane = call_at s past lane (ended past lane)
+current s past lane = call_at s past lane (count_ended past lane)
 
--- ---- what a lane holds
+-- ---- What a lane holds
 
--- what a move leaves of a site
+-- The site that a move leaves.
 abbrev pub left_by : Move → Site → Site
 left_by (Done ended after) site = after
 left_by other site = site
 
--- what the end of a call leaves: behind its Cancel what the cancelled call leaves, else what its plan leaves
+-- The site that the end of a call leaves: after its Cancel the one that the cancelled call leaves, otherwise the one
+-- that its plan leaves.
 abbrev pub site_left : Option Call → Option ℕ → Site → Facts → Own → Answers → Site
 site_left None cancel site facts own answers = site
 site_left (Some c) None site facts own answers = left_by (next c site facts own answers) site
-site_left (Some c) (Some lane) site facts own answers = cancelled c site facts own answers
+site_left (Some c) (Some lane) site facts own answers = site_after_cancel c site facts own answers
 
--- what a lane holds between its calls: what its last call left, and nothing in its slots once it was let go
+-- The site of a lane between its calls: the one that its last call left, with nothing in its slots after the lane was
+-- released.
 abbrev pub site_of : Setting → List Entry → ℕ → Site
 site_of s [] lane = fresh_site
 site_of s (entry.Event (End l c o) ∷ past) lane =
@@ -96,42 +99,43 @@ site_of s (entry.LetGo l ∷ past) lane = if l == lane then record
     { slots = fresh_site.slots; directory = (site_of s past lane).directory } else site_of s past lane
 site_of s (_ ∷ past) lane = site_of s past lane
 
--- what a lane holds within a call that may not be there
+-- The site of a lane within a call that may be missing.
 abbrev pub held_by : Option Call → Own → Site → Site
 held_by None own site = site
 held_by (Some c) own site = given_up c own site
 
--- what a lane holds now, within a call too
+-- The site of a lane now, also within a call.
 abbrev pub held_site : Setting → List Entry → ℕ → Site
-held_site s past lane = held_by (current s past lane) (own past lane (ended past lane)) (site_of s past lane)
+held_site s past lane = held_by (current s past lane) (own past lane (count_ended past lane)) (site_of s past lane)
 
--- ---- moves
+-- ---- Moves
 
--- the next move of a call that may not be there
+-- The next move of a call that may be missing.
 abbrev pub move_at : Option Call → Site → Facts → Own → Answers → Option Move
 move_at None site facts own answers = None
 move_at (Some c) site facts own answers = Some (next c site facts own answers)
 
--- the next move of a lane; nothing where it has no call left
+-- The next move of a lane; None if it has no call left.
 abbrev pub move_of : Setting → List Entry → ℕ → Option Move
-move_of s past lane = move_at (current s past lane) (site_of s past lane) s.facts (own past lane (ended past lane))
+move_of s past lane = move_at (current s past lane) (site_of s past lane) s.facts
+    (own past lane (count_ended past lane))
     (answer past)
 
--- the move waits for a reply
+-- True if the move waits for a reply.
 abbrev pub is_wait : Option Move → Bool
 is_wait (Some (Wait place)) = true
 is_wait (Some (Ask r)) = false
 is_wait (Some (Done o site)) = false
 is_wait None = false
 
--- A lane's call goes by its plan: each of its requests is what the plan asked by the replies that had come by then,
--- and each reply to one may answer it.
+-- A lane's call follows its plan: each of its requests is the one that the plan asked by the replies that had come by
+-- then, and each reply to one may answer it.
 pub record GoesByPlan (s : Setting) (past : List Entry) (lane : ℕ) (c : Call) : Type 0 where
   pub requests : Own
-  pub are : oldest_first requests ≡ own past lane (ended past lane)
+  pub are : oldest_first requests ≡ own past lane (count_ended past lane)
   pub so_far : IsCallSoFar c (site_of s past lane) s.facts requests (answer past)
 
--- The lane's call waits for a reply here, or did so at an earlier place since it became the lane's call.
+-- True if the lane's call waits for a reply here, or did so at an earlier point since it became the lane's call.
 abbrev pub has_waited : Setting → List Entry → ℕ → Bool
 has_waited s [] lane = is_wait (move_of s [] lane)
 has_waited s (entry.Event (End l c o) ∷ past) lane =

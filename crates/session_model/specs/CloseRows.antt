@@ -1,4 +1,4 @@
--- Worked journals of `close`, and turns with few requests that may stay unsent, and beside each what nearly is one.
+-- Worked journals of `close`, and turns with few requests that may stay unsent, each beside a near miss.
 use Rattle.std.specs.Prelude.{ℕ, ◌-◌, ◌≡◌, Bool, ◌∷◌, List, [], codes, drop, true, refl}
 use Rattle.std.proofs.Common.{arith, inl}
 use Rattle.ssh_encoding.specs.Writing.{uint32, string}
@@ -33,7 +33,7 @@ use Rattle.session_model.specs.EntryRows.{no_limits, told_limits}
 use Rattle.session_model.specs.SlotRows.{two_lanes}
 use Rattle.session_model.specs.RunRows.{zero_begun}
 
--- ---- a `close` gives up its slot, whatever becomes of it
+-- ---- A `close` gives up its slot in any case
 
 abbrev pub closes : Setting
 closes = setting_with ((call.OpenFile 0 to_read (codes "a") ∷ call.Close 0 ∷ call.Close 0 ∷ []) ∷ [])
@@ -66,7 +66,7 @@ closing_is = (
   ),
 )
 
--- it is cancelled: its status comes later, and no other CLOSE is sent
+-- It is cancelled: its status comes later, and no other CLOSE is sent.
 abbrev pub close_cancelled : List Entry
 close_cancelled =
     take 0 (refusal 4)
@@ -102,7 +102,7 @@ close_cancelled_is = (
 pub close_cancelled_is_over : IsOver closes close_cancelled
 close_cancelled_is_over = ((λ lane lt. let is : lane ≡ 0 = omega arith in rw is refl), refl, refl)
 
--- the server refuses it
+-- The server refuses it.
 abbrev pub close_refused : List Entry
 close_refused =
     entry.LetGo 0
@@ -134,7 +134,7 @@ close_refused_is = (
 pub close_refused_is_over : IsOver closes close_refused
 close_refused_is_over = ((λ lane lt. let is : lane ≡ 0 = omega arith in rw is refl), refl, refl)
 
--- the next call finds no file, and can't close again
+-- The next call finds no file, and can't close again.
 pub close_again : IsNext closes (end 0 1 outcome.Cancelled ∷ cancel 0 ∷ closing)
     (submit 0 2 1 (request.Close (handle 7))) → ⊥
 unfolding request_body attributes string uint32
@@ -144,7 +144,7 @@ pub close_by_session : IsNext closes (end 0 1 outcome.Cancelled ∷ cancel 0 ∷
 unfolding request_body attributes string uint32
 close_by_session = λ h. h
 
--- ---- at most one request may stay unsent
+-- ---- At most one request may stay unsent
 
 abbrev pub hasty : Setting
 hasty = record two_lanes { max_pending = 1 }
@@ -155,7 +155,7 @@ hasty_over = send ∷ submit 1 0 1 (open_of (codes "b")) ∷ submit 0 0 0 (open_
 abbrev pub hasty_at : ℕ → (ℕ → Bool) → RunProgress
 hasty_at n begun = record { past = drop (3 - n) hasty_over; begun = begun }
 
--- the second step sends both
+-- The second step sends both.
 pub two_steps_send : TurnsTo hasty (turn.Step 0 ∷ turn.Step 1 ∷ turn.Flush ∷ []) (hasty_at 0 none_begun)
     (hasty_at 3 (begun_with zero_begun 1))
 unfolding request_body attributes string uint32
@@ -173,7 +173,7 @@ two_steps_send = (
   ),
 )
 
--- ---- a run that begins by the query for limits
+-- ---- A run that starts with the query for limits
 
 abbrev pub asks : Setting
 asks = record (setting_with ([] ∷ [])) { limits = true }

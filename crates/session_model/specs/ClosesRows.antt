@@ -1,4 +1,4 @@
--- How often a handle was granted and closed in worked journals.
+-- Worked journals of how often a handle was granted and closed.
 use Rattle.std.specs.Prelude.{◌≡◌, ◌∷◌, [], refl}
 use Rattle.session_model.specs.Closes.{granted_handles, closed_handles, times, AreClosed, closes_of}
 use Rattle.session_model.specs.JournalRows.{s, over}
@@ -6,7 +6,7 @@ use Rattle.session_model.specs.LaneRows.{opens}
 use Rattle.session_model.specs.RowWords.{close, handle}
 use Rattle.session_model.specs.RunRows.{without_close}
 
--- a file is opened, read and closed
+-- A file is opened, read and closed.
 pub granted_over : granted_handles over ≡ handle 7 ∷ []
 granted_over = refl
 
@@ -16,7 +16,7 @@ closed_over = refl
 pub one_close : closes_of s over 0 ≡ 1
 one_close = refl
 
--- it is opened and never closed: no run
+-- A file is opened and never closed: this is no run.
 pub granted_alone : times (handle 7) (granted_handles without_close) ≡ 1
 granted_alone = refl
 
@@ -29,6 +29,6 @@ no_close = refl
 pub left_open : AreClosed without_close → ⊥
 left_open all = let same = all (handle 7) in cc
 
--- it is closed twice
+-- A file is closed twice.
 pub closed_twice : AreClosed (close 1 (handle 7) ∷ close 0 (handle 7) ∷ without_close) → ⊥
 closed_twice all = let same = all (handle 7) in cc

@@ -12,7 +12,7 @@ buffered_bytes_count = refl
 pub all_bytes_count : weight (call.BufWriteAll 0 []) ≡ 2
 all_bytes_count = refl
 
--- 64 READs and their OPEN
+-- 64 READs and their OPEN.
 pub whole_read_counts : weight (call.FsRead (codes "a") 1) ≡ 65
 whole_read_counts = refl
 

@@ -1,4 +1,4 @@
--- Worked journals of limits, added calls and kept faults, and beside each what nearly is one.
+-- Worked journals of limits, added calls and recorded faults, each beside a near miss.
 use Rattle.std.specs.Prelude.{◌≡◌, ◌<◌, ◌∷◌, List, [], codes, replicate, true, false, Some, refl}
 use Rattle.std.proofs.Common.{arith, sym}
 use Rattle.ssh_encoding.specs.Writing.{uint32, string}
@@ -32,16 +32,16 @@ use Rattle.session_model.specs.RowWords.{
   granted,
 }
 
--- ---- limits
+-- ---- Limits
 
--- one lane that opens a file, at a server that offers to tell its limits
+-- One lane that opens a file, at a server that offers to report its limits.
 abbrev pub limited : Setting
 limited = record (setting_with ((call.OpenFile 0 to_read (codes "a") ∷ []) ∷ [])) { limits = true }
 
 abbrev pub ask_limits : Entry
 ask_limits = entry.Event (Submit owner.Setup 0 request.LimitsQuery)
 
--- four numbers, each 0
+-- Four numbers, each 0.
 abbrev pub no_limits : Reply
 no_limits = reply.Extended (replicate 32 0)
 
@@ -74,7 +74,7 @@ opened_behind_limits_is = (
   ),
 )
 
--- a call's request before the limits were asked, and before they were told
+-- A call's request comes before the limits were asked for, and before they were reported.
 pub before_limits : IsNext limited ([]) (submit 0 0 0 (open_of (codes "a"))) → ⊥
 unfolding request_body attributes string uint32
 before_limits = λ h. let e = h.3 in absurd cc
@@ -83,7 +83,7 @@ pub before_limits_came : IsNext limited (asked_limits) (submit 0 0 1 (open_of (c
 unfolding request_body attributes string uint32
 before_limits_came = λ h. let e = h.3 in absurd cc
 
--- limits are asked for once, and only where the server offers to tell them
+-- Limits are asked for once, and only if the server offers to report them.
 pub limits_again : IsNext limited (told_limits) (ask_limits) → ⊥
 unfolding request_body attributes string uint32
 limits_again = λ h. let e = h.1 in absurd cc
@@ -92,7 +92,7 @@ pub limits_not_offered : IsNext opens ([]) (ask_limits) → ⊥
 unfolding request_body attributes string uint32
 limits_not_offered = λ h. let e = h.0 in absurd cc
 
--- a refusal, and numbers that are not four
+-- A refusal, and numbers that are not four.
 pub limits_refused : IsNext limited (asked_limits) (take 0 (refusal 4)) → ⊥
 unfolding request_body attributes string uint32
 limits_refused = λ h. let e : Some 0 ≡ Some h.0.0 = h.0.1.0.0 in let n : 0 ≡ h.0.0 = cc in let q = h.0.1.1 in
@@ -103,7 +103,7 @@ unfolding limits_at
 limits_too_short = λ h. let e : Some 0 ≡ Some h.0.0 = h.0.1.0.0 in let n : 0 ≡ h.0.0 = cc in let q = h.0.1.1 in
     absurd (let r = rw (sym n) at q in let z = r.1 in cc)
 
--- ---- added calls
+-- ---- Added calls
 
 abbrev pub with_added : List Entry
 with_added =
@@ -137,13 +137,13 @@ with_added_is = (
   ),
 )
 
--- the lane ends where nothing is added
+-- The lane ends if nothing is added.
 pub without_added : IsNext opens (end 0 0 outcome.Opened ∷ take 0 (granted 7) ∷ send ∷ submit 0 0 0
     (open_of (codes "a")) ∷ []) (submit 0 1 0 (request.Close (handle 7))) → ⊥
 unfolding request_body attributes string uint32
 without_added = λ h. let e = h.1 in absurd cc
 
--- a lane that was let go, and one that isn't there
+-- A lane that was released, and one that doesn't exist.
 pub added_late : IsNext (setting_with ([] ∷ [])) (entry.LetGo 0 ∷ []) (entry.Added 0 (call.Close 0)) → ⊥
 unfolding request_body attributes string uint32
 added_late = λ h. let e = h.1 in absurd cc
@@ -152,12 +152,12 @@ pub added_nowhere : IsNext (setting_with ([] ∷ [])) ([]) (entry.Added 1 (call.
 unfolding request_body attributes string uint32
 added_nowhere = λ h. let lt : 1 < 1 = h.0 in absurd (omega arith)
 
--- a call of a slot that isn't there
+-- A call of a slot that doesn't exist.
 pub added_out_of_range : IsNext (setting_with ([] ∷ [])) ([]) (entry.Added 0 (call.Close 16)) → ⊥
 unfolding request_body attributes string uint32
 added_out_of_range = λ h. let e = h.2 in absurd cc
 
--- ---- kept faults
+-- ---- Recorded faults
 
 abbrev pub kept : List Entry
 kept =
@@ -191,7 +191,7 @@ kept_is = (
   ),
 )
 
--- no second fault, no reply and no call's request
+-- No second fault, no reply and no call's request comes after a fault.
 pub kept_twice : IsNext opens (entry.Kept fault.Link ∷ []) (entry.Kept fault.Ended) → ⊥
 unfolding request_body attributes string uint32
 kept_twice = λ h. absurd cc
@@ -205,7 +205,7 @@ pub asked_late : IsNext opens (entry.Kept fault.Link ∷ []) (submit 0 0 0 (open
 unfolding request_body attributes string uint32
 asked_late = λ h. let e = h.4 in absurd cc
 
--- ---- a call that waits may be cancelled, also after its reply came
+-- ---- A call that waits may be cancelled, also after its reply came
 
 pub waits_once : has_waited opens (send ∷ submit 0 0 0 (open_of (codes "a")) ∷ []) 0 ≡ true
 unfolding request_body attributes string uint32
@@ -215,7 +215,7 @@ pub waited_once : has_waited opens (take 0 (granted 7) ∷ send ∷ submit 0 0 0
 unfolding request_body attributes string uint32
 waited_once = refl
 
--- not where the wait was another call's
+-- It may not be cancelled if another call waited.
 pub waits_no_more : has_waited opens (end 0 0 outcome.Opened ∷ take 0 (granted 7) ∷ send ∷ submit 0 0 0
     (open_of (codes "a")) ∷ []) 0 ≡ false
 unfolding request_body attributes string uint32

@@ -1,4 +1,4 @@
--- Worked journals of one lane, each a run so far, and beside it what nearly is one.
+-- Worked journals of one lane, each a run so far, beside a near miss.
 use Rattle.std.specs.Prelude.{◌≡◌, ◌<◌, ◌∷◌, List, [], codes, Some, None, refl}
 use Rattle.std.proofs.Common.{arith, sym}
 use Rattle.ssh_encoding.specs.Writing.{uint32, string}
@@ -12,7 +12,7 @@ use Rattle.session_model.specs.declared.entry.Entry.TheVariants as entry
 use Rattle.plan_model.specs.OwnRequests.{IsCallSoFar}
 use Rattle.session_model.specs.Readings.{answer, own}
 use Rattle.session_model.specs.Calls.{Setting, site_of, GoesByPlan}
-use Rattle.session_model.specs.Grants.{closed}
+use Rattle.session_model.specs.Grants.{closed_grants}
 use Rattle.session_model.specs.Journals.{IsJournal, IsNext, IsOver}
 use Rattle.session_model.specs.RowWords.{
   to_read,
@@ -28,7 +28,7 @@ use Rattle.session_model.specs.RowWords.{
   granted,
 }
 
--- ---- a file is opened, read and closed
+-- ---- A file is opened, read and closed
 
 abbrev pub s : Setting
 s = setting_with ((call.OpenFile 0 to_read (codes "a") ∷ call.Read 0 5 ∷ call.Close 0 ∷ []) ∷ [])
@@ -89,7 +89,7 @@ was_read_is = (
   ),
 )
 
--- a call's requests, each with its place; its plan asked them
+-- A call's requests, each with its place; its plan asked them.
 pub own_of_read : own was_read 0 1 ≡ (1, request.Read (handle 7) 0 5) ∷ []
 own_of_read = refl
 
@@ -154,32 +154,32 @@ over_is = (
 pub over_is_over : IsOver s over
 over_is_over = ((λ lane lt. let is : lane ≡ 0 = omega arith in rw is refl), refl, refl)
 
-pub over_closed : closed s over ≡ Some 0 ∷ []
+pub over_closed : closed_grants s over ≡ Some 0 ∷ []
 over_closed = refl
 
--- the reply to a request that wasn't sent
+-- A reply to a request that wasn't sent.
 pub unsent_reply : IsNext s (asked_open) (take 0 (granted 7)) → ⊥
 unfolding request_body attributes string uint32
 unsent_reply = λ h. let lt : h.0.0 < 0 = h.0.1.0.1 in absurd (omega arith)
 
--- a reply under an id that no request bears
+-- A reply under an id that no request has.
 pub unknown_reply : IsNext s (send ∷ asked_open) (take 1 (granted 7)) → ⊥
 unfolding request_body attributes string uint32
 unknown_reply = λ h. let e : None ≡ Some h.0.0 = h.0.1.0.0 in absurd cc
 
--- a second reply to one request
+-- A second reply to one request.
 pub second_reply : IsNext s (take 0 (granted 7) ∷ send ∷ asked_open) (take 0 (granted 8)) → ⊥
 unfolding request_body attributes string uint32
 second_reply = λ h. let e : Some 0 ≡ Some h.0.0 = h.0.1.0.0 in let n : 0 ≡ h.0.0 = cc in let q = h.0.1.0.2 in
     absurd (let r = rw (sym n) at q in cc)
 
--- a reply that may not answer
+-- A reply that may not answer.
 pub wrong_reply : IsNext s (send ∷ asked_open) (take 0 ok) → ⊥
 unfolding request_body attributes string uint32
 wrong_reply = λ h. let e : Some 0 ≡ Some h.0.0 = h.0.1.0.0 in let n : 0 ≡ h.0.0 = cc in let q = h.0.1.1 in
     absurd (let r = rw (sym n) at q in let z = r.0 in cc)
 
--- an end with another value, of another call, or before the reply
+-- An end with another value, of another call, or before the reply.
 pub wrong_end : IsNext s (take 0 (granted 7) ∷ send ∷ asked_open) (end 0 0 outcome.Done) → ⊥
 unfolding request_body attributes string uint32
 wrong_end = λ h. let e = h.1.1 in absurd cc
@@ -192,27 +192,27 @@ pub early_end : IsNext s (send ∷ asked_open) (end 0 0 outcome.Opened) → ⊥
 unfolding request_body attributes string uint32
 early_end = λ h. let e = h.1.1 in absurd cc
 
--- the call's next request before its first is answered
+-- The call's next request before its first is answered.
 pub early_request : IsNext s (asked_open) (submit 0 0 1 (open_of (codes "a"))) → ⊥
 unfolding request_body attributes string uint32
 early_request = λ h. let e = h.1 in absurd cc
 
--- another request than the call asks
+-- Another request than the call asks.
 pub wrong_request : IsNext s (opened) (submit 0 1 1 (request.Read (handle 7) 0 6)) → ⊥
 unfolding request_body attributes string uint32
 wrong_request = λ h. let e = h.1 in absurd cc
 
--- nothing is unsent
+-- Nothing is unsent.
 pub empty_send : IsNext s (opened) (send) → ⊥
 unfolding request_body attributes string uint32
 empty_send = λ h. absurd (omega (arith, h))
 
--- the lane has a call left
+-- The lane has a call left.
 pub early_letting_go : IsNext s (asked_close) (entry.LetGo 0) → ⊥
 unfolding request_body attributes string uint32
 early_letting_go = λ h. let e = h.1 in absurd cc
 
--- a CLOSE twice, by the call and by the session
+-- A CLOSE twice, by the call and by the session.
 pub closed_twice_by_call : IsNext s (asked_close) (submit 0 2 1 (request.Close (handle 7))) → ⊥
 unfolding request_body attributes string uint32
 closed_twice_by_call = λ h. let e = h.1 in absurd cc
@@ -225,7 +225,7 @@ pub closed_at_the_end : IsNext s (over) (close 1 (handle 7)) → ⊥
 unfolding request_body attributes string uint32
 closed_at_the_end = λ h. h
 
--- no lane is let go twice, and none that isn't there
+-- No lane is released twice, and none that doesn't exist.
 pub let_go_twice : IsNext s (over) (entry.LetGo 0) → ⊥
 unfolding request_body attributes string uint32
 let_go_twice = λ h. let e = h.2 in absurd cc

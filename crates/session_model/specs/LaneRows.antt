@@ -1,4 +1,4 @@
--- Worked journals of refused opens and of cancels, and beside each what nearly is one.
+-- Worked journals of refused opens and of cancels, each beside a near miss.
 use Rattle.std.specs.Prelude.{◌≡◌, ◌∷◌, List, [], codes, Some, refl}
 use Rattle.std.proofs.Common.{arith}
 use Rattle.ssh_encoding.specs.Writing.{uint32, string}
@@ -28,7 +28,7 @@ use Rattle.session_model.specs.RowWords.{
   granted,
 }
 
--- ---- a file that isn't there
+-- ---- A file that doesn't exist
 
 abbrev pub missing : Setting
 missing = setting_with ((call.OpenFile 0 to_read (codes "b") ∷ call.Read 0 1 ∷ []) ∷ [])
@@ -68,7 +68,7 @@ was_refused_is = (
 pub was_refused_is_over : IsOver missing was_refused
 was_refused_is_over = ((λ lane lt. let is : lane ≡ 0 = omega arith in rw is refl), refl, refl)
 
--- ---- an open is cancelled
+-- ---- An open is cancelled
 
 abbrev pub opens : Setting
 opens = setting_with ((call.OpenFile 0 to_read (codes "a") ∷ []) ∷ [])
@@ -97,7 +97,7 @@ cancelled_is = (
   ),
 )
 
--- its HANDLE comes later, and is closed
+-- Its HANDLE comes later, and is closed.
 abbrev pub cancelled_late : List Entry
 cancelled_late =
     entry.LetGo 0
@@ -126,7 +126,7 @@ cancelled_late_is = (
   ),
 )
 
--- its HANDLE has come
+-- Its HANDLE has come.
 abbrev pub cancelled_answered : List Entry
 cancelled_answered =
     entry.LetGo 0
@@ -179,7 +179,7 @@ pub cancelled_is_due : next_due opens cancelled_open ≡ Some 0
 unfolding request_body attributes string uint32
 cancelled_is_due = refl
 
--- the CLOSE is missing, is another, comes under an id that is in use, or comes twice
+-- The CLOSE is missing, is another, comes under an id that is in use, or comes twice.
 pub close_missing : IsNext opens (cancelled_open) (entry.LetGo 0) → ⊥
 unfolding request_body attributes string uint32
 close_missing = λ h. let e = h.1.1 in absurd cc
@@ -197,7 +197,7 @@ pub close_twice : IsNext opens (close 0 (handle 7) ∷ cancelled_open) (close 1 
 unfolding request_body attributes string uint32
 close_twice = λ h. h
 
--- behind a Cancel nothing but its End
+-- After a Cancel comes only its End.
 pub cancel_without_end : IsNext opens (cancel 0 ∷ send ∷ submit 0 0 0 (open_of (codes "a")) ∷ []) (take 0 (granted 7))
     → ⊥
 unfolding request_body attributes string uint32
@@ -208,7 +208,7 @@ pub cancelled_by_plan : IsNext opens (cancel 0 ∷ take 0 (granted 7) ∷ send �
 unfolding request_body attributes string uint32
 cancelled_by_plan = λ h. absurd cc
 
--- a call that made no request and waits for none, and one that has ended
+-- A call that made no request and waits for none, and one that has ended.
 pub unbegun_cancel : IsNext opens ([]) (cancel 0) → ⊥
 unfolding request_body attributes string uint32
 unbegun_cancel = λ h. let e = h.1 in absurd cc
@@ -217,7 +217,7 @@ pub late_cancel : IsNext opens (cancelled) (cancel 0) → ⊥
 unfolding request_body attributes string uint32
 late_cancel = λ h. absurd (h.0 refl)
 
--- a reply is of no more use to a call that was cancelled
+-- A call that was cancelled can no longer use a reply.
 pub end_after_cancel : IsNext opens (take 0 (refusal 2) ∷ cancelled)
     (end 0 0 (outcome.Refused (error.SftpError 2 [] []))) → ⊥
 unfolding request_body attributes string uint32

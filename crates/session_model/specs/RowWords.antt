@@ -15,7 +15,7 @@ use Rattle.session_model.specs.declared.entry.Entry.{Entry}
 use Rattle.session_model.specs.declared.entry.Entry.TheVariants as entry
 use Rattle.session_model.specs.Calls.{Setting}
 
--- ---- words for journals
+-- ---- Words for journals
 
 abbrev pub to_read : OpenOptions
 to_read = record nothing_chosen { read = true }
@@ -50,7 +50,7 @@ end lane call o = entry.Event (End lane call o)
 abbrev pub cancel : ℕ → Entry
 cancel lane = entry.Event (Cancel lane)
 
--- a CLOSE that the session submits
+-- A CLOSE that the session submits.
 abbrev pub close : ℕ → List ℕ → Entry
 close id handle = entry.Event (Submit owner.Close id (request.Close handle))
 

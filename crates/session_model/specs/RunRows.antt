@@ -27,7 +27,7 @@ use Rattle.session_model.specs.JournalRows.{s, over}
 use Rattle.session_model.specs.LaneRows.{opens}
 use Rattle.session_model.specs.Readings.{outcomes_below}
 
--- ---- no calls
+-- ---- No calls
 
 pub run_of_nothing : IsRun (setting_with ([] ∷ [])) [] (entry.LetGo 0 ∷ [])
 run_of_nothing =
@@ -46,17 +46,17 @@ run_of_nothing =
       ),
     )
 
--- ---- a file is opened, read and closed: six rounds
+-- ---- A file is opened, read and closed: six rounds
 
--- the journal after so many entries
+-- The journal after this many entries.
 abbrev pub so_far : ℕ → List Entry
 so_far n = drop (13 - n) over
 
--- lane 0 alone was begun
+-- Only lane 0 was started.
 abbrev pub zero_begun : ℕ → Bool
 zero_begun = begun_with none_begun 0
 
--- and it has ended
+-- Lane 0 was started and its call has ended.
 pub zero_ended : none_begun ≡ begun_but zero_begun 0
 zero_ended = λ i lane. neither (0 == lane) i
   where
@@ -275,7 +275,7 @@ pub outcomes_of_three : outcomes_below over 1 ≡ (outcome.Opened ∷ outcome.By
     []
 outcomes_of_three = refl
 
--- ---- an open is cancelled: its HANDLE comes behind the letting go, and is closed
+-- ---- An open is cancelled: its HANDLE comes after the release, and is closed
 
 abbrev pub cancelled_over : List Entry
 cancelled_over =
@@ -413,9 +413,9 @@ run_of_cancelled = (
   ),
 )
 
--- ---- what is no whole run
+-- ---- Journals that are no whole run
 
--- the lane's slot holds a grant that has no CLOSE
+-- The lane's slot holds a grant that has no CLOSE.
 abbrev pub without_close : List Entry
 without_close =
     entry.LetGo 0

@@ -1,4 +1,4 @@
--- `==` of each type decides equality.
+-- Proofs that `==` of each type decides equality.
 use Rattle.std.specs.Prelude.{ℕ, ℤ, List, Option, ◌≡◌, ◌==◌, ◌&&◌, Bool, true, refl}
 use Rattle.std.specs.Bool.{Decides}
 use Rattle.std.specs.Option.{option_eq}
@@ -33,7 +33,7 @@ use Rattle.session_model.specs.contracts.turn.TurnPartialEq.TheImpl as same_turn
 use denote.Enum.Compared.{Each}
 use denote.Enum.Declared.{values_one}
 
--- ---- fields
+-- ---- Fields
 
 abbrev same_text : List ℕ → List ℕ → Bool
 same_text = pointwise ◌==◌

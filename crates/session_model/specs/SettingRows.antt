@@ -31,12 +31,12 @@ set_by limits set read write =
 pub nothing_offered : setting_of [] default_options (extensions 0) [] ≡ set_by false 0 32768 32768
 nothing_offered = refl
 
--- the option bounds what the server lets read
+-- The option bounds the length that the server lets clients read.
 pub read_less : setting_of [] (record default_options { max_read_len = Some 7 }) (extensions 4) []
     ≡ set_by false 4 7 32768
 read_less = refl
 
--- a window within its range is taken as it is, and none is less than one READ or more than 64
+-- A window within its range is used as it is; none is less than one READ or more than 64.
 abbrev window_of : ℕ → ℕ
 window_of reads = (setting_of [] (record default_options { read_window = reads }) (extensions 0) []).facts.read_window
 
@@ -49,16 +49,16 @@ no_window = refl
 pub window_too_great : window_of 65 ≡ 64
 window_too_great = refl
 
--- a server that offers limits and hasn't told them yet
+-- A server that offers limits and hasn't reported them yet.
 pub not_told_yet : setting_of [] default_options (extensions 32) asked_limits ≡ set_by true 32 32768 32768
 not_told_yet = refl
 
--- numbers of 0 say nothing
+-- Numbers of 0 say nothing.
 pub told_nothing : setting_of [] default_options (extensions 32) told_limits ≡ set_by true 32 32768 32768
 unfolding limits_at
 told_nothing = refl
 
--- packets of 0, reads of 9 and writes of 256 bytes
+-- Packets of 0, reads of 9 and writes of 256 bytes.
 abbrev some_limits : Reply
 some_limits = reply.Extended (replicate 15 0 ++ 9 ∷ replicate 6 0 ++ 1 ∷ replicate 9 0)
 
@@ -66,7 +66,7 @@ pub told_some : setting_of [] default_options (extensions 32) (take 0 some_limit
 unfolding limits_at
 told_some = refl
 
--- a first reply counts only where the server offers its limits
+-- A first reply counts only if the server offers its limits.
 pub not_offered : setting_of [] default_options (extensions 31) (take 0 some_limits ∷ asked_limits)
     ≡ set_by false 31 32768 32768
 not_offered = refl

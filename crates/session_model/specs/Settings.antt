@@ -1,13 +1,12 @@
--- What the options of a session, the server's VERSION and its limits fix.
+-- Settings that the options of a session, the server's VERSION and its limits fix.
 use Rattle.std.specs.Prelude.{max, min, Bool, true, false, List, Option, Some, None, Result, Ok, Err}
-use Rattle.sftp_model.specs.Lengths.{offers_limits}
+use Rattle.sftp_model.specs.Lengths.{offers_limits, session_lengths}
 use Rattle.sftp_model.specs.declared.options.SftpOptions.{SftpOptions}
 use Rattle.sftp_model.specs.declared.config.Limits.{Limits}
 use Rattle.sftp_model.specs.declared.flags.Extensions.{Extensions}
 use Rattle.sftp_model.specs.declared.frame_error.FrameError.{FrameError}
 use Rattle.sftp_model.specs.declared.reply.Reply.{Reply}
 use Rattle.sftp_model.specs.declared.reply.Reply.TheVariants as reply
-use Rattle.sftp_model.specs.Lengths.{session_lengths}
 use Rattle.sftp_model.specs.declared.slot.Facts.{Facts}
 use Rattle.sftp_model.specs.ReplyReadings.{limits_at, limits_in}
 use Rattle.plan_model.specs.declared.call.Lane.{Lane}
@@ -15,11 +14,11 @@ use Rattle.session_model.specs.declared.entry.Entry.{Entry}
 use Rattle.session_model.specs.Readings.{answer}
 use Rattle.session_model.specs.Calls.{Setting}
 
--- the server is one of version 3 that offers these extensions
-abbrev pub greeting : Extensions → Reply
-greeting extensions = reply.Version 3 extensions
+-- The VERSION of a server of version 3 that offers these extensions.
+abbrev pub version_reply_of : Extensions → Reply
+version_reply_of extensions = reply.Version 3 extensions
 
--- the facts that plans go by; the write limit is at least one byte, as the lengths are, and the window 1 to 64 READs
+-- The facts that plans use. The write limit is at least one byte, as the lengths are, and the window is 1 to 64 READs.
 abbrev pub facts_of : SftpOptions → Extensions → Option Limits → Facts
 facts_of options extensions limits =
     record {
@@ -34,12 +33,12 @@ abbrev pub limits_of : Option Reply → Option Limits
 limits_of (Some r) = limits_in r
 limits_of None = None
 
--- the limits that a session was told: those of the reply to its first request, where the server offers them
+-- The limits that were reported to a session: those of the reply to its first request, if the server offers them.
 abbrev pub limits_told : Bool → Option Reply → Option Limits
 limits_told false r = None
 limits_told true r = limits_of r
 
--- the setting of a session, once its journal is past the limits
+-- The setting of a session, once its journal is past the limits.
 abbrev pub setting_of : List Lane → SftpOptions → Extensions → List Entry → Setting
 setting_of lanes options extensions past =
     record {

@@ -1,5 +1,4 @@
--- Worked journals of slots that are opened anew and let go, and of several lanes, and beside each what nearly
--- is one.
+-- Worked journals of slots that are opened again and released, and of several lanes, each beside a near miss.
 use Rattle.std.specs.Prelude.{ℕ, ◌≡◌, ◌∷◌, List, [], codes, true, false, Some, None, refl}
 use Rattle.std.proofs.Common.{arith}
 use Rattle.ssh_encoding.specs.Writing.{uint32, string}
@@ -14,7 +13,7 @@ use Rattle.session_model.specs.declared.entry.Entry.TheVariants as entry
 use Rattle.sftp_model.specs.declared.slot.Site.{Site}
 use Rattle.sftp_model.specs.Slots.{fresh_site, with_slot}
 use Rattle.session_model.specs.Calls.{Setting}
-use Rattle.session_model.specs.Grants.{closed, first_let_go}
+use Rattle.session_model.specs.Grants.{closed_grants, first_let_go}
 use Rattle.session_model.specs.Journals.{IsJournal, IsNext}
 use Rattle.session_model.specs.JournalRows.{s}
 use Rattle.session_model.specs.RowWords.{
@@ -32,13 +31,13 @@ use Rattle.session_model.specs.RowWords.{
 }
 use Rattle.plan_model.specs.CallPlans.{next}
 
--- ---- a slot is opened anew, and slots are let go in their order
+-- ---- A slot is opened again, and slots are released in their order
 
 abbrev pub two_opens : ℕ → ℕ → Setting
 two_opens first second = setting_with ((call.OpenFile first to_read (codes "a") ∷ call.OpenFile second to_read
     (codes "b") ∷ []) ∷ [])
 
--- what the slot held is closed when the second open ends
+-- The grant that the slot held is closed when the second open ends.
 abbrev pub opened_anew : List Entry
 opened_anew =
     take 5 ok
@@ -107,7 +106,7 @@ opened_anew_is = (
   ),
 )
 
--- the first open went to slot 1 and the second to slot 0: the second grant is closed first
+-- The first open went to slot 1 and the second to slot 0: the second grant is closed first.
 abbrev pub let_go_by_slots : List Entry
 let_go_by_slots =
     take 3 ok
@@ -189,12 +188,12 @@ pub let_go_other_order : IsNext (two_opens 0 1) (entry.LetGo 0 ∷ both_open) (c
 unfolding request_body attributes string uint32
 let_go_other_order = λ h. let e = h.1.1 in absurd cc
 
-pub both_closed : closed (two_opens 1 0) (close 0 (handle 7) ∷ close 3 (handle 8) ∷ entry.LetGo 0 ∷ both_open)
+pub both_closed : closed_grants (two_opens 1 0) (close 0 (handle 7) ∷ close 3 (handle 8) ∷ entry.LetGo 0 ∷ both_open)
     ≡ Some 0 ∷ Some 1 ∷ []
 unfolding request_body attributes string uint32
 both_closed = refl
 
--- ---- two slots with one grant: only the last of them is closed
+-- ---- Two slots with one grant: only the last of them is closed
 
 abbrev pub shared : Site
 shared = with_slot (with_slot fresh_site 0 (File (record { grant = 4; readable = true; writable = false; offset = 0 })))
@@ -218,7 +217,7 @@ pub shared_is_closed_once : first_let_go (Some 4 ∷ []) shared.slots ≡ None
 unfolding request_body attributes string uint32
 shared_is_closed_once = refl
 
--- ---- several lanes
+-- ---- Several lanes
 
 abbrev pub two_lanes : Setting
 two_lanes = setting_with ((call.OpenFile 0 to_read (codes "a") ∷ []) ∷ (call.OpenFile 0 to_read (codes "b") ∷ []) ∷ [])
@@ -283,17 +282,17 @@ out_of_order_is = (
   ),
 )
 
--- an id that an unanswered request bears
+-- An id that an unanswered request has.
 pub id_in_use : IsNext two_lanes (submit 0 0 0 (open_of (codes "a")) ∷ []) (submit 1 0 0 (open_of (codes "b"))) → ⊥
 unfolding request_body attributes string uint32
 id_in_use = λ h. let e = h.2.1 in absurd cc
 
--- an id that is no uint32
+-- An id that is no uint32.
 pub id_too_great : IsNext two_lanes ([]) (submit 0 0 4294967296 (open_of (codes "a"))) → ⊥
 unfolding request_body attributes string uint32
 id_too_great = λ h. let lt = h.2.0 in absurd (omega (arith, lt))
 
--- the end of another lane's call
+-- The end of another lane's call.
 pub other_lane : IsNext two_lanes (take 0 (granted 7) ∷ both_asked) (end 1 0 outcome.Opened) → ⊥
 unfolding request_body attributes string uint32
 other_lane = λ h. let e = h.1.1 in absurd cc

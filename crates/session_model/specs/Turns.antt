@@ -1,4 +1,4 @@
--- How a session's journal goes on under one turn of its schedule.
+-- Continuations of a session's journal under one turn of its schedule.
 use Rattle.std.specs.Prelude.{
   ◌≡◌,
   ◌⊎◌,
@@ -29,86 +29,88 @@ use Rattle.session_model.specs.declared.event.Owner.TheVariants as owner
 use Rattle.session_model.specs.declared.event.Event.TheVariants.{Submit, Send, Take, Cancel, End}
 use Rattle.session_model.specs.declared.entry.Entry.{Entry}
 use Rattle.session_model.specs.declared.entry.Entry.TheVariants as entry
-use Rattle.session_model.specs.Readings.{asked, sent, awaited, ended}
+use Rattle.session_model.specs.Readings.{count_submitted, count_sent, count_awaited, count_ended}
 use Rattle.session_model.specs.Calls.{Setting, current, move_of}
 use Rattle.session_model.specs.Grants.{next_due}
 use Rattle.session_model.specs.Journals.{MayTake, IsFree, MustClose, cancelled_end}
 
--- ---- what follows each event
+-- ---- Entries that follow each event
 
--- now is before, and then CLOSEs of the grants that were to be closed, one after another
+-- The journal `now` is `before`, followed by CLOSEs of the grants that were to be closed, one after another.
 abbrev pub ClosesTo : Setting → List Entry → List Entry → Type 0
 ClosesTo s before [] = before ≡ []
 ClosesTo s before (e ∷ past) = (before ≡ e ∷ past) ⊎ (((grant : ℕ)
     × ((next_due s past ≡ Some grant) × MustClose past grant e)) × ClosesTo s before past)
 
--- more requests are unsent than may be
+-- True if more requests are unsent than allowed.
 abbrev pub is_full : Setting → List Entry → Bool
-is_full s past = nat_lt s.max_pending (asked past - sent past)
+is_full s past = nat_lt s.max_pending (count_submitted past - count_sent past)
 
--- a Send where more requests are unsent than may be
+-- A Send if more requests are unsent than allowed.
 abbrev pub SendsTo : Setting → List Entry → List Entry → Type 0
 SendsTo s before now = MatchBool (is_full s before) (now ≡ entry.Event Send ∷ before) (now ≡ before)
 
--- all grants are closed that were to be closed
+-- All grants are closed that were to be closed.
 abbrev pub SettlesTo : Setting → List Entry → List Entry → Type 0
 SettlesTo s before now = ClosesTo s before now × (next_due s now ≡ None)
 
--- what follows each event: all grants are closed that are to be closed, and then too many unsent requests are sent
+-- The entries that follow each event: all grants are closed that are to be closed, and then too many unsent requests
+-- are sent.
 abbrev pub RulesTo : Setting → List Entry → List Entry → Type 0
 RulesTo s before now = (mid : List Entry) × (SettlesTo s before mid × SendsTo s mid now)
 
--- ---- stages
+-- ---- Progress
 
--- A journal, and which lanes' call was begun: a turn stepped it, and it hasn't ended.
+-- A journal, and the lanes whose call was started: a turn stepped it, and it hasn't ended.
 pub record RunProgress : Type 0 where
   pub past : List Entry
   pub begun : ℕ → Bool
 
--- no lane was begun
+-- No lane was started.
 abbrev pub none_begun : ℕ → Bool
 none_begun = λ l. false
 
--- the lanes that were begun, and this one
+-- The lanes that were started, and this one.
 abbrev pub begun_with : (ℕ → Bool) → ℕ → ℕ → Bool
 begun_with begun lane = λ l. (lane == l) || begun l
 
--- the lanes that were begun, but this one
+-- The lanes that were started, except this one.
 abbrev pub begun_but : (ℕ → Bool) → ℕ → ℕ → Bool
 begun_but begun lane = λ l. not (lane == l) && begun l
 
--- ---- single turns, where `Follows` says what follows their event
+-- ---- Single turns; `Follows` is the relation of what follows their event
 
--- a lane makes its next move
+-- A lane makes its next move.
 abbrev pub MovesBy : (List Entry → List Entry → Type 0) → ℕ → RunProgress → RunProgress → Option Move → Type 0
 MovesBy Follows lane before now None = now ≡ before
 MovesBy Follows lane before now (Some (Wait place)) = now ≡ record
     { past = before.past; begun = begun_with before.begun lane }
 MovesBy Follows lane before now (Some (Ask r)) =
     (now.begun ≡ begun_with before.begun lane)
-    × ((id : ℕ) × (IsFree before.past id × Follows (entry.Event (Submit (owner.Call lane (ended before.past lane)) id r)
+    × ((id : ℕ) × (IsFree before.past id × Follows (entry.Event
+    (Submit (owner.Call lane (count_ended before.past lane)) id r)
     ∷ before.past) now.past))
 MovesBy Follows lane before now (Some (Done o site)) =
-    (now.begun ≡ begun_but before.begun lane) × Follows (entry.Event (End lane (ended before.past lane) o) ∷
+    (now.begun ≡ begun_but before.begun lane) × Follows (entry.Event (End lane (count_ended before.past lane) o) ∷
     before.past) now.past
 
--- what is unsent is sent
+-- The unsent requests are sent.
 abbrev pub FlushesBy : (List Entry → List Entry → Type 0) → RunProgress → RunProgress → Type 0
 FlushesBy Follows before now =
-    MatchBool (nat_lt (sent before.past) (asked before.past))
+    MatchBool (nat_lt (count_sent before.past) (count_submitted before.past))
     ((now.begun ≡ before.begun) × Follows (entry.Event Send ∷ before.past) now.past)
     (now ≡ before)
 
--- where a sent request is unanswered, one reply is taken
+-- If a sent request is unanswered, one reply is taken.
 abbrev pub TakesBy : (List Entry → List Entry → Type 0) → RunProgress → RunProgress → Type 0
 TakesBy Follows before now =
-    MatchBool (nat_lt 0 (awaited before.past))
+    MatchBool (nat_lt 0 (count_awaited before.past))
     ((now.begun ≡ before.begun)
     × ((id : ℕ) × ((r : Reply) × (MayTake before.past id r × Follows (entry.Event (Take id r) ∷ before.past)
     now.past))))
     (now ≡ before)
 
--- the call of a begun lane is cancelled
+-- The call of a started lane is cancelled.
 abbrev pub CancelsBy : (List Entry → List Entry → Type 0) → Setting → ℕ → RunProgress → RunProgress → Type 0
 CancelsBy Follows s lane before now =
     MatchBool (is_some (current s before.past lane) && before.begun lane)
@@ -117,9 +119,9 @@ CancelsBy Follows s lane before now =
     now.past)
     (now ≡ before)
 
--- ---- one turn
+-- ---- One turn
 
--- one turn, and what follows its event
+-- One turn, and what follows its event.
 abbrev pub TurnTo : Setting → Turn → RunProgress → RunProgress → Type 0
 TurnTo s (turn.Step lane) before now = MovesBy (RulesTo s) lane before now (move_of s before.past lane)
 TurnTo s turn.Flush before now = FlushesBy (RulesTo s) before now

@@ -1,3 +1,4 @@
+//! Copies of events and entries.
 use crate::entry::Entry;
 use crate::event::Event;
 use sftp_model::TryCopy;

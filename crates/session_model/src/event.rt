@@ -1,6 +1,9 @@
+//! Events of a session.
 use sftp_model::{Outcome, Reply, Request};
 
-/// On whose behalf a request is submitted.
+/// The owner of a request, on whose behalf it is submitted.
+///
+/// Example: `crates/test_session/src/text.rt`.
 #[derive(Clone, Copy, Debug, PartialEq, Eq)]
 pub enum Owner {
     /// A call of a lane, each by its number.
@@ -11,7 +14,9 @@ pub enum Owner {
     Close,
 }
 
-/// What happened in a session.
+/// An event of a session.
+///
+/// Example: `crates/test_session/src/text.rt`.
 #[derive(Debug, Drop, PartialEq, Eq)]
 pub enum Event {
     /// A request was put into the queue.
@@ -27,7 +32,7 @@ pub enum Event {
         id: u32,
         reply: Reply,
     },
-    /// The call of this lane was cancelled. Its end stands next.
+    /// The call of this lane was cancelled. Its end comes next.
     Cancel {
         lane: u32,
     },

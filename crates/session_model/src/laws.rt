@@ -1,4 +1,4 @@
-// Laws of the definitions. The functions do nothing: what they ensure holds of all values.
+//! Laws of the definitions. The functions do nothing: their postconditions hold of all values.
 ghost use Rattle.std.specs.Prelude.{◌≡◌, ◌≢◌, ◌<◌, ◌≤◌, ◌-◌, ◌^◌, ℕ, true, false, List, [], ◌∷◌, length, Some, None};
 ghost use Rattle.sftp_model.specs.declared.reply.Reply.{Reply};
 ghost use Rattle.sftp_model.specs.declared.reply.Reply.TheVariants.{Content};
@@ -17,21 +17,21 @@ ghost use Rattle.session_model.specs.Calls.{Setting, current, GoesByPlan, site_o
 ghost use Rattle.session_model.specs.Ids.{id_state, ReadsId};
 ghost use Rattle.session_model.specs.Journals.{IsJournal, IsOver, MayTake};
 ghost use Rattle.session_model.specs.Grants.{IsSettled};
-ghost use Rattle.session_model.specs.Grants.{next_due, is_grant, is_held, is_one_of, closed};
+ghost use Rattle.session_model.specs.Grants.{next_due, is_grant, is_held, is_one_of, closed_grants};
 ghost use Rattle.session_model.specs.Closes.{granted_handles, closed_handles, times, AreClosed, closes_of};
 ghost use Rattle.session_model.specs.Submitted.{submitted_at};
 ghost use Rattle.session_model.specs.Runs.{IsRun};
 ghost use Rattle.session_model.specs.Turns.{RunProgress, ClosesTo};
 ghost use Rattle.session_model.specs.declared.turn.Turn.{Turn};
 
-/// A reply that was taken stays, whatever is taken behind it.
+/// A reply that was taken stays, whichever replies are taken after it.
 pub fn replies_stay()
     ensures { (past : List Entry) (id : ℕ) (r q : Reply) (place : ℕ) → MayTake past id r
         → answer past place ≡ Some q → answer (entry.Event (Take id r) ∷ past) place ≡ Some q }
 {}
 
-/// No two ids name one request. In a run so far an unanswered request is the last that bears its id, and so no
-/// other unanswered one bears it.
+/// No two ids name one request. In a run so far an unanswered request is the last with its id, and so no other
+/// unanswered one has it.
 pub fn ids_name_requests()
     ensures one_id { (past : List Entry) (i j place : ℕ) → bearer past i ≡ Some place
         → bearer past j ≡ Some place → i ≡ j }
@@ -42,51 +42,50 @@ pub fn ids_name_requests()
         → answer past q ≡ None → a.id ≡ b.id → p ≡ q }
 {}
 
-/// What the recursion over a journal says of an id is what the journal's readings say.
+/// The recursion over a journal and the journal's readings agree for each id.
 pub fn ids_are_read()
     ensures { (past : List Entry) (id : ℕ) → ReadsId past id (id_state past id) }
 {}
 
-/// In a run so far the current call of a lane goes by its plan: each of its requests was what the plan asked, when
-/// no reply to it had come, by replies that are still there, and each reply to one may answer it.
+/// In a run so far the current call of a lane follows its plan. Each of its requests was the one that the plan asked,
+/// when no reply to it had come, by replies that are still in the journal; and each reply to one may answer it.
 pub fn calls_go_by_their_plans()
     ensures { (s : Setting) (past : List Entry) (lane : ℕ) (c : Call) → IsJournal s past
         → current s past lane ≡ Some c → GoesByPlan s past lane c }
 {}
 
-/// A whole run is a run so far, and behind it each lane was let go, nothing is to be closed and nothing is
-/// unanswered.
+/// A whole run is a run so far. After it each lane was released, nothing is to be closed and nothing is unanswered.
 pub fn runs_are_journals()
     ensures so_far { (s : Setting) (turns : List Turn) (past : List Entry) → IsRun s turns past → IsJournal s past }
     ensures over { (s : Setting) (turns : List Turn) (past : List Entry) → IsRun s turns past → IsOver s past }
 {}
 
-/// Where a lane was let go and its grants are closed in the order of its slots, no grant at all is to be closed.
+/// If a lane was released and its grants are closed in the order of its slots, no grant at all is to be closed.
 pub fn letting_go_settles()
     ensures { (s : Setting) (past now : List Entry) (lane : ℕ) → IsSettled s past
         → current s past lane ≡ None → ClosesTo s (entry.LetGo lane ∷ past) now → next_due s now ≡ None
         → IsSettled s now }
 {}
 
-/// Each grant has one CLOSE at most, and where it has one, it came by a HANDLE and nothing holds it any more.
-/// Behind a whole run each grant has one.
+/// Each grant has at most one CLOSE. If it has one, the grant came by a HANDLE and nothing holds it any more. After a
+/// whole run each grant has one.
 pub fn grants_are_closed_once()
     ensures once { (s : Setting) (past : List Entry) (g : ℕ) → IsJournal s past → closes_of s past g ≤ 1 }
     ensures granted { (s : Setting) (past : List Entry) (g : ℕ) → IsJournal s past
-        → is_one_of (closed s past) g ≡ true → (is_grant past g ≡ true) × (is_held s past g ≡ false) }
+        → is_one_of (closed_grants s past) g ≡ true → (is_grant past g ≡ true) × (is_held s past g ≡ false) }
     ensures all { (s : Setting) (turns : List Turn) (past : List Entry) (g : ℕ) → IsRun s turns past
         → is_grant past g ≡ true → closes_of s past g ≡ 1 }
 {}
 
-/// No handle was closed more often than it was granted, and behind a whole run each was closed exactly as often.
+/// No handle was closed more often than it was granted, and after a whole run each was closed exactly as often.
 pub fn handles_are_closed()
     ensures so_far { (s : Setting) (past : List Entry) (handle : List ℕ) → IsJournal s past
         → times handle (closed_handles past) ≤ times handle (granted_handles past) }
     ensures all { (s : Setting) (turns : List Turn) (past : List Entry) → IsRun s turns past → AreClosed past }
 {}
 
-/// In a run so far the buffer has no bytes where a READ is under way for a lane's buffered file, and the request is a
-/// READ at the file's offset: so the bytes of a DATA that may answer it end within the range of offsets.
+/// In a run so far the buffer has no bytes if a READ is under way for a lane's buffered file, and the request is a READ
+/// at the file's offset. So the bytes of a DATA that may answer it end within the range of offsets.
 pub fn reads_under_way_fit()
     ensures stand { (s : Setting) (past : List Entry) (lane : ℕ) → IsJournal s past
         → ReadsStand (submitted_at past) (site_of s past lane) }

@@ -1,6 +1,5 @@
-//! What the lanes of an SFTP session do, in the words of its journal: calls and turns, the entries of a
-//! journal, and the definitions of `specs/` that say which journals are runs, which logs show them and which
-//! servers of files they were served by.
+//! The model of an SFTP session's lanes: calls and turns, the entries of a journal, and the definitions of `specs/`
+//! that say which journals are runs, which logs show them and which servers of files served them.
 #![tactic(auto)]
 
 mod copy;

@@ -1,3 +1,4 @@
+//! Comparisons of turns, owners, events and entries for equality.
 ghost use Rattle.session_model.specs.Same.{turn_decides, owner_decides, event_decides, entry_decides};
 
 use crate::entry::Entry;

@@ -1,12 +1,12 @@
 pub mod Lists
-pub mod Steps
-pub mod SeatSteps
+mod Steps
+mod SeatSteps
 pub mod HoldLaws
-pub mod NewSeatLaws
+mod NewSeatLaws
 pub mod GrowLaws
 pub mod JoinLaws
 pub mod CoverLaws
-pub mod UserLaws
+mod UserLaws
 pub mod HomeLaws
-pub mod KeptRows
+mod KeptRows
 pub mod RepeatLaws

@@ -42,18 +42,18 @@ use Rattle.session_seats.specs.Sights.{
   sight_of,
   seat_name,
   own,
-  gave,
+  seats_given_by,
   lanes_in,
   name_at,
   one_lane,
   AllNamed,
-  Seated,
-  Later,
-  Rises,
+  AreSeatedInOrder,
+  IsLaterSight,
+  CountsRise,
   StaysThere,
 }
 use Rattle.session_seats.specs.declared.view.Receipt.{Receipt}
-use Rattle.session_seats.specs.Rules.{Took, sees, Kept, grown, newer, MayRelease, next_lane, first_share, seating, giver, fresh, newcomer}
+use Rattle.session_seats.specs.Rules.{ShowsSightOf, sees, Kept, claim_with_entries, newer, MayRelease, next_lane, first_share, with_seated_lane, giver, fresh, newcomer}
 use Rattle.session_seats.specs.Holds.{claim_of, number_of, sight_by, seat_with, HasTaken, CanRelease, Releases, IsFresh, NamesLane, lane_in}
 use Rattle.session_seats.specs.NewSeats.{Gives, GivesLane, HasNone, Looks, with_seat}
 use Rattle.session_seats.proofs.Lists.{name_there, rises_none, stays_same, gave-others, later_on, later_same}
@@ -70,11 +70,13 @@ own_none seats (s ∷ past) h =
     ap (λ b. if b then own (length seats) past ++ receipt (length past) s.entry ∷ [] else own (length seats) past)
     (ne_eqb s.by (length seats) (λ same. absurd (omega arith))) ∙ own_none seats past h.1
 
-gave_none : (n : ℕ) (seats : List SeatName) → length seats ≤ n → 0 < n → Seated seats → gave n seats ≡ []
+gave_none : (n : ℕ) (seats : List SeatName) → length seats ≤ n → 0 < n → AreSeatedInOrder seats → seats_given_by n seats
+    ≡ []
 gave_none n [] less some h = refl
 gave_none n (g ∷ seats) less some h =
     let apart : g.by ≢ n = earlier (length seats) refl in
-    ap (λ b. if b then gave n seats ++ length seats ∷ [] else gave n seats) (ne_eqb g.by n apart) ∙ gave_none n seats (omega arith) some h.3
+    ap (λ b. if b then seats_given_by n seats ++ length seats ∷ [] else seats_given_by n seats) (ne_eqb g.by n apart)
+    ∙ gave_none n seats (omega arith) some h.3
   where
     earlier : (k : ℕ) → length seats ≡ k → g.by ≢ n
     earlier Prim.Native.Nat.zero is same = let z = h.1 is in absurd (omega arith)
@@ -92,7 +94,8 @@ with_none y = let seated : y.seated ≡ y.seated + 0 = omega arith in let users 
 pub look_can : {S : Type 0} (shown : S → Shown) (m p : Me S View) (h : HasTaken shown m p) (z : S) → shown z
     ≡ shown h.value → CanRelease shown (p.0, (0, z) ∷ rest p.1)
 look_can shown m p h z is =
-    let told : h.now ≡ sight_of (shown z) h.now.log h.now.seats = h.took.shows.told ∙ ap (λ (x : Shown). sight_of x h.now.log h.now.seats) (sym is) in
+    let told : h.now ≡ sight_of (shown z) h.now.log h.now.seats = h.took.shows.told
+    ∙ ap (λ (x : Shown). sight_of x h.now.log h.now.seats) (sym is) in
     let handed : h.now.counts.handed ≡ (shown z).counts.handed = ap (λ (s : Sight). s.counts.handed) told in
     let wrote : h.now.counts.written ≡ (shown z).counts.written = ap (λ (s : Sight). s.counts.written) told in
     let stage : h.now.counts.stage ≡ (shown z).counts.stage = ap (λ (s : Sight). s.counts.stage) told in
@@ -106,8 +109,9 @@ look_can shown m p h z is =
         seated = ap (λ (x : Shown). x.seated) is ∙ h.took.shows.seated;
         lanes = sym (ap (λ (s : Sight). s.lanes) told);
         options = sym (ap (λ (s : Sight). s.options) told);
-        version = subst (λ (s : Sight). StaysThere s.version (shown z).version) (sym told) (stays_same (shown z).version);
-        rises = subst (λ (s : Sight). Rises s.counts (shown z).counts) (sym told) (rises_none (shown z).counts);
+        version = subst (λ (s : Sight). StaysThere s.version (shown z).version) (sym told)
+            (stays_same (shown z).version);
+        rises = subst (λ (s : Sight). CountsRise s.counts (shown z).counts) (sym told) (rises_none (shown z).counts);
         written = omega arith;
         users_are = omega arith;
         ends = ((let low = h.took.ends.0 in omega arith), λ rose. users ∙ h.took.ends.1 (omega arith));
@@ -116,13 +120,16 @@ look_can shown m p h z is =
 
 pub looked : {S : Type 0} (shown : S → Shown) (m p n : Me S View) (h : HasTaken shown m p) (z : S) → shown z
     ≡ shown h.value → Releases shown (p.0, (0, z) ∷ rest p.1) n
-    → (n ≡ seat_with (grown (shown z) (shown h.value).users (sees h.now (claim_of m)))) × Looks shown m n
+    → (n ≡ seat_with (claim_with_entries (shown z) (shown h.value).users (sees h.now (claim_of m)))) × Looks shown m n
 looked shown m p n h z is rel =
-    let told : h.now ≡ sight_of (shown z) h.now.log h.now.seats = h.took.shows.told ∙ ap (λ (x : Shown). sight_of x h.now.log h.now.seats) (sym is) in
-    let n-is = rel z (shown h.value).users (sees h.now (claim_of m)) (ap (λ (x : Me _ View). (x.0, (0, z) ∷ rest x.1)) h.is) in
+    let told : h.now ≡ sight_of (shown z) h.now.log h.now.seats = h.took.shows.told
+    ∙ ap (λ (x : Shown). sight_of x h.now.log h.now.seats) (sym is) in
+    let n-is = rel z (shown h.value).users (sees h.now (claim_of m))
+    (ap (λ (x : Me _ View). (x.0, (0, z) ∷ rest x.1)) h.is) in
     let none-newer = newer-is (shown z) h.now.log [] (ap (λ (x : Shown). x.past) is ∙ h.took.shows.past) in
     let users : (shown z).users ≡ (shown h.value).users = ap (λ (x : Shown). x.users) is in
-    let share : (claim_of n).share ≡ (claim_of m).share + (shown z).users - (shown h.value).users = ap (λ (x : Me _ View). (claim_of x).share) n-is in (
+    let share : (claim_of n).share ≡ (claim_of m).share + (shown z).users - (shown h.value).users =
+    ap (λ (x : Me _ View). (claim_of x).share) n-is in (
       n-is,
       record {
         before = h.value;
@@ -142,17 +149,19 @@ pub looked_at : {S : Type 0} (shown : S → Shown) (m p n : Me S View) (h : HasT
 unfolding looked
 looked_at shown m p n h z is rel = ((looked shown m p n h z is rel).1, refl)
 
-pub hand_is : {S : Type 0} (shown : S → Shown) (m p : Me S View) (h : HasTaken shown m p) → p.1 ≡ (0, h.value) ∷ rest p.1
+pub hand_is : {S : Type 0} (shown : S → Shown) (m p : Me S View) (h : HasTaken shown m p) → p.1
+    ≡ (0, h.value) ∷ rest p.1
 hand_is shown m p h = ap (λ (x : Me _ View). x.1) h.is ∙ ap (λ (x : Me _ View). (0, h.value) ∷ rest x.1) (sym h.is)
 
 -- ---- the value and the two seats
 
-module _ {S : Type 0} (shown : S → Shown) (m p : Me S View) (h : HasTaken shown m p) (names : Bool) (enough : first_share names ≤ (claim_of m).share) where
+module _ {S : Type 0} (shown : S → Shown) (m p : Me S View) (h : HasTaken shown m p) (names : Bool)
+    (enough : first_share names ≤ (claim_of m).share) where
   abbrev old : Claim
   old = sees h.now (claim_of m)
 
   abbrev new : Claim
-  new = seating names old
+  new = with_seated_lane names old
 
   abbrev y : Shown
   y = shown h.value
@@ -177,8 +186,9 @@ module _ {S : Type 0} (shown : S → Shown) (m p : Me S View) (h : HasTaken show
         let lanes = lane_counts names h.now.seats in
         let seated = h.took.shows.seated in
         let has = h.took.share in
-        let counts : Rises h.now.counts (shown z).counts = subst (λ (s : Sight). Rises s.counts (shown z).counts)
-        (sym told) (subst (Rises y.counts) (sym same) (rises_none y.counts)) in record {
+        let counts : CountsRise h.now.counts (shown z).counts = subst
+        (λ (s : Sight). CountsRise s.counts (shown z).counts)
+        (sym told) (subst (CountsRise y.counts) (sym same) (rises_none y.counts)) in record {
           past = ([], ap (λ (x : Shown). x.past) is ∙ h.took.shows.past, tt);
           seated = omega arith;
           lanes = ap (λ (x : Shown). x.lanes) is ∙ sym (ap (λ (s : Sight). s.lanes) told);
@@ -188,7 +198,11 @@ module _ {S : Type 0} (shown : S → Shown) (m p : Me S View) (h : HasTaken show
           rises = counts;
           written = omega arith;
           users_are = omega arith;
-          ends = ((let low = h.took.ends.0 in omega arith), λ rose. let none-left = h.took.ends.1 (omega arith) in omega arith);
+          ends = (
+            (let low = h.took.ends.0 in omega arith),
+            λ rose. let none-left = h.took.ends.1 (omega arith) in
+                omega arith,
+          );
         }
 
     pub gives_can : (q : Me S View) → q ≡ (giver names p.0, (0, z) ∷ rest p.1) → CanRelease shown q
@@ -202,10 +216,12 @@ module _ {S : Type 0} (shown : S → Shown) (m p : Me S View) (h : HasTaken show
     }
 
     abbrev pub after : Claim
-    after = grown (shown z) y.users new
+    after = claim_with_entries (shown z) y.users new
 
-    pub gave_seat : (q n : Me S View) → q ≡ (giver names p.0, (0, z) ∷ rest p.1) → Releases shown q n → n ≡ seat_with after
-    gave_seat q n q-is rel = rel z y.users new (q-is ∙ ap (λ (x : Me S View). (giver names x.0, (0, z) ∷ rest x.1)) h.is)
+    pub gave_seat : (q n : Me S View) → q ≡ (giver names p.0, (0, z) ∷ rest p.1) → Releases shown q n → n
+        ≡ seat_with after
+    gave_seat q n q-is rel = rel z y.users new (q-is ∙ ap (λ (x : Me S View). (giver names x.0, (0, z) ∷ rest x.1))
+        h.is)
 
     pub fresh_seat : (w : Me S View) → w ≡ (newcomer names p.0, []) → w ≡ seat_with (fresh names old)
     fresh_seat w is' = is' ∙ ap (λ (x : Me S View). (newcomer names x.0, [])) h.is
@@ -230,36 +246,42 @@ module _ {S : Type 0} (shown : S → Shown) (m p : Me S View) (h : HasTaken show
           share = omega arith;
           sight = ap (λ (x : Me S View). sight_by x) n-is ∙ sight_after;
           given =
-              (λ i. gave (number_of (n-is i)) (sight_by (n-is i)).seats)
-              ∙ ap (λ b. if b then gave (number_of m) h.now.seats ++ length h.now.seats ∷ [] else
-              gave (number_of m) h.now.seats) (eq-eqb (number_of m) (number_of m) refl)
+              (λ i. seats_given_by (number_of (n-is i)) (sight_by (n-is i)).seats)
+              ∙ ap (λ b. if b then seats_given_by (number_of m) h.now.seats ++ length h.now.seats ∷ [] else
+              seats_given_by (number_of m) h.now.seats) (eq-eqb (number_of m) (number_of m) refl)
               ∙ (λ i. h.took.given i ++ number_of (sym w-is i) ∷ []);
           new_number = ap (λ (x : Me S View). number_of x) w-is;
           new_share = ap (λ (x : Me S View). (claim_of x).share) w-is;
-          new_sight = ap (λ (x : Me S View). sight_by x) w-is ∙ sym sight_after ∙ sym (ap (λ (x : Me S View). sight_by x) n-is);
+          new_sight = ap (λ (x : Me S View). sight_by x) w-is ∙ sym sight_after
+              ∙ sym (ap (λ (x : Me S View). sight_by x) n-is);
         }
 
-    pub is_fresh : (w : Me S View) → w ≡ seat_with (fresh names old) → IsFresh (claim_of w) (next_lane names h.now.seats)
-    is_fresh w w-is = subst (λ (c : Claim). IsFresh c (next_lane names h.now.seats)) (sym (ap (λ (x : Me S View). claim_of x) w-is)) record {
-      names = ap (λ b. lane_in (if b then Some (seat_name (number_of m) (next_lane names h.now.seats)) else
-          name_at h.now.seats (length h.now.seats))) (eq-eqb (length h.now.seats) (length h.now.seats) refl);
-      made = own_none h.now.seats h.now.log h.took.lawful.named;
-      given = let there = h.took.there in gave-others (number_of m) (length h.now.seats) (next_lane names h.now.seats)
-          h.now.seats (λ same. absurd (omega arith)) ∙ gave_none (length h.now.seats) h.now.seats (omega arith)
-          (omega arith) h.took.lawful.seated;
-    }
+    pub is_fresh : (w : Me S View) → w ≡ seat_with (fresh names old)
+        → IsFresh (claim_of w) (next_lane names h.now.seats)
+    is_fresh w w-is = subst (λ (c : Claim). IsFresh c (next_lane names h.now.seats))
+        (sym (ap (λ (x : Me S View). claim_of x) w-is)) record {
+          names = ap (λ b. lane_in (if b then Some (seat_name (number_of m) (next_lane names h.now.seats)) else
+              name_at h.now.seats (length h.now.seats))) (eq-eqb (length h.now.seats) (length h.now.seats) refl);
+          made = own_none h.now.seats h.now.log h.took.lawful.named;
+          given = let there = h.took.there in gave-others (number_of m) (length h.now.seats) (next_lane names h.now.seats)
+              h.now.seats (λ same. absurd (omega arith)) ∙ gave_none (length h.now.seats) h.now.seats (omega arith)
+              (omega arith) h.took.lawful.seated;
+        }
 
 -- ---- a lane's seat
 
 module _ {S : Type 0} (shown : S → Shown) (m p : Me S View) (h : HasTaken shown m p) (z : S) where
   -- the lane that the new seat names is the next one, and it is there
-  pub gives_lane : (enough : first_share true ≤ (claim_of m).share) (is : shown z ≡ with_seat true (shown h.value)) (n w : Me S View)
+  pub gives_lane : (enough : first_share true ≤ (claim_of m).share) (is : shown z ≡ with_seat true (shown h.value))
+      (n w : Me S View)
       → n ≡ seat_with (after shown m p h true enough z is) → w ≡ seat_with (fresh true (sees h.now (claim_of m)))
-      → (lane : ℕ) → lane ≡ (shown h.value).seated → lane < length (shown h.value).lanes → GivesLane shown (Some lane) m n w
+      → (lane : ℕ) → lane ≡ (shown h.value).seated → lane < length (shown h.value).lanes
+      → GivesLane shown (Some lane) m n w
   unfolding gives
   gives_lane enough is n w n-is w-is lane next less =
       let g : Gives shown true m n w = gives shown m p h true enough z is n w n-is w-is in
-      let seats : lanes_in (sight_by n).seats ≡ 1 + lanes_in h.now.seats = ap (λ (s : Sight). lanes_in s.seats) g.sight in
+      let seats : lanes_in (sight_by n).seats ≡ 1 + lanes_in h.now.seats = ap (λ (s : Sight). lanes_in s.seats) g.sight
+      in
       let lanes : length (sight_by n).lanes ≡ length (shown h.value).lanes =
       ap (λ (s : Sight). length s.lanes) g.sight ∙ ap (λ (s : Sight). length s.lanes) h.took.shows.told in
       let seated = h.took.shows.seated in
@@ -286,17 +308,20 @@ module _ {S : Type 0} (shown : S → Shown) (m p : Me S View) (h : HasTaken show
 
 -- ---- the seat that gave one
 
-module _ {S : Type 0} (shown : S → Shown) (m n : Me S View) (now : Sight) (y : Shown) (took : Took (claim_of m) now y)
-    (number : number_of n ≡ number_of m) (log : (sight_by n).log ≡ now.log) (later : Later now (sight_by n)) where
-  pub keeps_name : (lane : Option ℕ) → NamesLane (claim_of m) lane → NamesLane (claim_of n) lane
-  keeps_name lane names = subst (λ (k : ℕ). lane_in (name_at (sight_by n).seats k) ≡ Some lane) (sym number)
-      (still_names (claim_of m) (sight_by n) lane names (later_on (sight_by m) now (sight_by n) took.later later))
+module _ {S : Type 0} (shown : S → Shown) (m n : Me S View) (now : Sight) (y : Shown)
+    (took : ShowsSightOf (claim_of m) now y)
+    (number : number_of n ≡ number_of m) (log : (sight_by n).log ≡ now.log) (later : IsLaterSight now (sight_by n))
+  where
+    pub keeps_name : (lane : Option ℕ) → NamesLane (claim_of m) lane → NamesLane (claim_of n) lane
+    keeps_name lane names = subst (λ (k : ℕ). lane_in (name_at (sight_by n).seats k) ≡ Some lane) (sym number)
+        (still_names (claim_of m) (sight_by n) lane names (later_on (sight_by m) now (sight_by n) took.later later))
 
-  pub keeps_receipts : (receipts : List Receipt) → receipts ≡ own (number_of m) (sight_by m).log → receipts ≡ own (number_of n) (sight_by n).log
-  keeps_receipts receipts was = was ∙ sym took.made ∙ (λ i. own (sym number i) (sym log i))
+    pub keeps_receipts : (receipts : List Receipt) → receipts ≡ own (number_of m) (sight_by m).log → receipts
+        ≡ own (number_of n) (sight_by n).log
+    keeps_receipts receipts was = was ∙ sym took.made ∙ (λ i. own (sym number i) (sym log i))
 
-gives_later : (now s : Sight) (g : SeatName) → s ≡ record now { seats = g ∷ now.seats } → Later now s
-gives_later now s g is = subst (Later now) (sym is) (let same = later_same now in
+gives_later : (now s : Sight) (g : SeatName) → s ≡ record now { seats = g ∷ now.seats } → IsLaterSight now s
+gives_later now s g is = subst (IsLaterSight now) (sym is) (let same = later_same now in
     record {
       log = same.log;
       seats = (g ∷ [], refl);
@@ -307,10 +332,11 @@ gives_later now s g is = subst (Later now) (sym is) (let same = later_same now i
           same.counts;
     })
 
-looks_later : (now s : Sight) → s ≡ now → Later now s
-looks_later now s is = subst (Later now) (sym is) (later_same now)
+looks_later : (now s : Sight) → s ≡ now → IsLaterSight now s
+looks_later now s is = subst (IsLaterSight now) (sym is) (later_same now)
 
-pub gives_keeps : {S : Type 0} (shown : S → Shown) (names : Bool) (m n w : Me S View) (lane : Option ℕ) (receipts : List Receipt) → Gives shown names m n w
+pub gives_keeps : {S : Type 0} (shown : S → Shown) (names : Bool) (m n w : Me S View) (lane : Option ℕ)
+    (receipts : List Receipt) → Gives shown names m n w
     → (NamesLane (claim_of m) lane → NamesLane (claim_of n) lane)
     × (receipts ≡ own (number_of m) (sight_by m).log → receipts ≡ own (number_of n) (sight_by n).log)
 gives_keeps shown names m n w lane receipts h =
@@ -320,7 +346,8 @@ gives_keeps shown names m n w lane receipts h =
       keeps_receipts shown m n h.now (shown h.before) h.took h.number log later receipts,
     )
 
-pub looks_keeps : {S : Type 0} (shown : S → Shown) (m n : Me S View) (lane : Option ℕ) (receipts : List Receipt) → Looks shown m n
+pub looks_keeps : {S : Type 0} (shown : S → Shown) (m n : Me S View) (lane : Option ℕ) (receipts : List Receipt)
+    → Looks shown m n
     → (NamesLane (claim_of m) lane → NamesLane (claim_of n) lane)
     × (receipts ≡ own (number_of m) (sight_by m).log → receipts ≡ own (number_of n) (sight_by n).log)
 looks_keeps shown m n lane receipts h =
@@ -335,7 +362,8 @@ pub seat_keeps : {S A : Type 0} (shown : S → Shown) (m n : Me S View) (o : Opt
     → IfSome o (λ a. GivesLane shown (named a) m n (token a) × P a × Q a) → IfNone o (HasNone shown m n)
     → (NamesLane (claim_of m) lane → NamesLane (claim_of n) lane)
     × (receipts ≡ own (number_of m) (sight_by m).log → receipts ≡ own (number_of n) (sight_by n).log)
-seat_keeps shown m n (Some a) token named P Q lane receipts given none = gives_keeps shown true m n (token a) lane receipts given.0.gives
+seat_keeps shown m n (Some a) token named P Q lane receipts given none =
+    gives_keeps shown true m n (token a) lane receipts given.0.gives
 seat_keeps shown m n None token named P Q lane receipts given none = looks_keeps shown m n lane receipts none.looks
 
 -- and what share the seat has that gave it, or looked for a lane

@@ -6,15 +6,15 @@ use Rattle.session_seats.specs.declared.view.Claim.{Claim}
 use Rattle.session_seats.specs.declared.view.Receipt.{Receipt}
 use Rattle.session_seats.specs.declared.view.Sight.{Sight}
 use Rattle.session_seats.specs.declared.view.View.{View}
-use Rattle.session_seats.specs.Sights.{Shown, stamp, sight_of, own, FitsStage, Later, StaysThere, one_if}
-use Rattle.session_seats.specs.Rules.{sees, grown, newer, MayRelease}
+use Rattle.session_seats.specs.Sights.{Shown, stamp, sight_of, own, FitsStage, IsLaterSight, StaysThere, one_if}
+use Rattle.session_seats.specs.Rules.{sees, claim_with_entries, newer, MayRelease}
 use Rattle.session_seats.specs.Holds.{claim_of, number_of, sight_by, seat_with, HasTaken, CanRelease, Releases, NamesLane}
 use Rattle.session_seats.specs.Users.{with_users, at_stage, Leaves, Raises}
 use Rattle.session_seats.proofs.Lists.{stays_same, later_same}
 use Rattle.session_seats.proofs.Steps.{newer-is}
 use Rattle.session_seats.proofs.NewSeatLaws.{keeps_name, keeps_receipts}
 
-later_stage : (now : Sight) (k : ℕ) → now.counts.stage ≤ k → Later now (at_stage k now)
+later_stage : (now : Sight) (k : ℕ) → now.counts.stage ≤ k → IsLaterSight now (at_stage k now)
 later_stage now k up = let same = later_same now in record {
   log = same.log;
   seats = same.seats;
@@ -24,7 +24,8 @@ later_stage now k up = let same = later_same now in record {
   counts = record { handed = omega arith; written = omega arith; taken = omega arith; stage = up };
 }
 
-module _ {S : Type 0} (shown : S → Shown) (m p : Me S View) (h : HasTaken shown m p) (z : S) (u k : ℕ) (is : shown z ≡ with_users u k (shown h.value)) where
+module _ {S : Type 0} (shown : S → Shown) (m p : Me S View) (h : HasTaken shown m p) (z : S) (u k : ℕ)
+    (is : shown z ≡ with_users u k (shown h.value)) where
   abbrev y : Shown
   y = shown h.value
 
@@ -68,12 +69,19 @@ module _ {S : Type 0} (shown : S → Shown) (m p : Me S View) (h : HasTaken show
         }
 
     pub turn_can : CanRelease shown (p.0, (0, z) ∷ rest p.1)
-    turn_can = record { value = z; claim = mine; users = y.users; is = ap (λ (x : Me S View). (x.0, (0, z) ∷ rest x.1)) h.is; may = may }
+    turn_can = record {
+      value = z;
+      claim = mine;
+      users = y.users;
+      is =
+          ap (λ (x : Me S View). (x.0, (0, z) ∷ rest x.1)) h.is;
+      may = may;
+    }
 
   -- ---- the seat after it
 
   abbrev pub after : Claim
-  after = grown (shown z) y.users mine
+  after = claim_with_entries (shown z) y.users mine
 
   module _ (n : Me S View) (rel : Releases shown (p.0, (0, z) ∷ rest p.1) n) where
     pub turned : n ≡ seat_with after
@@ -94,68 +102,74 @@ module _ {S : Type 0} (shown : S → Shown) (m p : Me S View) (h : HasTaken show
     share_after : (claim_of n).share ≡ (claim_of m).share + (shown z).users - y.users
     share_after = ap (λ (x : Me S View). (claim_of x).share) turned
 
-    later_after : h.now.counts.stage ≤ k → Later h.now (sight_by n)
-    later_after up = subst (Later h.now) (sym sight_after) (later_stage h.now k up)
+    later_after : h.now.counts.stage ≤ k → IsLaterSight h.now (sight_by n)
+    later_after up = subst (IsLaterSight h.now) (sym sight_after) (later_stage h.now k up)
 
 -- ---- a user leaves
 
-module _ {S : Type 0} (shown : S → Shown) (m p : Me S View) (h : HasTaken shown m p) (some : 0 < (claim_of m).share) where
-  -- there is a user, and the end has not begun
-  pub can_leave : (0 < (shown h.value).users) × ((shown h.value).counts.stage ≡ 0)
-  can_leave = let has = h.took.share in (omega arith, not_begun (shown h.value).counts.stage refl)
-    where
-      not_begun : (k : ℕ) → (shown h.value).counts.stage ≡ k → (shown h.value).counts.stage ≡ 0
-      not_begun Prim.Native.Nat.zero is = is
-      not_begun (suc k) is =
-          let has = h.took.share in
-          let now : h.now.counts.stage ≡ (shown h.value).counts.stage = ap (λ (s : Sight). s.counts.stage) h.took.shows.told in
-          let none = h.took.ends.1 (omega arith) in absurd (omega arith)
+module _ {S : Type 0} (shown : S → Shown) (m p : Me S View) (h : HasTaken shown m p) (some : 0 < (claim_of m).share)
+  where
+    -- there is a user, and the end has not begun
+    pub can_leave : (0 < (shown h.value).users) × ((shown h.value).counts.stage ≡ 0)
+    can_leave = let has = h.took.share in (omega arith, not_begun (shown h.value).counts.stage refl)
+      where
+        not_begun : (k : ℕ) → (shown h.value).counts.stage ≡ k → (shown h.value).counts.stage ≡ 0
+        not_begun Prim.Native.Nat.zero is = is
+        not_begun (suc k) is =
+            let has = h.took.share in
+            let now : h.now.counts.stage ≡ (shown h.value).counts.stage =
+            ap (λ (s : Sight). s.counts.stage) h.took.shows.told in
+            let none = h.took.ends.1 (omega arith) in absurd (omega arith)
 
-  ends_if : (b : Bool) (n : ℕ) → b ≡ (n == 1) → FitsStage (one_if b) (n - 1)
-  ends_if true n is = (omega arith, λ rose. let one = eqb-true n 1 (sym is) in omega arith)
-  ends_if false n is = (omega arith, λ rose. absurd (omega arith))
+    ends_if : (b : Bool) (n : ℕ) → b ≡ (n == 1) → FitsStage (one_if b) (n - 1)
+    ends_if true n is = (omega arith, λ rose. let one = eqb-true n 1 (sym is) in omega arith)
+    ends_if false n is = (omega arith, λ rose. absurd (omega arith))
 
-  module _ (z : S) (last : Bool) (is : shown z ≡ with_users ((shown h.value).users - 1) (one_if last) (shown h.value))
-      (is_last : last ≡ ((shown h.value).users == 1)) where
-    begun : (shown h.value).counts.stage ≤ one_if last
-    begun = let none = can_leave.1 in omega arith
+    module _ (z : S) (last : Bool) (is : shown z ≡ with_users ((shown h.value).users - 1) (one_if last) (shown h.value))
+        (is_last : last ≡ ((shown h.value).users == 1)) where
+      begun : (shown h.value).counts.stage ≤ one_if last
+      begun = let none = can_leave.1 in omega arith
 
-    pub leave_can : CanRelease shown (p.0, (0, z) ∷ rest p.1)
-    leave_can = turn_can shown m p h z _ (one_if last) is begun (omega arith) (ends_if last (shown h.value).users is_last)
+      pub leave_can : CanRelease shown (p.0, (0, z) ∷ rest p.1)
+      leave_can = turn_can shown m p h z _ (one_if last) is begun (omega arith)
+          (ends_if last (shown h.value).users is_last)
 
-    pub leaves : (n : Me S View) → Releases shown (p.0, (0, z) ∷ rest p.1) n → Leaves shown last m n
-    leaves n rel =
-        let can = can_leave in
-        let u = (shown h.value).users - 1 in
-        let users = users_are shown m p h z u (one_if last) is in
-        let stage = stage_now shown m p h z u (one_if last) is in
-        let share = share_after shown m p h z u (one_if last) is n rel in record {
-          before = h.value;
-          now = h.now;
-          took = h.took;
-          some = can.0;
-          going = stage ∙ can.1;
-          is_last = is_last;
-          number = number_after shown m p h z u (one_if last) is n rel;
-          share = omega arith;
-          sight = sight_after shown m p h z u (one_if last) is n rel;
-          later = later_after shown m p h z u (one_if last) is n rel (omega arith);
-        }
+      pub leaves : (n : Me S View) → Releases shown (p.0, (0, z) ∷ rest p.1) n → Leaves shown last m n
+      leaves n rel =
+          let can = can_leave in
+          let u = (shown h.value).users - 1 in
+          let users = users_are shown m p h z u (one_if last) is in
+          let stage = stage_now shown m p h z u (one_if last) is in
+          let share = share_after shown m p h z u (one_if last) is n rel in record {
+            before = h.value;
+            now = h.now;
+            took = h.took;
+            some = can.0;
+            going = stage ∙ can.1;
+            is_last = is_last;
+            number = number_after shown m p h z u (one_if last) is n rel;
+            share = omega arith;
+            sight = sight_after shown m p h z u (one_if last) is n rel;
+            later = later_after shown m p h z u (one_if last) is n rel (omega arith);
+          }
 
 -- ---- the stage is raised
 
-module _ {S : Type 0} (shown : S → Shown) (m p : Me S View) (h : HasTaken shown m p) (begun : 0 < (sight_by m).counts.stage) where
+module _ {S : Type 0} (shown : S → Shown) (m p : Me S View) (h : HasTaken shown m p)
+    (begun : 0 < (sight_by m).counts.stage) where
   pub can_raise : (shown h.value).users ≡ 0
   can_raise = let later = h.took.later.counts.stage in h.took.ends.1 (omega arith)
 
-  module _ (z : S) (k : ℕ) (low : k ≤ 2) (is : shown z ≡ with_users (shown h.value).users (max (shown h.value).counts.stage k) (shown h.value)) where
+  module _ (z : S) (k : ℕ) (low : k ≤ 2) (is : shown z ≡ with_users (shown h.value).users
+      (max (shown h.value).counts.stage k) (shown h.value)) where
     abbrev to : ℕ
     to = max (shown h.value).counts.stage k
 
     pub raise_can : CanRelease shown (p.0, (0, z) ∷ rest p.1)
     raise_can =
         let was = h.took.ends.0 in
-        let now : h.now.counts.stage ≡ (shown h.value).counts.stage = ap (λ (s : Sight). s.counts.stage) h.took.shows.told in
+        let now : h.now.counts.stage ≡ (shown h.value).counts.stage =
+        ap (λ (s : Sight). s.counts.stage) h.took.shows.told in
         turn_can shown m p h z (shown h.value).users to is (omega arith) (omega arith) (omega arith, λ rose. can_raise)
 
     pub raises : (n : Me S View) → Releases shown (p.0, (0, z) ∷ rest p.1) n → Raises shown k m n
@@ -176,7 +190,8 @@ module _ {S : Type 0} (shown : S → Shown) (m p : Me S View) (h : HasTaken show
 
 -- ---- what the seat keeps
 
-pub leaves_keeps : {S : Type 0} (shown : S → Shown) (last : Bool) (m n : Me S View) (lane : Option ℕ) (receipts : List Receipt) → Leaves shown last m n
+pub leaves_keeps : {S : Type 0} (shown : S → Shown) (last : Bool) (m n : Me S View) (lane : Option ℕ)
+    (receipts : List Receipt) → Leaves shown last m n
     → (NamesLane (claim_of m) lane → NamesLane (claim_of n) lane)
     × (receipts ≡ own (number_of m) (sight_by m).log → receipts ≡ own (number_of n) (sight_by n).log)
 leaves_keeps shown last m n lane receipts l =
@@ -185,7 +200,8 @@ leaves_keeps shown last m n lane receipts l =
       keeps_receipts shown m n l.now (shown l.before) l.took l.number log l.later receipts,
     )
 
-pub raises_keeps : {S : Type 0} (shown : S → Shown) (stage : ℕ) (m n : Me S View) (lane : Option ℕ) (receipts : List Receipt) → Raises shown stage m n
+pub raises_keeps : {S : Type 0} (shown : S → Shown) (stage : ℕ) (m n : Me S View) (lane : Option ℕ)
+    (receipts : List Receipt) → Raises shown stage m n
     → (NamesLane (claim_of m) lane → NamesLane (claim_of n) lane)
     × (receipts ≡ own (number_of m) (sight_by m).log → receipts ≡ own (number_of n) (sight_by n).log)
 raises_keeps shown stage m n lane receipts l =

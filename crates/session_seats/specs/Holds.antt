@@ -1,4 +1,4 @@
--- A hold of the shared value.
+-- Holds of the shared value.
 use Rattle.std.specs.Prelude.{
   ◌≡◌,
   ◌≤◌,
@@ -30,23 +30,23 @@ use Rattle.session_seats.specs.declared.view.Sight.{Sight}
 use Rattle.session_seats.specs.declared.view.Claim.{Claim}
 use Rattle.session_seats.specs.declared.view.View.{View}
 use Rattle.session_seats.specs.Sights.{
-  Made,
+  SessionInputs,
   Shown,
   own,
   made_on,
-  gave,
+  seats_given_by,
   stamp,
   lane_of,
   name_at,
   FitsStage,
-  Later,
-  Rises,
+  IsLaterSight,
+  CountsRise,
   StaysThere,
 }
-use Rattle.session_seats.specs.Rules.{view, no_counts, first, sees, grown, Took, MayRelease}
+use Rattle.session_seats.specs.Rules.{view, no_counts, first, sees, claim_with_entries, ShowsSightOf, MayRelease}
 
--- what a value shows that nobody has used yet
-abbrev pub at_first : Made → Shown
+-- The view of a value that nobody has used yet.
+abbrev pub at_first : SessionInputs → Shown
 at_first m = record {
   past = [];
   lanes = m.lanes;
@@ -57,9 +57,9 @@ at_first m = record {
   seated = 0;
 }
 
--- ---- what an event does to the value
+-- ---- Effects of an event on the value
 
--- an entry of no lane, or of this one
+-- True for an entry of no lane, or of this one.
 abbrev pub fits_lane : Option ℕ → Option ℕ → Bool
 fits_lane None lane = true
 fits_lane (Some l) None = false
@@ -68,12 +68,12 @@ fits_lane (Some l) (Some k) = l == k
 abbrev pub is_of : Option ℕ → Entry → Bool
 is_of lane e = fits_lane (lane_of e) lane
 
--- an entry of no other lane, and one that the event may add
+-- True for an entry of no other lane that the event may add.
 abbrev pub passes : (Option ℕ → Entry → Bool) → Option ℕ → Entry → Bool
 passes only lane e = only lane e && is_of lane e
 
--- what one hold needs of its seat: how many of the frames that the seat handed out it tells as written, and how many
--- shares it gives up
+-- The needs of one hold from its seat: how many of the frames that the seat handed out it reports as written, and how
+-- many shares it gives up.
 pub record Allowance : Type 0 where
   pub tells : ℕ
   pub leaves : ℕ
@@ -81,16 +81,16 @@ pub record Allowance : Type 0 where
 abbrev pub no_allowance : Allowance
 no_allowance = record { tells = 0; leaves = 0 }
 
--- the seat has what the hold needs
-abbrev pub Spares : Claim → Allowance → Type 0
-Spares c needs = (needs.tells ≤ c.unwritten) × (needs.leaves ≤ c.share)
+-- The seat has what the hold needs.
+abbrev pub MayHold : Claim → Allowance → Type 0
+MayHold c needs = (needs.tells ≤ c.unwritten) × (needs.leaves ≤ c.share)
 
--- there are the users that the seat may take out, and none once the end has begun
+-- There are the users that the seat may take out, and none once the end has started.
 abbrev pub HasUsers : Allowance → Shown → Type 0
 HasUsers may y = (may.leaves ≤ y.users) × FitsStage y.counts.stage y.users
 
--- The journal goes on by these entries, the newest first, which pass the test. What was told stays, no count falls, and
--- users and written frames are within the allowance.
+-- The journal continues by these entries, the newest first, which pass the test. What was reported stays, no count
+-- falls, and users and written frames are within the allowance.
 pub record GoesByEntries (test : Entry → Bool) (may : Allowance) (more : List Entry) (old new : Shown) : Type 0 where
   pub past : new.past ≡ more ++ old.past
   pub passes : list_all test more ≡ true
@@ -98,16 +98,16 @@ pub record GoesByEntries (test : Entry → Bool) (may : Allowance) (more : List 
   pub lanes : new.lanes ≡ old.lanes
   pub options : new.options ≡ old.options
   pub version : StaysThere old.version new.version
-  pub rises : Rises old.counts new.counts
+  pub rises : CountsRise old.counts new.counts
   pub written : old.counts.handed + new.counts.written ≤ may.tells + new.counts.handed + old.counts.written
   pub users : old.users ≤ may.leaves + new.users
   pub ends : FitsStage old.counts.stage old.users → FitsStage new.counts.stage new.users
 
--- the journal goes on by some such entries
+-- The journal continues by some such entries.
 abbrev pub GoesBy : (Entry → Bool) → Allowance → Shown → Shown → Type 0
 GoesBy test may old new = (more : List Entry) × GoesByEntries test may more old new
 
--- ---- tokens
+-- ---- Tokens
 
 module _ {S : Type 0} where
   abbrev pub claim_of : Me S View → Claim
@@ -119,37 +119,37 @@ module _ {S : Type 0} where
   abbrev pub number_of : Me S View → ℕ
   number_of m = (claim_of m).number
 
-  -- a seat with this claim, which has nothing
+  -- A seat with this claim, which has nothing.
   abbrev pub seat_with : Claim → Me S View
   seat_with c = (view false 0 (c ∷ []), [])
 
   abbrev pub IsSeat : Me S View → Type 0
   IsSeat m = m ≡ seat_with (claim_of m)
 
--- the lane that a seat names, if the seat is there
+-- The lane that a seat names, if the seat exists.
 abbrev pub lane_in : Option SeatName → Option (Option ℕ)
 lane_in None = None
 lane_in (Some g) = Some g.lane
 
--- the seat names the lane, or none
+-- The seat names the lane, or none.
 abbrev pub NamesLane : Claim → Option ℕ → Type 0
 NamesLane c lane = lane_in (name_at c.sight.seats c.number) ≡ Some lane
 
--- a seat that has nothing, names this lane or none, and has this share
+-- A seat that has nothing, names this lane or none, and has this share.
 pub record IsSeatOf {S : Type 0} (lane : Option ℕ) (share : ℕ) (m : Me S View) : Type 0 where
   pub free : IsSeat m
   pub named : NamesLane (claim_of m) lane
   pub shares : share ≡ (claim_of m).share
 
 module _ {S : Type 0} (shown : S → Shown) where
-  -- the seat has the value, and has seen what it shows
+  -- The seat has the value, and has seen its view.
   pub record HasTaken (m n : Me S View) : Type 0 where
     pub value : S
     pub now : Sight
-    pub took : Took (claim_of m) now (shown value)
+    pub took : ShowsSightOf (claim_of m) now (shown value)
     pub is : n ≡ (view true (shown value).users (sees now (claim_of m) ∷ []), (0, value) ∷ [])
 
-  -- the seat has the value, and may give it back
+  -- The seat has the value, and may give it back.
   pub record CanRelease (m : Me S View) : Type 0 where
     pub value : S
     pub claim : Claim
@@ -159,49 +159,50 @@ module _ {S : Type 0} (shown : S → Shown) where
 
   abbrev pub Releases : Me S View → Me S View → Type 0
   Releases m n = (y : S) (users : ℕ) (c : Claim) → m ≡ (view true users (c ∷ []), (0, y) ∷ []) → n
-      ≡ seat_with (grown (shown y) users c)
+      ≡ seat_with (claim_with_entries (shown y) users c)
 
-  -- One hold: what the value was, what the seat saw of it, what it is after, and the entries that were added.
+  -- One hold: the value before, the view that the seat had of it, the value after, and the entries that were added.
   pub record Hold (Did : S → S → List Entry → Type 0) (m n : Me S View) : Type 0 where
     pub before : S
     pub now : Sight
     pub after : S
     pub more : List Entry
-    pub took : Took (claim_of m) now (shown before)
+    pub took : ShowsSightOf (claim_of m) now (shown before)
     pub past : (shown after).past ≡ more ++ (shown before).past
-    pub is : n ≡ seat_with (grown (shown after) (shown before).users (sees now (claim_of m)))
+    pub is : n ≡ seat_with (claim_with_entries (shown after) (shown before).users (sees now (claim_of m)))
     pub log : (sight_by n).log ≡ map (stamp (number_of m)) more ++ now.log
     pub seats : (sight_by n).seats ≡ now.seats
-    pub later : Later now (sight_by n)
+    pub later : IsLaterSight now (sight_by n)
     pub did : Did before after more
 
-  -- what an event did in one hold: the entries pass its test, and where memory was there the seat has a receipt of each
+  -- The effect of an event in one hold: the entries pass its test, and if allocation succeeded the seat has a receipt
+  -- of each.
   pub record Applied {X E : Type 0} (test : Entry → Bool) (needs : Allowance) (Does : S → S → Type 0)
       (copied : Result X E) (old new : List Receipt) (y z : S) (more : List Entry) : Type 0 where
     pub goes : GoesByEntries test needs more (shown y) (shown z)
     pub does : Does y z
     pub kept : OnOk copied (new ≡ old ++ made_on (length (shown y).past) more)
 
--- ---- several holds
+-- ---- Several holds
 
--- each receipt is at the place or behind it, and its entry passes the test
+-- Each receipt is at the place or after it, and its entry passes the test.
 abbrev pub AllFrom : ℕ → (Entry → Bool) → List Receipt → Type 0
 AllFrom k test [] = Unit {0}
 AllFrom k test (r ∷ rs) = (k ≤ r.place) × (test r.entry ≡ true) × AllFrom k test rs
 
--- what a call of several holds adds: such entries, behind all that the seat had seen; it gave no seat
-pub record Grew (test : Entry → Bool) (c d : Claim) : Type 0 where
-  pub later : Later c.sight d.sight
+-- The additions by a call of several holds: such entries, after all that the seat had seen; it gave no seat.
+pub record AddsEntries (test : Entry → Bool) (c d : Claim) : Type 0 where
+  pub later : IsLaterSight c.sight d.sight
   pub number : d.number ≡ c.number
   pub more : List Receipt
   pub made : own c.number d.sight.log ≡ own c.number c.sight.log ++ more
   pub passes : AllFrom (length c.sight.log) test more
-  pub given : gave c.number d.sight.seats ≡ gave c.number c.sight.seats
+  pub given : seats_given_by c.number d.sight.seats ≡ seats_given_by c.number c.sight.seats
 
--- ---- new seats
+-- ---- New seats
 
 -- A seat that made and gave nothing yet, and names this lane.
 pub record IsFresh (c : Claim) (lane : Option ℕ) : Type 0 where
   pub names : NamesLane c lane
   pub made : own c.number c.sight.log ≡ []
-  pub given : gave c.number c.sight.seats ≡ []
+  pub given : seats_given_by c.number c.sight.seats ≡ []

@@ -1,20 +1,20 @@
 -- Steps one after another.
 use Rattle.std.specs.Prelude.{◌≡◌, Bool, false, List, [], ◌∷◌, Result, Ok}
 
--- each state comes by a step of the one before it: those between, the newest first
-abbrev pub Led : {X : Type 0} → (X → X → Type 0) → X → List X → X → Type 0
-Led Step first [] last = last ≡ first
-Led Step first (x ∷ earlier) last = Step x last × Led Step first earlier x
+-- Each state comes by a step of the one before it; the states between are listed with the newest first.
+abbrev pub IsChainOf : {X : Type 0} → (X → X → Type 0) → X → List X → X → Type 0
+IsChainOf Step first [] last = last ≡ first
+IsChainOf Step first (x ∷ earlier) last = Step x last × IsChainOf Step first earlier x
 
--- some steps lead from the one to the other, or none
-abbrev pub Repeats : {X : Type 0} → (X → X → Type 0) → X → X → Type 0
-Repeats {X} Step first last = (between : List X) × Led Step first between last
+-- Some steps lead from one state to the other, or none.
+abbrev pub RepeatsSteps : {X : Type 0} → (X → X → Type 0) → X → X → Type 0
+RepeatsSteps {X} Step first last = (between : List X) × IsChainOf Step first between last
 
--- a step with an answer behind which there is a further one
+-- A step with an answer that is followed by another step.
 abbrev pub NotLast : {A E X : Type 0} → (A → Bool) → (Result A E → X → X → Type 0) → X → X → Type 0
 NotLast {A} is_last Step x y = (a : A) × ((is_last a ≡ false) × Step (Ok a) x y)
 
--- steps one after another, and then one with this answer
-abbrev pub Until : {A E X : Type 0} → (A → Bool) → (Result A E → X → X → Type 0) → Result A E → X → X → Type 0
-Until {A} {E} {X} is_last Step answer first last =
-    (mid : X) × (Repeats (NotLast is_last Step) first mid × Step answer mid last)
+-- Steps one after another, and then one with this answer.
+abbrev pub StepsUntil : {A E X : Type 0} → (A → Bool) → (Result A E → X → X → Type 0) → Result A E → X → X → Type 0
+StepsUntil {A} {E} {X} is_last Step answer first last =
+    (mid : X) × (RepeatsSteps (NotLast is_last Step) first mid × Step answer mid last)

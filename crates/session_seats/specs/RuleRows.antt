@@ -1,5 +1,5 @@
--- Worked states of the rule that nearly are ones. With the value of no lanes, which shows itself; the state at the
--- start, which the rule has, stands in proofs/.
+-- Worked states that are near misses of the rule. They have the value of no lanes, which shows itself; the state at the
+-- start, which satisfies the rule, is in proofs/.
 use Rattle.std.specs.Prelude.{ℕ, List, [], ◌∷◌, slice_index}
 use Rattle.std.proofs.Common.{refl, ap, arith, ⊎_elim, subst}
 use mathlib.Core.Option.{Option, some, none}
@@ -7,12 +7,12 @@ use Rattle.atomic_table.specs.Table.{State}
 use Rattle.sftp_model.specs.Options.{default_options}
 use Rattle.session_seats.specs.declared.view.View.{View}
 use Rattle.session_seats.specs.declared.view.Sight.{Sight}
-use Rattle.session_seats.specs.Sights.{Made, Shown, made}
+use Rattle.session_seats.specs.Sights.{SessionInputs, Shown, inputs_of}
 use Rattle.session_seats.specs.Holds.{at_first}
 use Rattle.session_seats.specs.Rules.{IsHome, IsOut, Kept, home}
 
-abbrev pub nothing_yet : Made
-nothing_yet = made [] default_options
+abbrev pub nothing_yet : SessionInputs
+nothing_yet = inputs_of [] default_options
 
 abbrev pub value : Shown
 value = at_first nothing_yet
@@ -23,7 +23,7 @@ itself y = y
 abbrev pub at_home : Shown → List View → State Shown View
 at_home y views = record { words = 0 ∷ []; homes = some y ∷ []; views = views }
 
--- ---- what is at home
+-- ---- What is at home
 
 abbrev is_some : {A : Type 0} → List (Option A) → Type 0
 is_some [] = ⊥
@@ -45,9 +45,9 @@ written_in [] = 0
 written_in (none ∷ homes) = 0
 written_in (some y ∷ homes) = y.counts.written
 
--- ---- near misses
+-- ---- Near misses
 
--- the word says that a seat has the value, which is at home
+-- The word says that a seat has the value, which is at home.
 pub not_said_to_be_out : Kept itself record { words = 1 ∷ []; homes = some value ∷ []; views = home nothing_yet ∷ [] }
     → ⊥
 not_said_to_be_out k =
@@ -56,13 +56,13 @@ not_said_to_be_out k =
     (λ (h : IsOut _). subst is_some h.homes tt)
     k.place
 
--- two seats have the number 0
+-- Two seats have the number 0.
 pub no_number_twice : Kept itself (at_home value (home nothing_yet ∷ home nothing_yet ∷ [])) → ⊥
 no_number_twice k =
     let first = (k.fits 0 (home nothing_yet) refl).claims.0.mine in
     let second = (k.fits 1 (home nothing_yet) refl).claims.0.mine in absurd (omega arith)
 
--- the value counts two users, and the seats have one share
+-- The value counts two users, and the seats have one share.
 pub no_user_without_share : Kept itself (at_home (record value { users = 2 }) (home nothing_yet ∷ [])) → ⊥
 no_user_without_share k =
     ⊎_elim
@@ -73,7 +73,7 @@ no_user_without_share k =
     (λ (h : IsOut _). let word = ap (λ ws. slice_index ws 0) h.words in absurd (omega arith))
     k.place
 
--- a frame was handed out that no seat has still to tell as written
+-- A frame was handed out that no seat has still to report as written.
 pub no_frame_forgotten : Kept itself (at_home (record value { counts = record value.counts { handed = 1 } })
     (home nothing_yet ∷ [])) → ⊥
 no_frame_forgotten k =

@@ -1,4 +1,4 @@
--- Worked rows: the home seat gave one seat, of lane 0; the home seat handed out, and then the other let lane 0 go.
+-- Worked rows: the home seat gave one seat, of lane 0; the home seat handed out, and then the other released lane 0.
 use Rattle.std.specs.Prelude.{◌≡◌, ℕ, List, [], ◌∷◌, Option, Some, None, true, false}
 use Rattle.std.proofs.Common.{refl, ap, ◌∙◌, subst, arith}
 use Rattle.session_model.specs.declared.entry.Entry.TheVariants as entry
@@ -8,8 +8,8 @@ use Rattle.session_seats.specs.declared.view.Stamp.{Stamp}
 use Rattle.session_seats.specs.Sights.{
   AllNamed,
   FitsStage,
-  Seated,
-  gave,
+  AreSeatedInOrder,
+  seats_given_by,
   lane_of,
   lanes_in,
   made_on,
@@ -28,7 +28,7 @@ seats = seat_name 0 (Some 0) ∷ seat_name 0 None ∷ []
 abbrev pub log : List Stamp
 log = stamp 1 (entry.LetGo 0) ∷ stamp 0 (entry.Event Send) ∷ []
 
--- ---- what each made
+-- ---- Entries that each seat made
 
 pub home_made : own 0 log ≡ receipt 0 (entry.Event Send) ∷ []
 home_made = refl
@@ -39,16 +39,16 @@ lane_made = refl
 pub nobody_made : own 2 log ≡ []
 nobody_made = refl
 
--- two entries more, the newest first, have the next places
+-- Two further entries, the newest first, have the next places.
 pub next_places : made_on 2 (entry.Event Send ∷ entry.LetGo 1 ∷ [])
     ≡ receipt 2 (entry.LetGo 1) ∷ receipt 3 (entry.Event Send) ∷ []
 next_places = refl
 
--- the home seat counts among those that it gave
-pub home_gave : gave 0 seats ≡ 0 ∷ 1 ∷ []
+-- The home seat counts among those that it gave.
+pub home_gave : seats_given_by 0 seats ≡ 0 ∷ 1 ∷ []
 home_gave = refl
 
-pub lane_gave : gave 1 seats ≡ []
+pub lane_gave : seats_given_by 1 seats ≡ []
 lane_gave = refl
 
 pub second_seat : name_at seats 1 ≡ Some (seat_name 0 (Some 0))
@@ -60,7 +60,7 @@ no_third_seat = refl
 pub one_lane_seat : lanes_in seats ≡ 1
 one_lane_seat = refl
 
--- ---- the cover
+-- ---- Covers
 
 pub first_covered : times_in 0 (own 0 log ∷ own 1 log ∷ []) ≡ 1
 first_covered = refl
@@ -68,14 +68,14 @@ first_covered = refl
 pub second_covered : times_in 1 (own 0 log ∷ own 1 log ∷ []) ≡ 1
 second_covered = refl
 
--- not without the lane's receipts, nor with the home seat's twice
+-- Neither without the lane's receipts, nor with the home seat's twice.
 pub second_missing : times_in 1 (own 0 log ∷ []) ≡ 0
 second_missing = refl
 
 pub first_twice : times_in 0 (own 0 log ∷ own 0 log ∷ []) ≡ 2
 first_twice = refl
 
--- ---- who may make an entry
+-- ---- Seats that may make an entry
 
 pub any_seat : lane_of (entry.Event Send) ≡ None
 any_seat = refl
@@ -97,15 +97,15 @@ abbrev is_none : Option ℕ → Type 0
 is_none None = Unit {0}
 is_none (Some lane) = ⊥
 
--- the home seat names no lane
+-- The home seat names no lane.
 pub not_by_home : AllNamed seats (stamp 0 (entry.LetGo 0) ∷ []) → ⊥
 not_by_home h = subst is_none (ap lane_by h.0.1 ∙ h.0.2) tt
 
--- lane 1 is not the first that gets a seat
-pub not_lane_1_first : Seated (seat_name 0 (Some 1) ∷ seat_name 0 None ∷ []) → ⊥
+-- Lane 1 is not the first that gets a seat.
+pub not_lane_1_first : AreSeatedInOrder (seat_name 0 (Some 1) ∷ seat_name 0 None ∷ []) → ⊥
 not_lane_1_first h = let is = h.2 in absurd (omega arith)
 
--- ---- the end
+-- ---- The end
 
 pub goes_on : FitsStage 0 3
 goes_on = (omega arith, λ rose. absurd (omega arith))

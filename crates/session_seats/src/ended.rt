@@ -2,7 +2,7 @@
 ghost use Rattle.std.specs.Prelude.{◌≡◌, ◌∷◌, ◌++◌, ◌+◌, ◌≤◌, length, true, vec_capacity, vec_len, IfOk, IfErr};
 ghost use Rattle.std.specs.List.{list_all};
 ghost use Rattle.session_seats.specs.Closes.{AllOf, AllWhole, CanJoin, Closes, HandsBack, JoinsAll, Returns, TakesOut, claims_of, receipts_of, whole_of};
-ghost use Rattle.session_seats.specs.Covers.{Complete, Covers};
+ghost use Rattle.session_seats.specs.Covers.{HasAllSeats, CoversEntries};
 
 use crate::rule::{Check, Held, TakeIn};
 use crate::seat::Seat;
@@ -13,41 +13,57 @@ use std::alloc::Global;
 use std::mem;
 use std::sync::Wait;
 
-/// What a shared value leaves: the value, and for each seat its receipts.
+/// The remains of a shared value: the value, and for each seat its receipts.
+///
+/// Example: `crates/test_tasks/src/kept_fault.rt`.
 #[derive(Drop)]
 pub struct Ended<S: Drop> {
     pub value: S,
     pub receipts: Vec<Vec<Receipt>>,
 }
 
-/// Whether a shared value may be taken out: then `T` is what was made of it before, and else `E` tells why.
+/// A check of whether a shared value may be taken out. If it may, `T` is what was made of it before; otherwise `E` says
+/// why not.
+///
+/// Used in `crates/sftp_tasks/src/report.rt`.
 pub trait Ending<S: Held, T, E> {
     ghost use Rattle.std.specs.Prelude.{IfOk, IfErr};
 
-    // What the value is where it may be taken out, and what was made of it.
+    // The condition of a value that may be taken out, and what was made of it.
     ghost allows: { Self → S → T → Type 0 };
-    // Why it may not be.
+    // The condition under which it may not be taken out.
     ghost refuses: { Self → S → E → Type 0 };
 
-    /// Looks at the value, which is taken out as it is.
+    /// Looks at the value, which is taken out unchanged.
+    ///
+    /// # Errors
+    ///
+    /// The reason that the value may not be taken out.
     fn look(&self, value: &S) -> Result<T, E>
         ensures allowed { IfOk result (allows self.now value.now) }
         ensures refused { IfErr result (refuses self.now value.now) };
 }
 
 /// A shared value was not taken out. Its seats come back with all their receipts.
+///
+/// Used in `crates/sftp_tasks/src/report.rt`.
 #[derive(Drop)]
 pub struct NotEnded<S: Held + Drop, E: Drop> {
-    /// Why it may not be taken out. None where memory was wanting, now or earlier for a receipt of one of the seats.
+    /// The reason that it may not be taken out. `None` if an allocation failed, now or earlier for a receipt of one of
+    /// the seats.
     pub error: Option<E>,
     pub seat: Seat<S>,
     pub others: Vec<Seat<S>>,
 }
 
 impl<S: Held + Drop> Shared<S> {
-    /// Takes the seats in, and the value out, where it may be taken out; the value `empty` is dropped in its place. With Ok there are the
-    /// receipts of each seat in the order of the seats, and what was made of the value before. With an Err no seat was taken in, and each
-    /// comes back with its receipts.
+    /// Takes the seats in, and the value out, if it may be taken out; the value `empty` is dropped in its place. With
+    /// `Ok` it returns the receipts of each seat in the order of the seats, and what was made of the value before.
+    ///
+    /// # Errors
+    ///
+    /// `NotEnded` if the value may not be taken out, or an allocation failed now or earlier for a receipt. No seat was
+    /// taken in then, and each comes back with its receipts.
     pub fn close<T: Drop, E: Drop, X: Ending<S, T, E>, R: Wait>(
         self,
         rt: &R,
@@ -59,7 +75,7 @@ impl<S: Held + Drop> Shared<S> {
     ) -> Result<(Ended<S>, T), NotEnded<S, E>>
         requires own { AllOf self.table.shared.table_id (seat ∷ others.items) }
         ensures closes { IfOk result (λ r. Closes S.shown (seat ∷ others.items) r.0 × X.allows ending.now r.0.value r.1) }
-        ensures covers { IfOk result (λ r. Complete (claims_of (seat ∷ others.items)) → Covers S.shown r.0) }
+        ensures covers { IfOk result (λ r. HasAllSeats (claims_of (seat ∷ others.items)) → CoversEntries S.shown r.0) }
         ensures kept { IfErr result (λ n. HandsBack S.shown (X.refuses ending.now) seat others.items n.error n.seat n.others.items) }
     {
         let mut lists = Vec::new(alloc);
@@ -99,8 +115,8 @@ impl<S: Held + Drop> Shared<S> {
         Ok((ended, made))
     }
 
-    /// The seat's token that has the value, the seat's receipts, and what was made of the value. The seat comes back where the value may
-    /// not be taken out.
+    /// Returns the seat's token that has the value, the seat's receipts, and what was made of the value. The seat comes
+    /// back if the value may not be taken out.
     fn take_out<T: Drop, E: Drop, X: Ending<S, T, E>, R: Wait>(
         &self,
         rt: &R,
@@ -164,7 +180,7 @@ impl<S: Held + Drop> Shared<S> {
     }
 }
 
-/// Whether no memory was wanting for a receipt of one of the seats.
+/// Returns true if no allocation for a receipt of one of the seats failed.
 fn has_all<S: Held + Drop>(seat: &Seat<S>, others: &[Seat<S>]) -> bool
     ensures { result ≡ true → (seat.now.whole ≡ true) × AllWhole others.now }
 {

@@ -1,5 +1,6 @@
-//! Seats at a session that threads share: the session lies behind one lock, each thread comes to it by a seat of its own,
-//! and the rule of the lock tells of every entry of the journal which seat made it. Generic in what lies behind the lock.
+//! Seats at a session that threads share. One lock protects the session, each thread accesses it by a seat of its own,
+//! and the rule of the lock gives for every entry of the journal the seat that made it. The crate is generic in the
+//! value that the lock protects.
 #![tactic(auto)]
 
 mod ended;

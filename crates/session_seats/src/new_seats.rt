@@ -12,7 +12,7 @@ use std::alloc::Global;
 use std::sync::Wait;
 
 impl<S: Held + Drop> Shared<S> {
-    /// A worker's token: it names no lane, and has no share.
+    /// Returns a worker's token: it names no lane, and has no share.
     pub(crate) fn give_worker<R: Wait>(&self, rt: &R, from: &mut Inner<S, View>) -> Inner<S, View>
         requires own { from.old.table_id ≡ self.now.table.shared.table_id }
         requires free { IsSeat from.old.me }
@@ -27,7 +27,7 @@ impl<S: Held + Drop> Shared<S> {
         new
     }
 
-    /// The token of the next lane, with a share; None where each lane has one.
+    /// Returns the token of the next lane, with a share, or `None` if each lane has one.
     pub(crate) fn give_lane<R: Wait>(
         &self,
         rt: &R,
@@ -57,7 +57,7 @@ impl<S: Held + Drop> Shared<S> {
 }
 
 impl<S: Held + Drop> Shared<S> {
-    /// A worker's seat: it names no lane, and has no share among the users.
+    /// Returns a worker's seat: it names no lane, and has no share among the users.
     pub fn worker_seat<R: Wait>(&self, rt: &R, alloc: Global, from: &mut Seat<S>) -> Seat<S>
         requires { from.old.inner.table_id ≡ self.now.table.shared.table_id }
         ensures own { (from.new.inner.table_id ≡ from.old.inner.table_id) × (result.inner.table_id ≡ from.old.inner.table_id) }
@@ -69,8 +69,8 @@ impl<S: Held + Drop> Shared<S> {
         Seat::fresh(alloc, inner, None, 0)
     }
 
-    /// The next lane's seat, from lane 0 on, with a share among the users. None exactly where each lane that the value was made of has
-    /// one; nothing changes then. The seat `from` must have a share itself.
+    /// Returns the next lane's seat, from lane 0 on, with a share among the users. Returns `None` exactly if each lane
+    /// that the value was made of has one; nothing changes then. The seat `from` must have a share itself.
     pub fn seat<R: Wait>(&self, rt: &R, alloc: Global, from: &mut Seat<S>) -> Option<Seat<S>>
         requires own { from.old.inner.table_id ≡ self.now.table.shared.table_id }
         requires share { 0 < (claim_of from.old.inner.me).share }

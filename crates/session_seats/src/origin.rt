@@ -1,6 +1,6 @@
-//! What a session was made of.
+//! The lanes and options that a session was made of.
 ghost use Rattle.std.specs.Prelude.{◌≡◌};
-ghost use Rattle.session_seats.specs.Sights.{made};
+ghost use Rattle.session_seats.specs.Sights.{inputs_of};
 
 use session_model::Lane;
 use sftp_model::SftpOptions;
@@ -8,7 +8,9 @@ use sftp_values::Items;
 use std::marker::Model;
 use std::snapshot::Snapshot;
 
-/// The lanes and the options that a session was made of. Contracts alone read it: no lane is copied.
+/// The lanes and the options that a session was made of. Only contracts read it: no lane is copied.
+///
+/// Used in `crates/sftp_tasks/src/shared_sftp.rt`.
 #[derive(Drop)]
 pub struct Origin {
     options: SftpOptions,
@@ -16,17 +18,17 @@ pub struct Origin {
 }
 
 impl Model for Origin {
-    ghost use Rattle.session_seats.specs.Sights.{Made, made};
+    ghost use Rattle.session_seats.specs.Sights.{SessionInputs, inputs_of};
 
-    ghost Value = { Made };
+    ghost Value = { SessionInputs };
 
-    ghost view = { λ g. made g.lanes.value g.options };
+    ghost view = { λ g. inputs_of g.lanes.value g.options };
 }
 
 impl Origin {
-    /// What is kept of these lanes and options.
+    /// Returns the record of these lanes and options.
     pub fn of(lanes: &Items<Lane>, options: &SftpOptions) -> Origin
-        ensures { result ≡ made lanes.now options.now }
+        ensures { result ≡ inputs_of lanes.now options.now }
     {
         Origin {
             options: *options,

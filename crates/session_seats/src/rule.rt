@@ -1,4 +1,4 @@
-//! The rule of the lock: what lies behind it, and each step by which a seat comes to it.
+//! The rule of the lock: the value that it protects, and each step by which a seat accesses it.
 ghost use Rattle.std.specs.Prelude.{◌≡◌, reverse};
 
 use crate::origin::Origin;
@@ -6,48 +6,53 @@ use crate::view::View;
 use atomic_table::{Join, Play, Split, TableRule};
 use session_model::Entry;
 
-/// A value that can lie behind the lock: it shows a journal, what it was made of, its counts and its users.
+/// A value that a lock can protect: it shows a journal, what it was made of, its counts and its users.
+///
+/// Used in `crates/session_seats/src/event.rt`.
 pub trait Held {
     ghost use Rattle.std.specs.Prelude.{◌<◌, ◌≤◌, ◌-◌, ◌==◌, true, length, max, IfNone, IfSome};
     ghost use Rattle.session_seats.specs.Sights.{Shown, one_if};
     ghost use Rattle.session_seats.specs.NewSeats.{with_seat};
     ghost use Rattle.session_seats.specs.Users.{with_users};
 
-    // What it shows.
+    // The view of the value.
     ghost shown: { Self → Shown };
 
-    /// Its journal, the first entry first.
+    /// Returns its journal, the first entry first.
     fn entries(&self) -> &[Entry]
         ensures { reverse result.now ≡ (shown self.now).past };
 
-    /// A number that is another one once the value has changed in a way for which a thread may wait. Nothing is said of it.
+    /// Returns a number that changes once the value has changed in a way for which a thread may wait. No contract says
+    /// anything of it.
     fn moves(&self) -> u64;
 
-    /// How many users there are.
+    /// Returns how many users there are.
     fn users(&self) -> u64
         ensures { result ≡ (shown self.now).users };
 
-    /// The next lane that has no seat, from lane 0 on: it has one then, and there is one user more. None exactly where each lane
-    /// that it was made of has one.
+    /// Returns the next lane that has no seat, from lane 0 on. It then has one, and there is another user. Returns
+    /// `None` exactly if each lane that it was made of has one.
     fn seat_lane(&mut self) -> Option<u32>
         ensures given { IfSome result (λ lane. (lane ≡ (shown self.old).seated) × (shown self.new ≡ with_seat true (shown self.old))) }
         ensures some { IfSome result (λ lane. lane < length (shown self.old).lanes) }
         ensures none { IfNone result (shown self.new ≡ shown self.old) }
         ensures all { IfNone result (length (shown self.old).lanes ≤ (shown self.old).seated) };
 
-    /// One user less. True where it was the last: then the end has begun, with stage 1.
+    /// Removes one user. Returns true if it was the last: then the end has started, with stage 1.
     fn leave(&mut self) -> bool
         requires { (0 < (shown self.old).users) × ((shown self.old).counts.stage ≡ 0) }
         ensures last { result ≡ ((shown self.old).users == 1) }
         ensures left { shown self.new ≡ with_users ((shown self.old).users - 1) (one_if result) (shown self.old) };
 
-    /// The stage of the end is at least this one from here on.
+    /// Raises the stage of the end to at least this one.
     fn raise(&mut self, stage: u64)
         requires { ((shown self.old).users ≡ 0) × (stage ≤ 2) }
         ensures raised { shown self.new ≡ with_users (shown self.old).users (max (shown self.old).counts.stage stage) (shown self.old) };
 }
 
 /// The rule of the table, whose one slot has the value.
+///
+/// Used in `crates/session_seats/src/shared.rt`.
 pub struct SeatRule;
 
 impl<S: Held> TableRule<S, View, Origin> for SeatRule {
@@ -59,6 +64,8 @@ impl<S: Held> TableRule<S, View, Origin> for SeatRule {
 }
 
 /// Takes the slot, if it is at home.
+///
+/// Used in `crates/session_seats/src/shared.rt`.
 pub struct Acquire;
 
 impl<S: Held> Play<S, View> for Acquire {
@@ -67,7 +74,9 @@ impl<S: Held> Play<S, View> for Acquire {
     ghost then = { acquired S.shown };
 }
 
-/// Gives the slot back. What was added to the journal is by this seat.
+/// Gives the slot back. The entries that were added to the journal are this seat's.
+///
+/// Used in `crates/session_seats/src/shared.rt`.
 pub struct Release;
 
 impl<S: Held> Play<S, View> for Release {
@@ -76,16 +85,20 @@ impl<S: Held> Play<S, View> for Release {
     ghost then = { released S.shown };
 }
 
-/// Tells what the rule says of the claims of the seat that has the slot.
+/// Reports the consequences of the rule for the claims of the seat that has the slot.
+///
+/// Used in `crates/session_seats/src/ended.rt`.
 pub struct Check;
 
 impl<S: Held> Play<S, View> for Check {
-    ghost use Rattle.session_seats.specs.Rules.{checked};
+    ghost use Rattle.session_seats.specs.Rules.{checked_step};
 
-    ghost then = { checked };
+    ghost then = { checked_step };
 }
 
 /// Cuts off a seat that names the next lane.
+///
+/// Used in `crates/session_seats/src/new_seats.rt`.
 pub struct LaneSeat;
 
 impl Split<View> for LaneSeat {
@@ -98,6 +111,8 @@ impl Split<View> for LaneSeat {
 }
 
 /// Cuts off a seat that names no lane.
+///
+/// Used in `crates/session_seats/src/new_seats.rt`.
 pub struct WorkerSeat;
 
 impl Split<View> for WorkerSeat {
@@ -110,12 +125,14 @@ impl Split<View> for WorkerSeat {
 }
 
 /// Takes in another seat's claims.
+///
+/// Used in `crates/session_seats/src/ended.rt`.
 pub struct TakeIn;
 
 impl Join<View> for TakeIn {
-    ghost use Rattle.session_seats.specs.Rules.{joined, nobody};
+    ghost use Rattle.session_seats.specs.Rules.{joined_views, nobody};
 
-    ghost both = { joined };
+    ghost both = { joined_views };
 
     ghost spent = { nobody };
 }

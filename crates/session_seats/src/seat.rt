@@ -1,7 +1,7 @@
-//! A seat at a shared value.
+//! Seats at a shared value.
 ghost use Rattle.std.specs.Prelude.{◌≡◌, ◌<◌, ◌==◌, [], None, Some, false, true, IfNone, IfSome};
-ghost use Rattle.session_seats.specs.Sights.{Made, own};
-ghost use Rattle.session_seats.specs.Holds.{Applied, Hold, IsFresh, IsSeat, NamesLane, Spares, claim_of, passes};
+ghost use Rattle.session_seats.specs.Sights.{SessionInputs, own};
+ghost use Rattle.session_seats.specs.Holds.{Applied, Hold, IsFresh, IsSeat, NamesLane, MayHold, claim_of, passes};
 ghost use Rattle.session_seats.specs.NewSeats.{Gives, GivesLane, HasNone};
 ghost use Rattle.session_seats.specs.Rules.{home};
 
@@ -14,16 +14,18 @@ use ssh_encoding::OutOfMemory;
 use std::alloc::Global;
 use std::sync::Wait;
 
-/// A thread's seat at a shared value. It names a lane, or none, and keeps a receipt of each entry that was added to the journal by it.
-/// Dropped, it is not given again.
+/// A thread's seat at a shared value. It names a lane, or none, and keeps a receipt of each entry that was added to the
+/// journal by it. A seat that is dropped is not given again.
+///
+/// Example: `crates/test_tasks/src/kept_fault.rt`.
 #[derive(Drop)]
 pub struct Seat<S: Held + Drop> {
     pub(crate) inner: Inner<S, View>,
     pub(crate) lane: Option<u32>,
     pub(crate) receipts: Vec<Receipt>,
-    // No memory was wanting for a receipt.
+    // True if no allocation for a receipt failed.
     pub(crate) whole: bool,
-    // How many of the users are its own.
+    // The number of users that are its own.
     pub(crate) share: u64,
     ghost free: { IsSeat inner.me },
     ghost named: { NamesLane (claim_of inner.me) lane },
@@ -32,9 +34,9 @@ pub struct Seat<S: Held + Drop> {
 }
 
 impl<S: Held + Drop> Seat<S> {
-    /// The home seat, which a new shared value comes with.
+    /// Returns the home seat, which a new shared value comes with.
     pub(crate) fn home(alloc: Global, inner: Inner<S, View>) -> Seat<S>
-        requires { (m : Made) × (inner.me ≡ (home m, [])) }
+        requires { (m : SessionInputs) × (inner.me ≡ (home m, [])) }
         ensures { (result.inner ≡ inner) × (result.lane ≡ None) × (result.receipts.items ≡ []) × (result.whole ≡ true) }
     {
         Seat {
@@ -46,7 +48,7 @@ impl<S: Held + Drop> Seat<S> {
         }
     }
 
-    /// A seat that was given, which made nothing yet.
+    /// Returns a seat that was given, which made nothing yet.
     pub(crate) fn fresh(
         alloc: Global,
         inner: Inner<S, View>,
@@ -67,22 +69,23 @@ impl<S: Held + Drop> Seat<S> {
         }
     }
 
-    /// The receipts of the entries that this seat made, in the order of the journal: of all of them, unless memory was wanting for one.
+    /// Returns the receipts of the entries that this seat made, in the order of the journal: of all of them, unless an
+    /// allocation for one failed.
     pub fn receipts(&self) -> &[Receipt]
         ensures { result.now ≡ self.now.receipts.items }
     {
         self.receipts.as_slice()
     }
 
-    /// The lane that the seat names.
+    /// Returns the lane that the seat names.
     pub fn lane(&self) -> Option<u32>
         ensures { result ≡ self.now.lane }
     {
         self.lane
     }
 
-    /// Whether it is no user, or no longer: it has no share of the users. So it is of a worker's seat from the beginning, and of
-    /// another once it was released.
+    /// Returns true if the seat is no user, or no longer one: it has no share of the users. This holds for a worker's
+    /// seat from the beginning, and for another once it was released.
     pub fn is_released(&self) -> bool
         ensures value { result ≡ ((claim_of self.now.inner.me).share == 0) }
         ensures share { result ≡ false → 0 < (claim_of self.now.inner.me).share }
@@ -90,7 +93,7 @@ impl<S: Held + Drop> Seat<S> {
         self.share == 0
     }
 
-    /// Whether each entry that this seat made has its receipt.
+    /// Returns true if each entry that this seat made has its receipt.
     pub fn has_all_receipts(&self) -> bool
         ensures value { result ≡ self.now.whole }
         ensures all { result ≡ true → self.now.receipts.items ≡ own (claim_of self.now.inner.me).number (claim_of self.now.inner.me).sight.log }
@@ -98,9 +101,9 @@ impl<S: Held + Drop> Seat<S> {
         self.whole
     }
 
-    /// Does the event in one hold of the lock, keeps a receipt of each entry that it adds, and wakes those that wait for a change. It
-    /// answers what the event does; and an Err where no memory was there for a receipt: the entries stand in the journal then, and the
-    /// seat has lost receipts for good.
+    /// Does the event in one hold of the lock, keeps a receipt of each entry that it adds, and wakes the threads that
+    /// wait for a change. Returns the answer of the event, and an `Err` if an allocation for a receipt failed: the
+    /// entries are in the journal then, and the seat has lost receipts for good.
     pub fn apply<A, E: Event<S, A>, R: Wait>(
         &mut self,
         rt: &R,
@@ -109,7 +112,7 @@ impl<S: Held + Drop> Seat<S> {
         event: E,
     ) -> (A, Result<(), OutOfMemory>)
         requires own { self.old.inner.table_id ≡ shared.now.table.shared.table_id }
-        requires may { Spares (claim_of self.old.inner.me) (E.needs event) }
+        requires may { MayHold (claim_of self.old.inner.me) (E.needs event) }
         ensures own { self.new.inner.table_id ≡ self.old.inner.table_id }
         ensures lane { self.new.lane ≡ self.old.lane }
         ensures held { Hold S.shown (Applied S.shown (passes (E.only event) self.old.lane) (E.needs event)
@@ -136,7 +139,7 @@ impl<S: Held + Drop> Seat<S> {
 }
 
 impl<S: Held + Drop> Seat<S> {
-    /// A new worker's token.
+    /// Returns a new worker's token.
     pub(crate) fn give_worker<R: Wait>(&mut self, rt: &R, shared: &Shared<S>) -> Inner<S, View>
         requires { self.old.inner.table_id ≡ shared.now.table.shared.table_id }
         ensures own { (self.new.inner.table_id ≡ self.old.inner.table_id) × (result.table_id ≡ self.old.inner.table_id) }
@@ -147,7 +150,7 @@ impl<S: Held + Drop> Seat<S> {
         shared.give_worker(rt, &mut self.inner)
     }
 
-    /// A new lane's token, and the lane.
+    /// Returns a new lane's token, and the lane.
     pub(crate) fn give_lane<R: Wait>(
         &mut self,
         rt: &R,

@@ -1,8 +1,8 @@
-//! The shared value behind its lock, and one hold of it.
+//! The shared value, protected by its lock, and one hold of it.
 ghost use Rattle.std.specs.Prelude.{◌≡◌, ◌++◌, [], None, drop, IfOk, OnOk};
 ghost use Rattle.session_seats.specs.Sights.{made_from};
 ghost use Rattle.session_seats.specs.Rules.{home};
-ghost use Rattle.session_seats.specs.Holds.{Applied, CanRelease, HasTaken, Hold, IsSeat, IsSeatOf, Releases, Spares, at_first, claim_of, passes};
+ghost use Rattle.session_seats.specs.Holds.{Applied, CanRelease, HasTaken, Hold, IsSeat, IsSeatOf, Releases, MayHold, at_first, claim_of, passes};
 
 use crate::event::Event;
 use crate::origin::Origin;
@@ -17,19 +17,25 @@ use std::alloc::Global;
 use std::sync::{Condvar, Mutex, Wait};
 use std::thread;
 
-/// A value that threads share: it lies in the one slot of a table, and to have taken the slot is to hold the lock.
+/// A value that threads share: it lies in the one slot of a table, and a thread that has taken the slot holds the lock.
+///
+/// Used in `crates/sftp_tasks/src/shared_sftp.rt`.
 #[derive(Drop)]
 pub struct Shared<S: Held + Drop> {
     pub(crate) table: Table<S, View, Origin, SeatRule, Global>,
-    // Who means to take the value waits here. It counts the changes, for those who wait for one.
+    // Threads that are about to take the value wait here. It counts the changes, for those that wait for one.
     pub(crate) gate: Mutex<u64>,
     pub(crate) moved: Condvar,
     ghost sized: { (table.shared.table_id.words ≡ 1) × (table.shared.table_id.slots ≡ 1) },
 }
 
 impl<S: Held + Drop> Shared<S> {
-    /// The value behind its lock, which nobody has used yet and which was made of this; and the home seat, which names no lane. Refused
-    /// for want of memory.
+    /// Returns the value protected by its lock, which nobody has used yet and which was made of this; and the home
+    /// seat, which names no lane.
+    ///
+    /// # Errors
+    ///
+    /// `OutOfMemory` if an allocation fails.
     pub fn new(
         alloc: Global,
         value: S,
@@ -83,8 +89,8 @@ impl<S: Held + Drop> Shared<S> {
         self.table.shared.store::<Release>(seat, 0, 0);
     }
 
-    /// One hold: an event, and receipts for what it added. The seat's share goes by the users. The last answer is whether those who wait
-    /// are to be woken.
+    /// Does one hold: an event, and receipts for the entries that it added. The seat's share follows the users. The
+    /// last answer is true if the waiting threads are to be woken.
     pub(crate) fn hold<A, E: Event<S, A>, R: Wait>(
         &self,
         rt: &R,
@@ -97,7 +103,7 @@ impl<S: Held + Drop> Shared<S> {
     ) -> (A, Result<(), OutOfMemory>, bool)
         requires own { seat.old.table_id ≡ self.now.table.shared.table_id }
         requires is { IsSeatOf lane share.old seat.old.me }
-        requires may { Spares (claim_of seat.old.me) (E.needs event) }
+        requires may { MayHold (claim_of seat.old.me) (E.needs event) }
         ensures own { seat.new.table_id ≡ seat.old.table_id }
         ensures share { share.new ≡ (claim_of seat.new.me).share }
         ensures held { Hold S.shown (Applied S.shown (passes (E.only event) lane) (E.needs event)
@@ -117,7 +123,7 @@ impl<S: Held + Drop> Shared<S> {
     }
 }
 
-/// Adds receipts for the entries from the place on. Refused for want of memory; some may have been added then.
+/// Adds receipts for the entries from the place on. Fails if an allocation fails; some may have been added then.
 fn copy_from(
     alloc: Global,
     journal: &[Entry],

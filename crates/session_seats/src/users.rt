@@ -12,7 +12,7 @@ use atomic_table::Seat as Inner;
 use std::sync::Wait;
 
 impl<S: Held + Drop> Shared<S> {
-    /// A share of the seat goes, and a user with it.
+    /// Gives up a share of the seat, and with it a user.
     pub(crate) fn leave_with<R: Wait>(&self, rt: &R, seat: &mut Inner<S, View>) -> bool
         requires own { seat.old.table_id ≡ self.now.table.shared.table_id }
         requires free { IsSeat seat.old.me }
@@ -28,7 +28,7 @@ impl<S: Held + Drop> Shared<S> {
         last
     }
 
-    /// The stage rises, after the last user has left.
+    /// Raises the stage, after the last user has left.
     pub(crate) fn raise_with<R: Wait>(&self, rt: &R, seat: &mut Inner<S, View>, stage: u64)
         requires own { seat.old.table_id ≡ self.now.table.shared.table_id }
         requires free { IsSeat seat.old.me }
@@ -45,7 +45,8 @@ impl<S: Held + Drop> Shared<S> {
 }
 
 impl<S: Held + Drop> Seat<S> {
-    /// Gives up a share. True where this was the last user: the stage of the end is 1 then, and no user comes any more.
+    /// Gives up a share. Returns true if this was the last user: the stage of the end is 1 then, and no user comes any
+    /// more.
     pub fn leave<R: Wait>(&mut self, rt: &R, shared: &Shared<S>) -> bool
         requires own { self.old.inner.table_id ≡ shared.now.table.shared.table_id }
         requires share { 0 < (claim_of self.old.inner.me).share }
@@ -61,7 +62,7 @@ impl<S: Held + Drop> Seat<S> {
         last
     }
 
-    /// Raises the stage of the end to at least this one, at most 2. The seat must have seen that the end has begun.
+    /// Raises the stage of the end to at least this one, at most 2. The seat must have seen that the end has started.
     pub fn raise<R: Wait>(&mut self, rt: &R, shared: &Shared<S>, stage: u64)
         requires own { self.old.inner.table_id ≡ shared.now.table.shared.table_id }
         requires may { MayRaise stage self.old.inner.me }
@@ -76,7 +77,9 @@ impl<S: Held + Drop> Seat<S> {
     }
 }
 
-/// An event, and one user less where it answers `Ok(true)`: both in one hold.
+/// An event, and one user fewer if it returns `Ok(true)`: both in one hold.
+///
+/// Used by the functions of this module.
 #[derive(Drop)]
 pub struct ThenLeaves<E> {
     pub event: E,

@@ -11,12 +11,12 @@ use Rattle.session_model.specs.declared.entry.Entry.TheVariants as entry
 use Rattle.session_model.specs.Calls.{Setting, calls_of, has_waited, lane_calls}
 use Rattle.session_model.specs.Journals.{IsNext, is_some_asked}
 use Rattle.plan_model.specs.Lanes.{are_ok, is_within}
-use Rattle.session_model.specs.Readings.{ended, own, was_let_go}
-use Rattle.session_model.specs.Steady.{Good}
+use Rattle.session_model.specs.Readings.{count_ended, own, was_let_go}
+use Rattle.session_model.specs.Steady.{IsCancellableRun}
 use Rattle.session_model.proofs.CallLaws.{added_here, added_other, may_next}
 use Rattle.session_model.proofs.RunLaws.{wait_more}
 use Rattle.session_driver.proofs.Journals.{later_self}
-use Rattle.session_laws.specs.Dues.{Dues}
+use Rattle.session_laws.specs.Dues.{AreDueGrants}
 use Rattle.plan_runner.specs.declared.next.Running.{Running}
 use Rattle.session_laws.specs.Lanes.{AtTied, LaneValue}
 use Rattle.session_laws.proofs.DueLaws.{none_next}
@@ -26,7 +26,7 @@ use Rattle.session_laws.specs.Rest.{AtRest}
 use Rattle.session_laws.proofs.AskedLaws.{asks_on}
 use Rattle.session_driver.specs.Adding.{with_call}
 use Rattle.session_work.specs.Adding.{AddsIn, added_in}
-use Rattle.session_work.specs.Working.{LanesValue, Stands, Works, lane_in}
+use Rattle.session_work.specs.Working.{LanesValue, HasGivenLanes, IsAtRestOpen, lane_in}
 use Rattle.session_work.proofs.AddedSpends.{added_spends}
 use Rattle.session_work.proofs.CallsLaws.{call_within}
 
@@ -55,7 +55,8 @@ set_twice (z ∷ xs) zero x y = refl
 set_twice (z ∷ xs) (suc k) x y = λ i. z ∷ set_twice xs k x y i
 
 -- and what is set to what it was is as before
-pub set_back : {A : Type 0} (xs : List A) (k : ℕ) (x y : A) → slice_get xs k ≡ Some y → slice_set (slice_set xs k x) k y ≡ xs
+pub set_back : {A : Type 0} (xs : List A) (k : ℕ) (x y : A) → slice_get xs k ≡ Some y → slice_set (slice_set xs k x) k y
+    ≡ xs
 set_back [] k x y is = refl
 set_back (z ∷ xs) zero x y is = (let same : z ≡ y = cc in λ i. sym same i ∷ xs)
 set_back (z ∷ xs) (suc k) x y is = λ i. z ∷ set_back xs k x y is i
@@ -77,13 +78,15 @@ pub with_call_set : (lanes : List Lane) (lane : ℕ) (call : Call) (was empty : 
     → slice_set (slice_set lanes lane empty) lane (record { calls = was.calls ++ call ∷ [] })
     ≡ with_call lanes lane call
 with_call_set lanes lane call was empty is =
-    set_twice lanes lane empty _ ∙ ap (λ (o : Option Lane). slice_set lanes lane (record { calls = calls_of o ++ call ∷ [] })) (sym is)
+    set_twice lanes lane empty _ ∙ ap (λ (o : Option Lane). slice_set lanes lane
+    (record { calls = calls_of o ++ call ∷ [] })) (sym is)
 
 pub with_length : (lanes : List Lane) (lane : ℕ) (call : Call) → length (with_call lanes lane call) ≡ length lanes
 with_length lanes lane call = length-set lanes lane _
 
 -- the call is within its ranges
-pub added_within : (lanes : List Lane) (lane : ℕ) (call : Call) → lane < length lanes → are_ok (with_call lanes lane call) ≡ true → is_within call ≡ true
+pub added_within : (lanes : List Lane) (lane : ℕ) (call : Call) → lane < length lanes
+    → are_ok (with_call lanes lane call) ≡ true → is_within call ≡ true
 added_within lanes lane call lt ok =
     let last : Lane = record { calls = calls_of (slice_get lanes lane) ++ call ∷ [] } in
     call_within (with_call lanes lane call) lane (length (calls_of (slice_get lanes lane))) last call ok
@@ -94,13 +97,15 @@ pub added_calls : (s : Setting) (past : List Entry) (lanes : List Lane) (lane : 
     → (w : ℕ) → calls_of (slice_get (with_call lanes lane call) w) ≡ lane_calls s (entry.Added lane call ∷ past) w
 added_calls s past lanes lane call lt are w =
     elim (eqb_tells lane w) [
-      | inl t ↦ subst (λ (k : ℕ). calls_of (slice_get (with_call lanes lane call) k) ≡ lane_calls s (entry.Added lane call ∷ past) k) t.1
-          (ap calls_of (get_here lanes lane _ lt) ∙ ap (λ (calls : List Call). calls ++ call ∷ []) (are lane) ∙ sym (added_here s past lane call))
+      | inl t ↦ subst (λ (k : ℕ). calls_of (slice_get (with_call lanes lane call) k)
+          ≡ lane_calls s (entry.Added lane call ∷ past) k) t.1
+          (ap calls_of (get_here lanes lane _ lt) ∙ ap (λ (calls : List Call). calls ++ call ∷ []) (are lane)
+          ∙ sym (added_here s past lane call))
       | inr t ↦ ap calls_of (get_there lanes lane w _ t.1) ∙ are w ∙ sym (added_other s past lane w call t.1)
     ]
 
-added_stands : (s : Setting) (c : LanesValue) (lane : ℕ) (call : Call) → Stands s c → lane < length c.calls
-    → are_ok (with_call c.calls lane call) ≡ true → Stands s (added_in c lane call)
+added_stands : (s : Setting) (c : LanesValue) (lane : ℕ) (call : Call) → HasGivenLanes s c → lane < length c.calls
+    → are_ok (with_call c.calls lane call) ≡ true → HasGivenLanes s (added_in c lane call)
 added_stands s c lane call t lt ok =
     record {
       lanes = with_length c.calls lane call ∙ t.lanes;
@@ -115,14 +120,16 @@ added_stands s c lane call t lt ok =
 -- ---- the session
 
 added_good : (s : Setting) (past : List Entry) (begun : ℕ → Bool) (lane : ℕ) (call : Call)
-    → IsNext s past (entry.Added lane call) → Good s past begun → Good s (entry.Added lane call ∷ past) begun
+    → IsNext s past (entry.Added lane call) → IsCancellableRun s past begun
+    → IsCancellableRun s (entry.Added lane call ∷ past) begun
 added_good s past begun lane call next g =
     record {
       run = (next, g.run);
       calm = refl;
       ready = g.ready;
       unkept = g.unkept;
-      cancels = λ w h. wait_more (is_some_asked (own past w (ended past w))) _ (has_waited s past w) (g.cancels w h);
+      cancels = λ w h. wait_more (is_some_asked (own past w (count_ended past w))) _ (has_waited s past w)
+          (g.cancels w h);
     }
 
 -- a call that is added leaves the session at rest
@@ -132,7 +139,7 @@ added_rest : (s : Setting) (past : List Entry) (core : Core) (lanes : ℕ → La
 added_rest s past core lanes begun lane call h next =
     let e : Entry = entry.Added lane call in
     let b = h.between in
-    let due : Dues s (e ∷ past) [] = added_dues s past [] lane call b.good.run b.due in
+    let due : AreDueGrants s (e ∷ past) [] = added_dues s past [] lane call b.good.run b.due in
     record {
       between = record {
         good = added_good s past begun lane call next b.good;
@@ -142,12 +149,13 @@ added_rest s past core lanes begun lane call h next =
         spends = added_spends s past core lanes lane call (λ w lt r is.
             (subst (λ (o : Option Running). AtTied s past w o (lanes w).site) is (b.tied.each w lt).goes.runs).2)
             b.spends;
-        asks = λ w lt. asks_on past (e ∷ past) w (lanes w) (λ p below. refl) (b.tied.each w lt).goes.awaits (b.asks w lt);
+        asks = λ w lt. asks_on past (e ∷ past) w (lanes w) (λ p below. refl) (b.tied.each w lt).goes.awaits
+            (b.asks w lt);
       };
       settled = none_next s (e ∷ past) refl due;
     }
 
-pub adds : (s : Setting) (c : LanesValue) (lane : ℕ) (call : Call) → Works s c → lane < length c.calls
+pub adds : (s : Setting) (c : LanesValue) (lane : ℕ) (call : Call) → IsAtRestOpen s c → lane < length c.calls
     → was_let_go c.past lane ≡ false → are_ok (with_call c.calls lane call) ≡ true
     → AddsIn s lane call c (added_in c lane call)
 adds s c lane call w lt held ok =
@@ -160,5 +168,9 @@ adds s c lane call w lt held ok =
       is = refl;
       next = next;
       later = inr (next, later_self s c.past);
-      working = record { stands = added_stands s c lane call t lt ok; rest = added_rest s c.past c.core (lane_in c.states) c.begun lane call w.rest next };
+      working = record {
+        stands = added_stands s c lane call t lt ok;
+        rest =
+            added_rest s c.past c.core (lane_in c.states) c.begun lane call w.rest next;
+      };
     }

@@ -13,10 +13,12 @@ use Rattle.session_work.proofs.Contents.{lane_set, set_here, state_at}
 -- what an index finds runs a call where the lane was begun
 pub begun_at : (states : List LaneValue) (lane : ℕ) (v : LaneValue) (b : Bool) → lane < length states → v
     ≡ slice_index_or states lane v → is_some v.running ≡ b → begun_of (lane_in states) lane ≡ b
-begun_at states lane v b lt value runs = ap (λ (y : LaneValue). is_some y.running) (sym (state_at states lane v lt value)) ∙ runs
+begun_at states lane v b lt value runs = ap (λ (y : LaneValue). is_some y.running)
+    (sym (state_at states lane v lt value)) ∙ runs
 
 -- the others are as they were
-pub others_kept : (states : List LaneValue) (lane : ℕ) (now : LaneValue) → lane < length states → KeepsOtherLanes lane states (slice_set states lane now)
+pub others_kept : (states : List LaneValue) (lane : ℕ) (now : LaneValue) → lane < length states
+    → KeepsOtherLanes lane states (slice_set states lane now)
 others_kept states lane now lt begun others w ne =
     others w ne ∙ sym (ap (λ (f : ℕ → LaneValue). is_some (f w).running) (lane_set states lane now lt) ∙ other)
   where
@@ -60,5 +62,6 @@ begun_same states lane now lt same = ap begun_of (lane_set states lane now lt) �
 pub begun_less : (states : List LaneValue) (lane : ℕ) (now : LaneValue) → lane < length states → is_some now.running
     ≡ false → begun_but (begun_of (lane_in states)) lane ≡ begun_of (lane_in (slice_set states lane now))
 begun_less states lane now lt none =
-    begun_ends (begun_of (lane_in states)) lane (slice_set states lane now) (others_kept states lane now lt (begun_of (lane_in states)) (λ w ne. refl))
+    begun_ends (begun_of (lane_in states)) lane (slice_set states lane now)
+    (others_kept states lane now lt (begun_of (lane_in states)) (λ w ne. refl))
     (ap (λ (y : LaneValue). is_some y.running) (set_here states lane now lt) ∙ none)

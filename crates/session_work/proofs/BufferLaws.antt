@@ -16,13 +16,13 @@ use Rattle.plan_model.specs.declared.call.Call.{Call}
 use Rattle.session_model.specs.declared.event.Event.TheVariants.{End}
 use Rattle.session_model.specs.declared.entry.Entry.{Entry}
 use Rattle.session_model.specs.declared.entry.Entry.TheVariants as entry
-use Rattle.session_model.specs.Readings.{answer, ended, last_cancel, own}
+use Rattle.session_model.specs.Readings.{answer, count_ended, last_cancel, own}
 use Rattle.session_model.specs.Calls.{Setting, call_at, current, left_by, site_left, site_of}
 use Rattle.session_model.specs.Journals.{IsJournal}
 use Rattle.session_model.proofs.CallLaws.{site_end}
 use Rattle.session_model.proofs.CallsSoFar.{calls_so_far}
 use Rattle.session_model.proofs.HolderLaws.{ending}
-use Rattle.plan_model.specs.CallPlans.{cancelled, next}
+use Rattle.plan_model.specs.CallPlans.{site_after_cancel, next}
 
 empty_at : (n k : ℕ) → slice_index_or (replicate n Empty) k Empty ≡ Empty
 empty_at zero k = refl
@@ -30,30 +30,37 @@ empty_at (suc n) zero = refl
 empty_at (suc n) (suc k) = empty_at n k
 
 -- slots that hold nothing have no buffer
-fresh_within : (facts : Facts) (directory : List ℕ) → BuffersWithin facts (record { slots = fresh_site.slots; directory = directory })
+fresh_within : (facts : Facts) (directory : List ℕ) → BuffersWithin facts
+    (record { slots = fresh_site.slots; directory = directory })
 fresh_within facts directory slot file buffer is = absurd (let none = sym (empty_at 16 slot) ∙ is in cc none)
 
 -- nor does a move break the limit that leaves a site within it
-moved_within : (facts : Facts) (site : Site) (m : Move) → BuffersWithin facts site → LeavesWithin facts m → BuffersWithin facts (left_by m site)
+moved_within : (facts : Facts) (site : Site) (m : Move) → BuffersWithin facts site → LeavesWithin facts m
+    → BuffersWithin facts (left_by m site)
 moved_within facts site (Done o after) was leaves = leaves
 moved_within facts site other was leaves = was
 
 -- the end of a lane's call leaves its buffers within the limit, where the call began so
 left_within : (s : Setting) (past : List Entry) (lane : ℕ) → FitsFacts s.facts → IsJournal s past
     → BuffersWithin s.facts (site_of s past lane) → (c : Option Call) → current s past lane ≡ c → (cancel : Option ℕ)
-    → BuffersWithin s.facts (site_left c cancel (site_of s past lane) s.facts (own past lane (ended past lane)) (answer past))
+    → BuffersWithin s.facts (site_left c cancel (site_of s past lane) s.facts (own past lane (count_ended past lane))
+    (answer past))
 left_within s past lane fit j was None is cancel = was
 left_within s past lane fit j was (Some c) is None =
     let goes = calls_so_far s past lane c j is in
-    subst (λ (o : Own). BuffersWithin s.facts (left_by (next c (site_of s past lane) s.facts o (answer past)) (site_of s past lane))) goes.are
-    (moved_within s.facts (site_of s past lane) _ was (ended_within c (site_of s past lane) s.facts goes.requests (answer past) fit was goes.so_far))
+    subst (λ (o : Own). BuffersWithin s.facts (left_by (next c (site_of s past lane) s.facts o (answer past))
+    (site_of s past lane))) goes.are
+    (moved_within s.facts (site_of s past lane) _ was (ended_within c (site_of s past lane) s.facts goes.requests
+    (answer past) fit was goes.so_far))
 left_within s past lane fit j was (Some c) is (Some l) =
     let goes = calls_so_far s past lane c j is in
-    subst (λ (o : Own). BuffersWithin s.facts (cancelled c (site_of s past lane) s.facts o (answer past))) goes.are
+    subst (λ (o : Own). BuffersWithin s.facts (site_after_cancel c (site_of s past lane) s.facts o (answer past)))
+    goes.are
     (cancelled_within c (site_of s past lane) s.facts goes.requests (answer past) fit was goes.so_far)
 
 -- in a run so far each lane's buffers are within the limit
-pub buffers_within : (s : Setting) (past : List Entry) (lane : ℕ) → FitsFacts s.facts → IsJournal s past → BuffersWithin s.facts (site_of s past lane)
+pub buffers_within : (s : Setting) (past : List Entry) (lane : ℕ) → FitsFacts s.facts → IsJournal s past
+    → BuffersWithin s.facts (site_of s past lane)
 buffers_within s [] lane fit j = fresh_within s.facts []
 buffers_within s (entry.Event (End l n o) ∷ past) lane fit j =
     elim (eqb_tells l lane) [

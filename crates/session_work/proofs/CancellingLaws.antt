@@ -38,7 +38,7 @@ use Rattle.plan_window.specs.declared.window.ReadAt.{ReadAt}
 use Rattle.plan_model.specs.declared.call.Call.{Call}
 use Rattle.plan_model.specs.declared.call.Lane.{Lane}
 use Rattle.session_model.specs.Calls.{Setting, calls_of, current}
-use Rattle.session_model.specs.Readings.{answer, ended}
+use Rattle.session_model.specs.Readings.{answer, count_ended}
 use Rattle.session_model.specs.Turns.{begun_but}
 use Rattle.session_driver.proofs.Journals.{later_on, later_self}
 use Rattle.session_laws.specs.Dues.{unheld_of}
@@ -46,23 +46,25 @@ use Rattle.session_laws.specs.Places.{IsRising}
 use Rattle.session_laws.specs.Lanes.{AtTied, LaneValue, grant_places, ticket_places}
 use Rattle.session_laws.proofs.LaneLaws.{replies_agree}
 use Rattle.session_laws.specs.Ends.{CancelsRunning as IsCancelled, GivesUp, Dropped, Kept, LeavesSite, Polled, cancelled_past}
-use Rattle.session_laws.specs.Rest.{Between}
+use Rattle.session_laws.specs.Rest.{IsBetweenSteps}
 use Rattle.session_laws.proofs.CancelSteps.{cancels_keep}
-use Rattle.session_work.specs.Closing.{Closing, IsClosed}
-use Rattle.session_work.specs.Working.{CancelsIn, LanesValue, Works, lane_in}
+use Rattle.session_work.specs.Closing.{IsClosingLane, IsClosed}
+use Rattle.session_work.specs.Working.{CancelsIn, LanesValue, IsAtRestOpen, lane_in}
 use Rattle.session_work.proofs.CallsLaws.{calls_few, current_is}
 use Rattle.session_work.proofs.Contents.{lane_set, set_here, state_at}
-use Rattle.session_lane.specs.Tokens.{AreCounted}
-use Rattle.session_lane.specs.Turning.{HasAwaited, HasDeferred, IsSafeBy, LeavesBehind}
-use Rattle.session_lane.proofs.Turned.{lanes_may}
+use Rattle.session_work.specs.Tokens.{AreCounted}
+use Rattle.session_work.specs.Turning.{HasAwaited, HasDeferred, IsSafeBy, LeavesBehind}
+use Rattle.session_work.proofs.Turned.{lanes_may}
 
 -- ---- nothing is cancelled
 
-none_current : (s : Setting) (c : LanesValue) (lane : ℕ) → Works s c → length c.states ≤ lane → current s c.past lane ≡ None
+none_current : (s : Setting) (c : LanesValue) (lane : ℕ) → IsAtRestOpen s c → length c.states ≤ lane
+    → current s c.past lane ≡ None
 none_current s c lane w out =
     (let none : slice_get c.calls lane ≡ None = beyond c.calls lane
     (let count = w.stands.count in let lanes = w.stands.lanes in omega (arith, out, count, lanes)) in
-    current_is s c lane w.stands ∙ ap (λ (o : Option Lane). slice_get (calls_of o) (ended c.past lane)) none ∙ nothing (ended c.past lane))
+    current_is s c lane w.stands ∙ ap (λ (o : Option Lane). slice_get (calls_of o) (count_ended c.past lane)) none
+    ∙ nothing (count_ended c.past lane))
   where
     beyond : (xs : List Lane) (k : ℕ) → length xs ≤ k → slice_get xs k ≡ None
     beyond [] k le = refl
@@ -78,7 +80,8 @@ not_both true false X Y how y = y
 not_both true true X Y (inl e) y = absurd cc
 not_both true true X Y (inr e) y = absurd cc
 
-pub cancels_nothing : (s : Setting) (lane : ℕ) (c : LanesValue) → Works s c → (length c.states ≤ lane) ⊎ (c.begun lane ≡ false) → CancelsIn s lane c c false
+pub cancels_nothing : (s : Setting) (lane : ℕ) (c : LanesValue) → IsAtRestOpen s c → (length c.states ≤ lane)
+    ⊎ (c.begun lane ≡ false) → CancelsIn s lane c c false
 cancels_nothing s lane c w how = record {
   cancels = not_both (is_some (current s c.past lane)) (c.begun lane) _ _
       (either how) (refl, refl);
@@ -86,13 +89,14 @@ cancels_nothing s lane c w how = record {
   working = w;
 }
   where
-    either : (length c.states ≤ lane) ⊎ (c.begun lane ≡ false) → (is_some (current s c.past lane) ≡ false) ⊎ (c.begun lane ≡ false)
+    either : (length c.states ≤ lane) ⊎ (c.begun lane ≡ false) → (is_some (current s c.past lane) ≡ false)
+        ⊎ (c.begun lane ≡ false)
     either (inl out) = inl (ap is_some (none_current s c lane w out))
     either (inr out) = inr out
 
 -- ---- a begun call
 
-current_begun : (s : Setting) (lane : ℕ) (c : LanesValue) → Works s c → lane < length s.lanes
+current_begun : (s : Setting) (lane : ℕ) (c : LanesValue) → IsAtRestOpen s c → lane < length s.lanes
     → is_some (lane_in c.states lane).running ≡ true → (call : Call) × (current s c.past lane ≡ Some call)
 current_begun s lane c w there runs = by_running (lane_in c.states lane).running refl runs
   where
@@ -100,14 +104,16 @@ current_begun s lane c w there runs = by_running (lane_in c.states lane).running
     some_call None never = absurd (never refl)
     some_call (Some call) never = (call, refl)
 
-    by_running : (o : Option Running) → (lane_in c.states lane).running ≡ o → is_some o ≡ true → (call : Call) × (current s c.past lane ≡ Some call)
+    by_running : (o : Option Running) → (lane_in c.states lane).running ≡ o → is_some o ≡ true → (call : Call)
+        × (current s c.past lane ≡ Some call)
     by_running None is e = absurd cc
     by_running (Some r) is e =
         (let goes = (w.rest.between.tied.each lane there).goes in
-        let at = subst (λ (x : Option Running). AtTied s c.past lane x (lane_in c.states lane).site) is goes.runs in some_call (current s c.past lane) at.2)
+        let at = subst (λ (x : Option Running). AtTied s c.past lane x (lane_in c.states lane).site) is goes.runs in
+        some_call (current s c.past lane) at.2)
 
 -- what it leaves is what its slots have, since the core has the replies of the journal
-leaves_site : (s : Setting) (lane : ℕ) (c : LanesValue) (call : Call) (now : LaneValue) → Works s c
+leaves_site : (s : Setting) (lane : ℕ) (c : LanesValue) (call : Call) (now : LaneValue) → IsAtRestOpen s c
     → lane < length s.lanes → LeavesBehind c.core (lane_in c.states lane) now
     → LeavesSite c.past s call (lane_in c.states lane) now
 leaves_site s lane c call now w there behind r runs =
@@ -121,16 +127,22 @@ gives_idle core new v now (Kept x) = ap (λ (y : LaneValue). y.running) x.lane
 
 -- the lanes once a call was cancelled, before its grants are closed
 abbrev pub cancelled_in : LanesValue → ℕ → Core → LaneValue → LanesValue
-cancelled_in c lane new now = record c { core = new; past = cancelled_past c.past lane; states = slice_set c.states lane now; begun = begun_but c.begun lane }
+cancelled_in c lane new now = record c {
+  core = new;
+  past = cancelled_past c.past lane;
+  states =
+      slice_set c.states lane now;
+  begun = begun_but c.begun lane;
+}
 
 -- the grants of its lane that no slot has are to be closed
 pub record Cancelling (s : Setting) (lane : ℕ) (c : LanesValue) (new : Core) (now : LaneValue) : Type 0 where
   pub call : Call
   pub is : current s c.past lane ≡ Some call
   pub cancelled : IsCancelled s c.past new (lane_in c.states) c.begun lane now
-  pub closing : Closing s (cancelled_past c.past lane) lane (cancelled_in c lane new now)
+  pub closing : IsClosingLane s (cancelled_past c.past lane) lane (cancelled_in c lane new now)
 
-pub cancelling : (s : Setting) (lane : ℕ) (c : LanesValue) (new : Core) (now : LaneValue) → Works s c
+pub cancelling : (s : Setting) (lane : ℕ) (c : LanesValue) (new : Core) (now : LaneValue) → IsAtRestOpen s c
     → lane < length s.lanes → c.begun lane ≡ true → is_some (lane_in c.states lane).running ≡ true
     → GivesUp c.core new (lane_in c.states lane) now → LeavesBehind c.core (lane_in c.states lane) now
     → Cancelling s lane c new now
@@ -158,10 +170,10 @@ cancelling s lane c new now w there begun runs gives behind =
         there = there;
         plain = refl;
         idle = ap (λ (y : LaneValue). y.running) here ∙ gives_idle c.core new (lane_in c.states lane) now gives;
-        between = subst (λ (y : LaneValue). Between s (cancelled_past c.past lane) new
+        between = subst (λ (y : LaneValue). IsBetweenSteps s (cancelled_past c.past lane) new
             (lane_in (slice_set c.states lane now)) (begun_but c.begun lane) (unheld_of y.site (grant_places y.grants)))
             (sym here)
-            (subst (λ (f : ℕ → LaneValue). Between s (cancelled_past c.past lane) new f (begun_but c.begun lane)
+            (subst (λ (f : ℕ → LaneValue). IsBetweenSteps s (cancelled_past c.past lane) new f (begun_but c.begun lane)
             (unheld_of now.site (grant_places now.grants))) (sym (lane_set c.states lane now lt)) x.between);
         closes = inl refl;
         later = inl refl;
@@ -181,13 +193,15 @@ cancels_call s lane c last new now begun x closed =
     record {
       cancels = both_true (is_some (current s c.past lane)) (c.begun lane) _ _ (ap is_some x.is) begun
           (refl, closed.begun, (closed.closes, closed.works.rest.settled));
-      later = later_on s c.past (cancelled_past c.past lane) last.past (inr (x.cancelled.second, inr (x.cancelled.first, later_self s c.past))) closed.later;
+      later = later_on s c.past (cancelled_past c.past lane) last.past
+          (inr (x.cancelled.second, inr (x.cancelled.first, later_self s c.past))) closed.later;
       working = closed.works;
     }
 
 -- ---- what a call of the code asks for
 
-pub there_of : (s : Setting) (c : LanesValue) (lane : ℕ) → Works s c → lane < length c.states → lane < length s.lanes
+pub there_of : (s : Setting) (c : LanesValue) (lane : ℕ) → IsAtRestOpen s c → lane < length c.states
+    → lane < length s.lanes
 there_of s c lane w lt = (let count = w.stands.count in omega (arith, lt, count))
 
 -- what is given up of the lane at hand
@@ -200,7 +214,7 @@ pub record MayCancel (core : Core) (v : LaneValue) : Type 0 where
   pub unfailed : core.fault ≡ None
   pub few : v.ended < 2 ^ 31
 
-pub may_cancel : (s : Setting) (lane : ℕ) (c : LanesValue) (v : LaneValue) → Works s c → lane < length c.states
+pub may_cancel : (s : Setting) (lane : ℕ) (c : LanesValue) (v : LaneValue) → IsAtRestOpen s c → lane < length c.states
     → is_some (lane_in c.states lane).running ≡ true → v ≡ slice_index_or c.states lane v → MayCancel c.core v
 may_cancel s lane c v w lt runs value =
     (let there = there_of s c lane w lt in
@@ -218,7 +232,8 @@ may_cancel s lane c v w lt runs value =
       few = number;
     }))
   where
-    deferred_by : (own : Option ℕ) (reads : List ReadAt) (q times most : ℕ) → with_one own q (with_reads reads q times) ≤ most → times ≤ most
+    deferred_by : (own : Option ℕ) (reads : List ReadAt) (q times most : ℕ)
+        → with_one own q (with_reads reads q times) ≤ most → times ≤ most
     deferred_by None [] q times most le = le
     deferred_by (Some p) [] q times most le = omega (arith, le)
     deferred_by None (r ∷ rest) q times most le = omega (arith, le)
@@ -228,13 +243,14 @@ may_cancel s lane c v w lt runs value =
     lane_at None n call e = absurd cc
     lane_at (Some l) n call e = (l, refl)
 
-    ends_few : (s : Setting) (c : LanesValue) (lane : ℕ) (call : Call) → Works s c → lane < length s.lanes
+    ends_few : (s : Setting) (c : LanesValue) (lane : ℕ) (call : Call) → IsAtRestOpen s c → lane < length s.lanes
         → current s c.past lane ≡ Some call → (lane_in c.states lane).ended < 2 ^ 31
     ends_few s c lane call w there is =
-        (let got : slice_get (calls_of (slice_get c.calls lane)) (ended c.past lane) ≡ Some call = sym (current_is s c lane w.stands) ∙ is in
-        let l = lane_at (slice_get c.calls lane) (ended c.past lane) call got in
-        let within = slice_get_within l.0.calls (ended c.past lane) call
-        (sym (ap (λ (o : Option Lane). slice_get (calls_of o) (ended c.past lane)) l.1) ∙ got) in
+        (let got : slice_get (calls_of (slice_get c.calls lane)) (count_ended c.past lane) ≡ Some call =
+        sym (current_is s c lane w.stands) ∙ is in
+        let l = lane_at (slice_get c.calls lane) (count_ended c.past lane) call got in
+        let within = slice_get_within l.0.calls (count_ended c.past lane) call
+        (sym (ap (λ (o : Option Lane). slice_get (calls_of o) (count_ended c.past lane)) l.1) ∙ got) in
         let few = calls_few c.calls lane l.0 w.stands.ok l.1 in
         let number = (w.rest.between.tied.each lane there).ends in
         omega (arith, within, few, number))

@@ -19,18 +19,21 @@ lane_set states lane v lt = λ i w. at_lane w i
     ]
 
 -- that lane is this value,
-pub set_here : (states : List LaneValue) (lane : ℕ) (v : LaneValue) → lane < length states → lane_in (slice_set states lane v) lane ≡ v
+pub set_here : (states : List LaneValue) (lane : ℕ) (v : LaneValue) → lane < length states
+    → lane_in (slice_set states lane v) lane ≡ v
 set_here states lane v lt = get_or-set_same states lane v fresh_lane lt
 
 -- and a look finds it
-pub get_set : (states : List LaneValue) (lane : ℕ) (v : LaneValue) → lane < length states → slice_get (slice_set states lane v) lane ≡ Some v
+pub get_set : (states : List LaneValue) (lane : ℕ) (v : LaneValue) → lane < length states
+    → slice_get (slice_set states lane v) lane ≡ Some v
 get_set states lane v lt =
     (let same = length-set states lane v in
     let within : lane < length (slice_set states lane v) = omega (arith, lt, same) in
     slice_get-get_or (slice_set states lane v) lane fresh_lane within ∙ ap Some (set_here states lane v lt))
 
 -- what an index finds is that lane
-pub state_at : (states : List LaneValue) (lane : ℕ) (v : LaneValue) → lane < length states → v ≡ slice_index_or states lane v → v ≡ lane_in states lane
+pub state_at : (states : List LaneValue) (lane : ℕ) (v : LaneValue) → lane < length states → v
+    ≡ slice_index_or states lane v → v ≡ lane_in states lane
 state_at states lane v lt is = is ∙ sym (get_or_default states lane fresh_lane v lt)
 
 -- an entry behind all others is the newest

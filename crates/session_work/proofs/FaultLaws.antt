@@ -4,7 +4,7 @@ use Rattle.std.specs.Option.{unwrap_or}
 use Rattle.sftp_model.specs.declared.error.Fault.{Fault}
 use Rattle.sftp_core.specs.declared.errors.TakeError.{TakeError}
 use Rattle.sftp_core.specs.Core.{Core}
-use Rattle.sftp_core.specs.Take.{IsTakeError, Refused, fault_of}
+use Rattle.sftp_core.specs.Take.{IsTakeError, RefusesReply, fault_of}
 use Rattle.session_model.specs.declared.entry.Entry.{Entry}
 use Rattle.session_model.specs.declared.entry.Entry.TheVariants as entry
 use Rattle.session_model.specs.Calls.{Setting}
@@ -16,7 +16,8 @@ use Rattle.session_work.specs.Working.{IsWorking, past_of}
 
 -- ---- journals without a fault
 
-pub stands_so_far : (s : Setting) (fault was : Option Fault) (now past : List Entry) → fault ≡ was → now ≡ past → IsSoFar s was past → IsSoFar s fault now
+pub stands_so_far : (s : Setting) (fault was : Option Fault) (now past : List Entry) → fault ≡ was → now ≡ past
+    → IsSoFar s was past → IsSoFar s fault now
 stands_so_far s fault was now past same is k = rw same (rw is k)
 
 pub none_kept : (past : List Entry) → was_kept past ≡ false → None ≡ kept_in past
@@ -38,7 +39,8 @@ work_so_far s w k =
 
 -- ---- errors
 
-pub left_so_far : (s : Setting) (old new : Lanes) → IsLeft old new → IsSoFar s old.core.fault (past_of old) → IsSoFar s new.core.fault (past_of new)
+pub left_so_far : (s : Setting) (old new : Lanes) → IsLeft old new → IsSoFar s old.core.fault (past_of old)
+    → IsSoFar s new.core.fault (past_of new)
 left_so_far s old new left k = stands_so_far s _ _ _ _ left.fault left.past k
 
 pub kept_so_far : (s : Setting) (kept : Option Fault) (fault : Fault) (past : List Entry) → IsSoFar s kept past
@@ -52,7 +54,8 @@ pub refused_so_far : (s : Setting) (e : TakeError) (refusal : Option TakeError) 
     → IsSoFar s old.fault past → IsSoFar s new.fault now
 refused_so_far s e refusal old new past now none h is k = by_kept (fault_of e) h is
   where
-    by_kept : (o : Option Fault) → Refused e o refusal old new → now ≡ refused_past o past → IsSoFar s new.fault now
+    by_kept : (o : Option Fault) → RefusesReply e o refusal old new → now ≡ refused_past o past
+        → IsSoFar s new.fault now
     by_kept None same is = stands_so_far s _ _ _ _ (ap (λ (c : Core). c.fault) same) is k
     by_kept (Some fault) same is = stands_so_far s _ _ _ _ (ap (λ (c : Core). c.fault) same.1)
         (is ∙ ap (λ o. kept_past o fault past) (sym none)) (kept_so_far s old.fault fault past k)

@@ -41,20 +41,22 @@ use Rattle.session_driver.proofs.Journals.{later_on, later_self}
 use Rattle.session_laws.specs.Changes.{closed_lane, let_go_lane}
 use Rattle.session_laws.specs.Lanes.{Held, LaneValue}
 use Rattle.session_laws.proofs.LaneLaws.{grants_count}
-use Rattle.session_lane.specs.Tokens.{AreGrants}
+use Rattle.session_work.specs.Tokens.{AreGrants}
 use Rattle.session_laws.specs.Ends.{LettingGo, StaysOpen, close_entry, let_go}
 use Rattle.session_laws.proofs.LettingSteps.{at_rest, letting_begins, letting_ends, slots_closed, slots_passed}
 use Rattle.session_laws.specs.Rest.{begun_of}
 use Rattle.session_work.specs.Closing.{closed_in}
 use Rattle.session_work.specs.Letting.{IsLetGo, LettingLane}
-use Rattle.session_work.specs.Working.{LanesValue, LetsGoIn, Works, lane_in}
+use Rattle.session_work.specs.Working.{LanesValue, LetsGoIn, IsAtRestOpen, lane_in}
 use Rattle.session_work.proofs.BegunLaws.{begun_same}
 use Rattle.session_work.proofs.Contents.{lane_set, set_here}
 
 -- ---- slot by slot
 
-pub letting_there : (s : Setting) (before : List Entry) (lane : ℕ) (c : LanesValue) (rest : List Slot) → LettingLane s before lane c rest → lane < length c.states
-letting_there s before lane c rest h = (let there = h.there in let count = h.stands.count in omega (arith, there, count))
+pub letting_there : (s : Setting) (before : List Entry) (lane : ℕ) (c : LanesValue) (rest : List Slot)
+    → LettingLane s before lane c rest → lane < length c.states
+letting_there s before lane c rest h = (let there = h.there in let count = h.stands.count in
+    omega (arith, there, count))
 
 -- a slot is passed
 pub letting_passes : (s : Setting) (before : List Entry) (lane : ℕ) (c : LanesValue) (slot : Slot) (rest : List Slot)
@@ -76,11 +78,13 @@ letting_passes s before lane c slot rest h stays =
 pub letting_closes : (s : Setting) (before : List Entry) (lane k : ℕ) (c : LanesValue) (g : Held) (slot : Slot)
     (rest : List Slot) → LettingLane s before lane c (slot ∷ rest) → grant_of slot ≡ Some g.place
     → list_any (slot_has g.place) rest ≡ false
-    → slice_get (lane_in c.states lane).grants k ≡ Some g → g.grant.id < 2 ^ 32 → LettingLane s before lane (closed_in c lane k g) rest
+    → slice_get (lane_in c.states lane).grants k ≡ Some g → g.grant.id < 2 ^ 32
+    → LettingLane s before lane (closed_in c lane k g) rest
 letting_closes s before lane k c g slot rest h grant none here small =
     let lt = letting_there s before lane c (slot ∷ rest) h in
     let v : LaneValue = lane_in c.states lane in
-    let x = slots_closed s c.past c.core (lane_in c.states) c.begun lane k g slot rest h.going h.there grant none here small in
+    let x = slots_closed s c.past c.core (lane_in c.states) c.begun lane k g slot rest h.going h.there grant none here
+    small in
     record {
       stands = record {
         calls = h.stands.calls;
@@ -99,7 +103,8 @@ letting_closes s before lane k c g slot rest h grant none here small =
       later = inr (x.next, h.later);
     }
 
-pub letting_over : (s : Setting) (before : List Entry) (lane : ℕ) (old c : LanesValue) → LettingLane s before lane c [] → c.begun ≡ old.begun → IsLetGo s before old c
+pub letting_over : (s : Setting) (before : List Entry) (lane : ℕ) (old c : LanesValue) → LettingLane s before lane c []
+    → c.begun ≡ old.begun → IsLetGo s before old c
 letting_over s before lane old c h begun =
     record {
       works = record {
@@ -116,22 +121,31 @@ letting_over s before lane old c h begun =
 
 -- the lanes once one is let go, before its grants are closed
 abbrev pub let_go_in : LanesValue → ℕ → LanesValue
-let_go_in c lane = record c { past = entry.LetGo lane ∷ c.past; states = slice_set c.states lane (let_go_lane (lane_in c.states lane)) }
+let_go_in c lane = record c {
+  past = entry.LetGo lane ∷ c.past;
+  states =
+      slice_set c.states lane (let_go_lane (lane_in c.states lane));
+}
 
 -- a lane that has no call left runs none
-pub idle_over : (s : Setting) (lane : ℕ) (c : LanesValue) → Works s c → lane < length s.lanes → current s c.past lane
+pub idle_over : (s : Setting) (lane : ℕ) (c : LanesValue) → IsAtRestOpen s c → lane < length s.lanes
+    → current s c.past lane
     ≡ None → (lane_in c.states lane).running ≡ None
-idle_over s lane c w there none = (at_rest s c.past lane (lane_in c.states lane) [] (w.rest.between.tied.each lane there) none).0
+idle_over s lane c w there none = (at_rest s c.past lane (lane_in c.states lane) []
+    (w.rest.between.tied.each lane there) none).0
 
 -- so its letting go leaves those that were begun
-pub let_go_begun : (s : Setting) (lane : ℕ) (c : LanesValue) (now : LaneValue) → Works s c → lane < length c.states
+pub let_go_begun : (s : Setting) (lane : ℕ) (c : LanesValue) (now : LaneValue) → IsAtRestOpen s c
+    → lane < length c.states
     → current s c.past lane ≡ None → let_go_lane (lane_in c.states lane) ≡ now → begun_of (lane_in c.states)
     ≡ begun_of (lane_in (slice_set c.states lane now))
 let_go_begun s lane c now w lt none is =
     let there : lane < length s.lanes = (let count = w.stands.count in omega (arith, lt, count)) in
-    sym (begun_same c.states lane now lt (ap (λ (y : LaneValue). is_some y.running) (sym is) ∙ sym (ap is_some (idle_over s lane c w there none))))
+    sym (begun_same c.states lane now lt (ap (λ (y : LaneValue). is_some y.running) (sym is)
+    ∙ sym (ap is_some (idle_over s lane c w there none))))
 
-pub letting_starts : (s : Setting) (lane : ℕ) (c : LanesValue) → Works s c → lane < length s.lanes → current s c.past lane
+pub letting_starts : (s : Setting) (lane : ℕ) (c : LanesValue) → IsAtRestOpen s c → lane < length s.lanes
+    → current s c.past lane
     ≡ None → was_let_go c.past lane ≡ false → LettingLane s (entry.LetGo lane ∷ c.past) lane (let_go_in c lane)
     (lane_in c.states lane).site.slots
 letting_starts s lane c w there none held =
@@ -165,7 +179,7 @@ at_false : (b : Bool) (X Y : Type 0) → b ≡ false → Y → MatchBool b X Y
 at_false false X Y e y = y
 at_false true X Y e y = absurd cc
 
-pub lets_lane_go : (s : Setting) (lane : ℕ) (c last : LanesValue) → Works s c → lane < length s.lanes
+pub lets_lane_go : (s : Setting) (lane : ℕ) (c last : LanesValue) → IsAtRestOpen s c → lane < length s.lanes
     → current s c.past lane ≡ None → was_let_go c.past lane ≡ false
     → IsLetGo s (entry.LetGo lane ∷ c.past) (let_go_in c lane) last → LetsGoIn s lane c last
 lets_lane_go s lane c last w there none held x =
@@ -178,7 +192,8 @@ lets_lane_go s lane c last w there none held x =
     }
 
 -- there is no such lane
-pub lets_none_go : (s : Setting) (lane : ℕ) (c : LanesValue) → Works s c → length c.states ≤ lane → LetsGoIn s lane c c
+pub lets_none_go : (s : Setting) (lane : ℕ) (c : LanesValue) → IsAtRestOpen s c → length c.states ≤ lane
+    → LetsGoIn s lane c c
 lets_none_go s lane c w out =
     (let count = w.stands.count in
     let is : nat_lt lane (length s.lanes) ≡ false = grind (arith, nat_tests) in
@@ -189,10 +204,12 @@ lets_none_go s lane c w out =
 -- the core counts one user of each grant of the lane
 pub letting_grants : (s : Setting) (before : List Entry) (lane : ℕ) (c : LanesValue) (rest : List Slot)
     → LettingLane s before lane c rest → AreGrants c.core (lane_in c.states lane).grants
-letting_grants s before lane c rest h k g got = grants_count s c.past c.core (lane_in c.states) _ lane k g h.going.tied h.there got
+letting_grants s before lane c rest h k g got = grants_count s c.past c.core (lane_in c.states) _ lane k g h.going.tied
+    h.there got
 
 -- a list by its first item and those behind it
-pub first_is : {A : Type 0} (xs : List A) (x : A) → 1 ≤ length xs → x ≡ slice_index_or xs 0 x → xs ≡ x ∷ take (length xs - 1) (drop 1 xs)
+pub first_is : {A : Type 0} (xs : List A) (x : A) → 1 ≤ length xs → x ≡ slice_index_or xs 0 x → xs
+    ≡ x ∷ take (length xs - 1) (drop 1 xs)
 first_is [] x some is = absurd (omega (arith, some))
 first_is (y ∷ ys) x some is = λ i. sym is i ∷ sym (take_all (length (y ∷ ys) - 1) ys (omega arith)) i
 

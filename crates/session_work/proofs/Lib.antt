@@ -1,23 +1,45 @@
 pub mod AddedLaws
 mod AddedSpends
-pub mod BegunLaws
-pub mod BufferLaws
+mod BegunLaws
+mod BufferLaws
 pub mod CallsLaws
-pub mod CancellingLaws
-pub mod ClosingLaws
-pub mod Contents
+mod CancellingLaws
+mod ClosingLaws
+mod Contents
 pub mod Counting
 pub mod Entries
-pub mod Exchanges
+mod Exchanges
 pub mod FaultLaws
 mod FewIds
-pub mod FreshLaws
-pub mod LeftLaws
-pub mod LettingLaws
-pub mod NotingLaws
-pub mod Refusals
-pub mod Remaining
+mod FreshLaws
+mod LeftLaws
+mod LettingLaws
+mod NotingLaws
+mod Refusals
+mod Remaining
 pub mod ReportLaws
-pub mod TurningLaws
-pub mod UnnotedLaws
-pub mod WeightLaws
+mod TurningLaws
+mod UnnotedLaws
+mod WeightLaws
+mod AskLaws
+mod Begun
+mod Polling
+mod Holding
+mod Polled
+mod TurnLaws
+mod Turned
+mod Awaiting
+mod AskRests
+mod EndRests
+mod Ranges
+mod Rests
+mod WentLaws
+mod Forgotten
+mod Flushed
+mod Unheld
+mod GivenUp
+mod LettingGo
+mod OneByOne
+mod Spending
+mod Growth
+mod TurnSpends

@@ -38,8 +38,8 @@ use Rattle.session_model.specs.declared.event.Event.TheVariants.{Cancel, End}
 use Rattle.session_model.specs.declared.entry.Entry.{Entry}
 use Rattle.session_model.specs.declared.entry.Entry.TheVariants as entry
 use Rattle.session_model.specs.Readings.{outcomes_below, outcomes_of, was_let_go}
-use Rattle.session_lane.specs.declared.lane.Moved.{Moved}
-use Rattle.session_lane.specs.declared.lane.Moved.TheVariants as moved
+use Rattle.session_work.specs.declared.lane.Moved.{Moved}
+use Rattle.session_work.specs.declared.lane.Moved.TheVariants as moved
 use Rattle.session_work.specs.declared.lanes.Lanes.{Lanes}
 use Rattle.session_work.specs.Reports.{
   AreReports,
@@ -83,11 +83,13 @@ end_told : (kept : LaneReports) (past : List Entry) (lane call : ℕ) (o : Outco
     → AreReports kept past → AreReports (record kept { outcomes = with_outcome kept.outcomes lane o })
     (entry.Event (End lane call o) ∷ past)
 end_told kept past lane call o lt are w =
-    (let at : slice_index_or (with_outcome kept.outcomes lane o) w [] ≡ outcomes_of (entry.Event (End lane call o) ∷ past) w = elim (eqb_tells lane w) [
+    (let at : slice_index_or (with_outcome kept.outcomes lane o) w []
+    ≡ outcomes_of (entry.Event (End lane call o) ∷ past) w = elim (eqb_tells lane w) [
       | inl t ↦ rw t.0 (ap (λ (k : ℕ). slice_index_or (with_outcome kept.outcomes lane o) k []) (sym t.1)
           ∙ get_or-set_same kept.outcomes lane _ [] lt ∙ ap (λ (r : LaneReport). r.outcomes ++ o ∷ []) (are lane)
           ∙ ap (λ (k : ℕ). outcomes_of past k ++ o ∷ []) t.1)
-      | inr t ↦ rw t.0 (get_or-set_other kept.outcomes lane w _ [] (λ e. t.1 (sym e)) ∙ ap (λ (r : LaneReport). r.outcomes) (are w))
+      | inr t ↦ rw t.0 (get_or-set_other kept.outcomes lane w _ [] (λ e. t.1 (sym e))
+          ∙ ap (λ (r : LaneReport). r.outcomes) (are w))
     ] in
     λ i. record { outcomes = at i; let_go = (are w i).let_go })
 
@@ -95,9 +97,12 @@ end_told kept past lane call o lt are w =
 go_told : (kept : LaneReports) (past : List Entry) (lane : ℕ) → lane < length kept.let_go → AreReports kept past
     → AreReports (record kept { let_go = slice_set kept.let_go lane true }) (entry.LetGo lane ∷ past)
 go_told kept past lane lt are w =
-    (let at : slice_index_or (slice_set kept.let_go lane true) w false ≡ was_let_go (entry.LetGo lane ∷ past) w = elim (eqb_tells lane w) [
-      | inl t ↦ rw t.0 (ap (λ (k : ℕ). slice_index_or (slice_set kept.let_go lane true) k false) (sym t.1) ∙ get_or-set_same kept.let_go lane true false lt)
-      | inr t ↦ rw t.0 (get_or-set_other kept.let_go lane w true false (λ e. t.1 (sym e)) ∙ ap (λ (r : LaneReport). r.let_go) (are w))
+    (let at : slice_index_or (slice_set kept.let_go lane true) w false ≡ was_let_go (entry.LetGo lane ∷ past) w =
+    elim (eqb_tells lane w) [
+      | inl t ↦ rw t.0 (ap (λ (k : ℕ). slice_index_or (slice_set kept.let_go lane true) k false) (sym t.1)
+          ∙ get_or-set_same kept.let_go lane true false lt)
+      | inr t ↦ rw t.0 (get_or-set_other kept.let_go lane w true false (λ e. t.1 (sym e))
+          ∙ ap (λ (r : LaneReport). r.let_go) (are w))
     ] in
     λ i. record { outcomes = (are w i).outcomes; let_go = at i })
 
@@ -117,17 +122,20 @@ moved_count lists lane moved.Went = refl
 moved_count lists lane (moved.Asked id r) = refl
 
 -- a fault tells nothing of a lane
-pub refused_told : (fault : Option Fault) (past : List Entry) (lane : ℕ) → lane_report (refused_past fault past) lane ≡ lane_report past lane
+pub refused_told : (fault : Option Fault) (past : List Entry) (lane : ℕ) → lane_report (refused_past fault past) lane
+    ≡ lane_report past lane
 refused_told None past lane = refl
 refused_told (Some fault) past lane = refl
 
 -- the outcomes are those of the first lanes, as many as there are
-pub all_told : (kept : LaneReports) (past : List Entry) → AreReports kept past → kept.outcomes ≡ outcomes_below past (length kept.outcomes)
+pub all_told : (kept : LaneReports) (past : List Entry) → AreReports kept past → kept.outcomes
+    ≡ outcomes_below past (length kept.outcomes)
 all_told kept past are = sym (take-length kept.outcomes) ∙ first (length kept.outcomes) (omega arith)
   where
     first : (n : ℕ) → n ≤ length kept.outcomes → take n kept.outcomes ≡ outcomes_below past n
     first zero le = refl
-    first (suc n) le = take-suc kept.outcomes n [] (omega (arith, le)) ∙ (λ i. first n (omega (arith, le)) i ++ (are n i).outcomes ∷ [])
+    first (suc n) le = take-suc kept.outcomes n [] (omega (arith, le))
+        ∙ (λ i. first n (omega (arith, le)) i ++ (are n i).outcomes ∷ [])
 
 -- ---- the lanes
 
@@ -146,10 +154,17 @@ left_on a b c x y = record {
 pub left_err : {T E : Type 0} (r : Result T E) (old new : Lanes) → past_of new ≡ past_of old → new.core.fault
     ≡ old.core.fault → reports_of new ≡ reports_of old → new.calls ≡ old.calls → OnErr r (IsLeft old new)
 left_err (Ok x) old new past fault reports calls = tt
-left_err (Err e) old new past fault reports calls = record { past = past; fault = fault; reports = reports; calls = calls }
+left_err (Err e) old new past fault reports calls = record {
+  past = past;
+  fault = fault;
+  reports = reports;
+  calls =
+      calls;
+}
 
 -- so many lanes have done nothing
-pub fresh_intact : (n : ℕ) (w : Lanes) → w.outcomes ≡ replicate n [] → w.gone ≡ replicate n false → past_of w ≡ [] → HasRoom w → IsIntact n w
+pub fresh_intact : (n : ℕ) (w : Lanes) → w.outcomes ≡ replicate n [] → w.gone ≡ replicate n false → past_of w ≡ []
+    → HasRoom w → IsIntact n w
 fresh_intact n w lists marks none room =
     record {
       room = room;
@@ -181,7 +196,8 @@ left_intact n old new i left room = leaves_intact n old new i
 -- where a turn was kept and noted,
 pub noted_intact : (n lane call : ℕ) (m : Moved) (old mid new : Lanes) (lists : List (List Outcome)) → IsIntact n old
     → IsLeft old mid → HasRoom mid → lane < n → lists ≡ with_moved mid.outcomes lane m
-    → HasReports (ended_past lane call m (past_of mid)) (record mid { outcomes = lists }) new → HasRoom new → IsIntact n new
+    → HasReports (ended_past lane call m (past_of mid)) (record mid { outcomes = lists }) new → HasRoom new
+    → IsIntact n new
 noted_intact n lane call m old mid new lists before left mid_room lt kept h room =
     (let was : IsIntact n mid = left_intact n old mid before left mid_room in
     let count = was.lists in
@@ -198,7 +214,8 @@ pub cancelled_intact : (n lane call : ℕ) (old mid new : Lanes) → IsIntact n 
     → LeavesReports mid new → HasRoom new → IsIntact n new
 cancelled_intact n lane call old mid new before lt kept same past h room =
     (let count = before.lists in
-    told_intact n (past_of mid) mid new h (ap length kept ∙ length-set old.outcomes lane _ ∙ before.lists) (ap length same ∙ before.marks)
+    told_intact n (past_of mid) mid new h (ap length kept ∙ length-set old.outcomes lane _ ∙ before.lists)
+    (ap length same ∙ before.marks)
     (λ k. (λ i. report_in (record { outcomes = kept i; let_go = same i }) k)
     ∙ end_told (reports_of old) (entry.Event (Cancel lane) ∷ past_of old) lane call outcome.Cancelled
     (omega (arith, lt, count)) before.reports k ∙ sym (ap (λ (p : List Entry). lane_report p k) past)) room)
@@ -209,7 +226,8 @@ pub let_go_intact : (n lane : ℕ) (old mid new : Lanes) → IsIntact n old → 
     → HasRoom new → IsIntact n new
 let_go_intact n lane old mid new before lt same marked past h room =
     (let count = before.marks in
-    told_intact n (past_of mid) mid new h (ap length same ∙ before.lists) (ap length marked ∙ length-set old.gone lane true ∙ before.marks)
+    told_intact n (past_of mid) mid new h (ap length same ∙ before.lists)
+    (ap length marked ∙ length-set old.gone lane true ∙ before.marks)
     (λ k. (λ i. report_in (record { outcomes = same i; let_go = marked i }) k)
     ∙ go_told (reports_of old) (past_of old) lane (omega (arith, lt, count)) before.reports k
     ∙ sym (ap (λ (p : List Entry). lane_report p k) past)) room)

@@ -18,7 +18,8 @@ more_first a b c d all now e f g = omega (arith, e, f, g)
 more_later : (x a b d all now : ℕ) → all ≡ x + a → now ≡ x + b → b ≡ a + d → now ≡ all + d
 more_later x a b d all now e f g = omega (arith, e, f, g)
 
-pub weight_with : (lanes : List Lane) (k : ℕ) (call : Call) → k < length lanes → sum_by lane_weight (with_call lanes k call)
+pub weight_with : (lanes : List Lane) (k : ℕ) (call : Call) → k < length lanes
+    → sum_by lane_weight (with_call lanes k call)
     ≡ sum_by lane_weight lanes + weight call
 weight_with [] k call lt = absurd (omega (arith, lt))
 weight_with (lane ∷ lanes) zero call lt =
@@ -26,7 +27,8 @@ weight_with (lane ∷ lanes) zero call lt =
     more_first (sum_by weight lane.calls) (sum_by weight now.calls) (sum_by lane_weight lanes) (weight call) _ _
     (sum_by-cons lane_weight lane lanes) (sum_by-cons lane_weight now lanes) (sum_by_push weight lane.calls call)
 weight_with (lane ∷ lanes) (suc k) call lt =
-    more_later (lane_weight lane) (sum_by lane_weight lanes) (sum_by lane_weight (with_call lanes k call)) (weight call) _ _
+    more_later (lane_weight lane) (sum_by lane_weight lanes) (sum_by lane_weight (with_call lanes k call)) (weight call)
+    _ _
     (sum_by-cons lane_weight lane lanes) (sum_by-cons lane_weight lane (with_call lanes k call))
     (weight_with lanes k call (omega (arith, lt)))
 
@@ -64,7 +66,8 @@ limited : (s w : ℕ) → nat_lt (min (min s (2 ^ 31) + min w (2 ^ 31)) (2 ^ 31)
 limited s w = grind (arith, nat_tests)
 
 -- a call that is within its ranges may be added where what all count with it is below the limit
-pub ok_with : (lanes : List Lane) (weighs weight_of total k : ℕ) (call : Call) → are_ok lanes ≡ true → is_within call ≡ true
+pub ok_with : (lanes : List Lane) (weighs weight_of total k : ℕ) (call : Call) → are_ok lanes ≡ true → is_within call
+    ≡ true
     → weighs ≡ min (sum_by lane_weight lanes) (2 ^ 31) → weight_of ≡ min (weight call) (2 ^ 31)
     → total ≡ min (weighs + weight_of) (2 ^ 31) → k < length lanes
     → nat_lt total 2147483648 ≡ are_ok (with_call lanes k call)
@@ -73,14 +76,17 @@ ok_with lanes weighs weight_of total k call ok within is by sum lt =
     (λ i. nat_lt (sum i) 2147483648) ∙ (λ i. nat_lt (min (is i + by i) (2 ^ 31)) 2147483648)
     ∙ limited (sum_by lane_weight lanes) (weight call)
     ∙ ap (λ (n : ℕ). nat_lt n weight_limit) (sym (weight_with lanes k call lt))
-    ∙ (λ i. sym (within_with lanes k call lt parts.0 ∙ within) i && nat_lt (sum_by lane_weight (with_call lanes k call)) weight_limit)
+    ∙ (λ i. sym (within_with lanes k call lt parts.0 ∙ within) i
+    && nat_lt (sum_by lane_weight (with_call lanes k call)) weight_limit)
 
 -- and no other may
-pub not_ok_with : (lanes : List Lane) (k : ℕ) (call : Call) (b : Bool) → are_ok lanes ≡ true → is_within call ≡ b → b ≡ false
+pub not_ok_with : (lanes : List Lane) (k : ℕ) (call : Call) (b : Bool) → are_ok lanes ≡ true → is_within call ≡ b → b
+    ≡ false
     → k < length lanes → b ≡ are_ok (with_call lanes k call)
 not_ok_with lanes k call b ok is out lt =
     let parts = both (list_all lane_within lanes) _ ok in
-    out ∙ (λ i. sym (within_with lanes k call lt parts.0 ∙ is ∙ out) i && nat_lt (sum_by lane_weight (with_call lanes k call)) weight_limit)
+    out ∙ (λ i. sym (within_with lanes k call lt parts.0 ∙ is ∙ out) i
+    && nat_lt (sum_by lane_weight (with_call lanes k call)) weight_limit)
 
 -- what is kept of what they count
 pub weighs_with : (lanes : List Lane) (weighs limited_weight : ℕ) (k : ℕ) (call : Call) → k < length lanes

@@ -6,3 +6,9 @@ pub mod Adding
 pub mod Closing
 pub mod Noting
 pub mod Letting
+pub mod Tokens
+pub mod Turning
+pub mod Holding
+pub mod Rests
+pub mod AwaitingRows
+pub mod Premises

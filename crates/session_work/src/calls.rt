@@ -1,4 +1,4 @@
-// Calls that are added to lanes.
+//! Calls that are added to lanes.
 ghost use Rattle.std.specs.Prelude.{◌≡◌, ◌<◌, ◌∷◌, ◌++◌, [], length, OnErr, OnOk};
 ghost use Rattle.session_driver.specs.Adding.{with_call};
 ghost use Rattle.session_work.specs.Adding.{added_in};
@@ -13,16 +13,16 @@ use sftp_values::Items;
 use ssh_encoding::OutOfMemory;
 use std::alloc::Global;
 
-/// Puts an item behind others. Refused for want of memory; they are as before then.
+/// Appends an item. Fails if an allocation fails; the items are unchanged then.
 pub(crate) fn push_last<T: Drop>(items: &mut Vec<T>, item: T) -> Result<(), OutOfMemory>
     ensures last { OnOk result (items.new.items ≡ items.old.items ++ item ∷ []) }
-    ensures left { OnErr result (items.new.items ≡ items.old.items) }
+    ensures unchanged { OnErr result (items.new.items ≡ items.old.items) }
 {
     items.push(item)?;
     Ok(())
 }
 
-/// Puts a call behind those of a lane. Refused for want of memory; the lanes are as before then.
+/// Appends a call to those of a lane. Fails if an allocation fails; the lanes are unchanged then.
 pub(crate) fn add_call(
     alloc: Global,
     lanes: &mut Items<Lane>,
@@ -31,7 +31,7 @@ pub(crate) fn add_call(
 ) -> Result<(), OutOfMemory>
     requires { lane < length lanes.old }
     ensures added { OnOk result (lanes.new ≡ with_call lanes.old lane call) }
-    ensures left { OnErr result (lanes.new ≡ lanes.old) }
+    ensures unchanged { OnErr result (lanes.new ≡ lanes.old) }
 {
     let empty = Lane {
         calls: Items::new(Vec::new(alloc)),
@@ -47,13 +47,16 @@ pub(crate) fn add_call(
 }
 
 impl Lanes {
-    /// Puts a call behind those of a lane that is there, and notes it in the journal, whatever the session does. Refused
-    /// for want of memory; nothing has changed then.
+    /// Appends a call to those of an existing lane, and records it in the journal, in any state of the session.
+    ///
+    /// # Errors
+    ///
+    /// `OutOfMemory` if an allocation fails; nothing has changed then.
     pub fn push_call(&mut self, alloc: Global, lane: u32, call: Call) -> Result<(), OutOfMemory>
         requires there { lane < length self.old.calls }
         requires intact { IsIntact (length self.old.calls) self.old }
         ensures adds { OnOk result (contents_of self.new ≡ added_in (contents_of self.old) lane call) }
-        ensures left { OnErr result (contents_of self.new ≡ contents_of self.old) }
+        ensures unchanged { OnErr result (contents_of self.new ≡ contents_of self.old) }
         ensures intact { IsIntact (length self.old.calls) self.new }
     {
         let copy = call.try_copy(alloc)?;

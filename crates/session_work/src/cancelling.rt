@@ -1,4 +1,4 @@
-// The call of a lane is cancelled.
+//! Cancels of a lane's call.
 ghost use Rattle.std.specs.Prelude.{IfOk, OnErr, length};
 ghost use Rattle.session_model.specs.Calls.{Setting};
 ghost use Rattle.session_work.specs.SoFar.{IsIntact, IsLeft};
@@ -14,7 +14,12 @@ use ssh_encoding::OutOfMemory;
 use std::alloc::Global;
 
 impl Lanes {
-    /// Cancels the call of a lane that was begun, and answers whether it was. Refused for want of memory.
+    /// Cancels the call of a lane that was started. Returns true if it was.
+    ///
+    /// # Errors
+    ///
+    /// `OutOfMemory` if an allocation fails; the calls, the journal, the recorded fault and the records for the report
+    /// are unchanged.
     pub fn cancel(&mut self, alloc: Global, lane: u32) -> Result<bool, OutOfMemory>
         requires opened { IsOpened self.old }
         requires intact { IsIntact (length self.old.calls) self.old }

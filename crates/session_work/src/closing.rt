@@ -1,4 +1,4 @@
-// CLOSEs that a session submits by itself.
+//! CLOSEs that a session submits by itself.
 ghost use Rattle.std.specs.Prelude.{◌≡◌, ◌<◌, ◌≤◌, ◌+◌, ◌∷◌, ◌++◌, [], ℕ, List, Some, None, true, false, length, reverse, slice_get, vec_len, vec_capacity};
 ghost use Rattle.sftp_model.specs.declared.request.Request.{Request as RequestValue};
 ghost use Rattle.sftp_model.specs.declared.request.Request.TheVariants as request;
@@ -9,7 +9,7 @@ ghost use Rattle.session_model.specs.declared.event.Owner.TheVariants as owner;
 ghost use Rattle.session_model.specs.Calls.{Setting};
 ghost use Rattle.session_laws.specs.Lanes.{Held};
 ghost use Rattle.session_work.specs.Reports.{LeavesReports, lane_report};
-ghost use Rattle.session_work.specs.Closing.{CanClose, Closed, HasClosed, IsClosing};
+ghost use Rattle.session_work.specs.Closing.{CanClose, ClosesDueGrants, HasClosed, IsClosing};
 ghost use Rattle.session_work.specs.SoFar.{HasOneMore};
 ghost use Rattle.session_work.specs.Working.{contents_of, lane_in};
 
@@ -28,7 +28,7 @@ pub(crate) fn add_entry(journal: &mut Vec<Entry>, entry: Entry)
     journal.push(entry).unwrap();
 }
 
-/// Notes the CLOSE that the core has queued on its own behind so many requests, and answers whether it has.
+/// Records the CLOSE that the core has queued on its own after this many requests. Returns true if there is one.
 pub(crate) fn note_close(core: &Core, journal: &mut Vec<Entry>, before: u32) -> bool
     requires { vec_len journal.old < vec_capacity journal.old }
     ensures none { length core.now.queue ≡ before → (result ≡ false) × (journal.new.items ≡ journal.old.items) }
@@ -57,7 +57,7 @@ pub(crate) fn note_close(core: &Core, journal: &mut Vec<Entry>, before: u32) -> 
 }
 
 impl Lanes {
-    /// Closes the grant at an index of a lane's, and notes its CLOSE.
+    /// Closes the grant at an index of a lane, and records its CLOSE.
     pub(crate) fn close(&mut self, lane: u32, k: usize)
         requires { CanClose lane k self.old }
         ensures closed { (g : Held) → slice_get (lane_in self.old.states.items lane).grants k ≡ Some g → HasClosed (contents_of self.old) (contents_of self.new) lane k g }
@@ -81,7 +81,7 @@ impl Lanes {
     pub(crate) fn close_unheld(&mut self, lane: u32)
         requires closing { IsClosing lane self.old }
         requires room { vec_len self.old.journal + length (lane_in self.old.states.items lane).grants < vec_capacity self.old.journal }
-        ensures closed { (s : Setting) (before : List EntryValue) → Closed s before lane (contents_of self.old) (contents_of self.new) }
+        ensures closed { (s : Setting) (before : List EntryValue) → ClosesDueGrants s before lane (contents_of self.old) (contents_of self.new) }
         ensures reports { LeavesReports self.old self.new }
         ensures room { vec_len self.new.journal < vec_capacity self.new.journal }
     {

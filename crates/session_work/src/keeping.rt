@@ -1,4 +1,4 @@
-// A kept fault is an entry of the journal too.
+//! Recorded faults, which are entries of the journal too.
 ghost use Rattle.std.specs.Prelude.{◌≡◌, None, IfOk, IfErr};
 ghost use Rattle.sftp_model.specs.ReplyReadings.{reply_at};
 ghost use Rattle.sftp_core.specs.Core.{failed_with};
@@ -11,7 +11,7 @@ use session_model::Entry;
 use sftp_core::{Fault, TakeError, Taken};
 
 impl Lanes {
-    /// Keeps a fault where none is kept, also as the last entry of the journal.
+    /// Records a fault if none is recorded, also as the last entry of the journal.
     pub fn keep(&mut self, fault: Fault)
         requires room { HasRoom self.old }
         ensures rest { self.new ≡ record self.old { core = failed_with self.old.core fault; journal = self.new.journal } }
@@ -23,8 +23,12 @@ impl Lanes {
         self.core.fail(fault);
     }
 
-    /// Takes the body of one frame into the core, and has room then for two entries and that of a fault. Refused by the
-    /// first thing that is wrong with it, which is kept and noted, or for want of memory.
+    /// Takes the body of one frame into the core; there is then room for two entries and that of a fault.
+    ///
+    /// # Errors
+    ///
+    /// The first thing that is wrong with the body, which is kept and recorded in the journal, or `OutOfMemory` if an
+    /// allocation fails.
     pub fn take_frame(&mut self, body: &[u8]) -> Result<Taken, TakeError>
         requires unfailed { self.old.core.fault ≡ None }
         requires room { HasRoom self.old }

@@ -1,11 +1,11 @@
-// The lanes of an open session.
+//! The lanes of an open session.
 ghost use Rattle.std.specs.Prelude.{◌≡◌, IfOk};
 ghost use Rattle.session_work.specs.Fresh.{IsMade};
 
+use crate::LaneState;
 use crate::reports::{empty_lists, unmarked};
 use crate::weighed_lanes::WeighedLanes;
 use bitflags::Flags;
-use session_lane::LaneState;
 use session_model::{Entry, Lane};
 use sftp_core::{Core, Ended};
 use sftp_model::{Extensions, Facts, Outcome, SftpOptions, TryCopy};
@@ -13,35 +13,37 @@ use sftp_values::Items;
 use ssh_encoding::OutOfMemory;
 use std::alloc::Global;
 
-/// The lanes of a session, and what they work with: their calls, the core, the facts that plans go by, the journal and
-/// how many requests it has, what each lane holds and awaits, and what is kept of it for the report.
+/// The lanes of a session, and the data that they work with: their calls, the core, the facts that plans use, the
+/// journal and how many requests it has, what each lane holds and awaits, and its records for the report.
+///
+/// Example: `crates/example_threads/src/socket.rt`.
 pub struct Lanes {
     /// The calls of each lane.
     pub calls: WeighedLanes,
     /// The core that all lanes ask.
     pub core: Core,
-    /// What VERSION and the limits told, once the session is open.
+    /// The facts that VERSION and the limits reported, once the session is open.
     pub facts: Facts,
-    /// What happened, the first entry first.
+    /// The entries of the journal, the first entry first.
     pub journal: Vec<Entry>,
-    /// How many requests were submitted, which is the place of the next.
+    /// The number of requests that were submitted, which is the place of the next.
     pub asked: u64,
-    /// What each lane holds and awaits.
+    /// The tickets, grants and slots of each lane, and what it awaits.
     pub states: Vec<LaneState>,
-    /// Of each lane the outcomes of its calls that have ended, in their order.
+    /// For each lane the outcomes of its calls that have ended, in their order.
     pub outcomes: Items<Items<Outcome>>,
-    /// Which lanes were let go.
+    /// For each lane true if it was released.
     pub gone: Items<bool>,
 }
 
 impl Drop for Lanes {
-    /// Lets all go that the lanes hold. Nothing is sent.
+    /// Releases everything that the lanes hold. Nothing is sent.
     fn drop(self) {
         let _told = self.into_told();
     }
 }
 
-/// Copies of lanes.
+/// Returns copies of lanes.
 fn copies_of(alloc: Global, lanes: &[Lane]) -> Result<Items<Lane>, OutOfMemory>
     ensures { IfOk result (λ copies. copies ≡ lanes.now) }
 {
@@ -52,7 +54,7 @@ fn copies_of(alloc: Global, lanes: &[Lane]) -> Result<Items<Lane>, OutOfMemory>
     Ok(Items::new(copies))
 }
 
-/// Lets lanes go whose core was given up.
+/// Releases lanes whose core was given up.
 fn let_go_states(mut states: Vec<LaneState>, core: Ended) {
     while let Some(state) = states.pop() {
         state.end(core);
@@ -60,7 +62,7 @@ fn let_go_states(mut states: Vec<LaneState>, core: Ended) {
     states.destroy_empty();
 }
 
-/// What is known of a server that has told nothing.
+/// Returns the facts of a server that has reported nothing.
 fn untold() -> Facts {
     Facts {
         extensions: Extensions::from_bits_retain(0),
@@ -72,7 +74,11 @@ fn untold() -> Facts {
 }
 
 impl Lanes {
-    /// Lanes that have done nothing, and a core whose hello stands in the queue. Refused for want of memory.
+    /// Returns lanes that have done nothing, and a core with the hello in its queue.
+    ///
+    /// # Errors
+    ///
+    /// `OutOfMemory` if an allocation fails.
     pub fn new(alloc: Global, lanes: &[Lane], options: &SftpOptions) -> Result<Lanes, OutOfMemory>
         ensures { IfOk result (λ w. IsMade lanes.now options.now w) }
     {
@@ -93,7 +99,7 @@ impl Lanes {
         Ok(work)
     }
 
-    /// The journal, and the outcomes of each lane; all that the lanes hold is let go. Nothing is sent.
+    /// Returns the journal, and the outcomes of each lane; everything that the lanes hold is released. Nothing is sent.
     pub fn into_told(self) -> (Vec<Entry>, Items<Items<Outcome>>)
         ensures { result ≡ (self.journal, self.outcomes) }
     {

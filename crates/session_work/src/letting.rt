@@ -1,4 +1,4 @@
-// All that the slots of a lane hold is let go.
+//! Releases of everything that the slots of a lane hold.
 ghost use Rattle.std.specs.Prelude.{◌≡◌, ◌<◌, ◌+◌, ℕ, List, false, None, OnErr, OnOk, length, vec_len, vec_capacity};
 ghost use Rattle.session_model.specs.Calls.{Setting, current};
 ghost use Rattle.session_model.specs.Readings.{was_let_go};
@@ -9,9 +9,9 @@ ghost use Rattle.session_work.specs.SoFar.{IsIntact, IsLeft};
 ghost use Rattle.session_work.specs.Working.{IsWorking, LetsLaneGo, contents_of, lane_in, past_of};
 
 use crate::closing::add_entry;
+use crate::empty_slots;
 use crate::lanes::Lanes;
 use crate::stepping::entries_for;
-use session_lane::empty_slots;
 use session_model::Entry;
 use sftp_model::Slot;
 use ssh_encoding::OutOfMemory;
@@ -44,7 +44,11 @@ impl Lanes {
         }
     }
 
-    /// Notes that a lane is let go which holds nothing. Refused for want of memory; nothing has changed then.
+    /// Records the release of a lane that holds nothing.
+    ///
+    /// # Errors
+    ///
+    /// `OutOfMemory` if an allocation fails; nothing has changed then.
     pub fn let_idle_go(&mut self, lane: u32) -> Result<(), OutOfMemory>
         requires there { lane < length self.old.calls }
         requires intact { IsIntact (length self.old.calls) self.old }
@@ -58,7 +62,12 @@ impl Lanes {
         Ok(())
     }
 
-    /// Lets go of all that the slots of a lane hold, where the lane is there. Refused for want of memory.
+    /// Releases everything that the slots of a lane hold, if the lane exists.
+    ///
+    /// # Errors
+    ///
+    /// `OutOfMemory` if an allocation fails; the calls, the journal, the recorded fault and the records for the report
+    /// are unchanged.
     pub fn let_go(&mut self, alloc: Global, lane: u32) -> Result<(), OutOfMemory>
         requires done { IsDone lane self.old }
         requires intact { IsIntact (length self.old.calls) self.old }

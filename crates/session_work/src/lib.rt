@@ -1,24 +1,33 @@
-//! The lanes of an open session at work: each goes on by the runner of its call over one core, and what happens is
-//! noted in one journal. What is sent and taken, cancels, and lanes that are let go keep what core and lanes are by the
-//! journal.
+//! The lanes of an open session at work: each continues by the runner of its call over one core, and one journal
+//! records the events. Sends, takes, cancels and releases of lanes keep core and lanes as the journal says.
 #![tactic(auto)]
 
+mod asking;
+mod call;
 mod calls;
 mod cancelling;
 mod closing;
 mod forgetting;
+mod giving_up;
+mod grants;
 mod keeping;
+mod lane;
 mod lanes;
+mod laws;
 mod letting;
 mod noting;
 mod reports;
 mod stepping;
 mod taking;
+mod ticket_drops;
+mod tokens;
 mod weighed_lanes;
 
+pub use lane::{LaneState, Moved, empty_slots};
 pub use lanes::Lanes;
+pub use laws::{lanes_may_turn, turns_keep_sessions, turns_leave_rest, went_turns_are_few};
 pub use session_driver::Stepped;
-pub use session_model::{Entry, Lane};
+pub use session_model::{Call, Entry, Lane};
 pub use sftp_core::{Chunk, Core, Fault, TakeError, Taken};
 pub use sftp_model::{Facts, SftpOptions};
 pub use ssh_encoding::OutOfMemory;

@@ -1,9 +1,9 @@
-// What is noted of a lane's turn.
+//! Records of a lane's turn.
 ghost use Rattle.std.specs.Prelude.{◌≡◌, ◌<◌, ◌≤◌, ◌^◌, ◌∷◌, length, slice_get, vec_len, vec_capacity};
 ghost use Rattle.std.specs.Option.{option_copied};
 ghost use Rattle.session_model.specs.Calls.{Setting};
 ghost use Rattle.session_laws.specs.Rest.{begun_of};
-ghost use Rattle.session_work.specs.Noting.{CanNote, Noted, with_begun, asked_in, call_in, ended_in};
+ghost use Rattle.session_work.specs.Noting.{CanNote, NotesTurn, with_begun, asked_in, call_in, ended_in};
 ghost use Rattle.session_work.specs.SoFar.{HasOneMore};
 ghost use Rattle.session_model.specs.declared.entry.Entry.TheVariants as entry;
 ghost use Rattle.session_model.specs.declared.event.Event.TheVariants.{End};
@@ -12,33 +12,33 @@ ghost use Rattle.session_work.specs.Working.{LanesValue, contents_of, lane_in, p
 
 use crate::closing::add_entry;
 use crate::lanes::Lanes;
+use crate::{LaneState, Moved};
 use session_driver::Stepped;
-use session_lane::{LaneState, Moved};
 use session_model::{Call, Entry, Event, Lane, Owner};
 use sftp_model::{Outcome, Request};
 
-/// The lane with a number.
+/// Returns the lane with a number.
 fn lane_at(lanes: &[Lane], k: usize) -> Option<&Lane>
     ensures { option_copied result ≡ slice_get lanes.now k }
 {
     lanes.get(k)
 }
 
-/// The state with a number.
+/// Returns the state with a number.
 fn state_at(states: &[LaneState], k: usize) -> Option<&LaneState>
     ensures { option_copied result ≡ slice_get states.now k }
 {
     states.get(k)
 }
 
-/// The call with a number.
+/// Returns the call with a number.
 fn call_at(calls: &[Call], k: usize) -> Option<&Call>
     ensures { option_copied result ≡ slice_get calls.now k }
 {
     calls.get(k)
 }
 
-/// The current call of a lane.
+/// Returns the current call of a lane.
 pub(crate) fn current_call<'a>(
     lanes: &'a [Lane],
     states: &[LaneState],
@@ -52,7 +52,7 @@ pub(crate) fn current_call<'a>(
 }
 
 impl Lanes {
-    /// A request of a lane's call was submitted.
+    /// Records that a request of a lane's call was submitted.
     fn note_asked(&mut self, lane: u32, call: u32, id: u32, request: Request)
         requires journal { vec_len self.old.journal < vec_capacity self.old.journal }
         requires counted { self.old.asked ≤ vec_len self.old.journal }
@@ -71,7 +71,7 @@ impl Lanes {
         self.asked += 1;
     }
 
-    /// The call of a lane has ended.
+    /// Records that the call of a lane has ended.
     pub(crate) fn note_ended(&mut self, lane: u32, call: u32, outcome: Outcome)
         requires there { lane < length self.old.states.items }
         requires few { (lane_in self.old.states.items lane).ended < 2 ^ 31 }
@@ -91,10 +91,10 @@ impl Lanes {
         self.states[lane as usize].end_call();
     }
 
-    /// What a lane's turn was is noted, and the grants are closed that are due then.
+    /// Records a lane's turn, and closes the grants that are due then.
     pub(crate) fn note(&mut self, lane: u32, call: u32, moved: Moved) -> Stepped
         requires { CanNote lane call moved self.old }
-        ensures noted { (s : Setting) (old : LanesValue) → Noted s lane old self.old (contents_of self.new) moved result }
+        ensures noted { (s : Setting) (old : LanesValue) → NotesTurn s lane old self.old (contents_of self.new) moved result }
         ensures reports { HasReports (ended_past lane call moved (past_of self.old)) self.old self.new }
         ensures room { vec_len self.new.journal < vec_capacity self.new.journal }
     {

@@ -1,17 +1,17 @@
-// What is kept of each lane for the report, as it comes.
+//! Records of each lane for the report, as they come.
 ghost use Rattle.std.specs.Prelude.{◌≡◌, ◌<◌, [], false, IfOk, OnErr, OnOk, length, nat_le, replicate, slice_get, slice_index_or};
 ghost use Rattle.session_model.specs.Calls.{calls_of};
 ghost use Rattle.session_work.specs.Reports.{with_moved, with_outcome};
 
+use crate::Moved;
 use crate::calls::push_last;
 use crate::lanes::Lanes;
-use session_lane::Moved;
 use sftp_model::{Outcome, TryCopy};
 use sftp_values::Items;
 use ssh_encoding::OutOfMemory;
 use std::alloc::Global;
 
-/// So many empty lists.
+/// Returns `count` empty lists.
 pub(crate) fn empty_lists(alloc: Global, count: usize) -> Result<Items<Items<Outcome>>, OutOfMemory>
     ensures { IfOk result (λ lists. lists ≡ replicate count []) }
 {
@@ -22,14 +22,14 @@ pub(crate) fn empty_lists(alloc: Global, count: usize) -> Result<Items<Items<Out
     Ok(Items::new(lists))
 }
 
-/// So many lanes of which none was let go.
+/// Returns the marks of `count` lanes of which none was released.
 pub(crate) fn unmarked(alloc: Global, count: usize) -> Result<Items<bool>, OutOfMemory>
     ensures { IfOk result (λ marks. marks ≡ replicate count false) }
 {
     Ok(Items::new(vec![in alloc; false; count]?))
 }
 
-/// Puts an outcome behind those of its lane. Refused for want of memory; the lists are as before then.
+/// Appends an outcome to those of its lane. Fails if an allocation fails; the lists are unchanged then.
 pub(crate) fn keep_outcome(
     alloc: Global,
     lists: &mut Items<Items<Outcome>>,
@@ -38,7 +38,7 @@ pub(crate) fn keep_outcome(
 ) -> Result<(), OutOfMemory>
     requires { lane < length lists.old }
     ensures kept { OnOk result (lists.new ≡ with_outcome lists.old lane outcome) }
-    ensures left { OnErr result (lists.new ≡ lists.old) }
+    ensures unchanged { OnErr result (lists.new ≡ lists.old) }
 {
     let mut list = lists.replace(lane, Items::new(Vec::new(alloc))).into_vec();
     let kept = push_last(&mut list, outcome);
@@ -46,8 +46,8 @@ pub(crate) fn keep_outcome(
     kept
 }
 
-/// Keeps a copy of the outcome that a turn of a lane ended its call with, where it has ended. Refused for want of memory; the
-/// lists are as before then.
+/// Keeps a copy of the outcome with which a turn of a lane ended its call, if it has ended. Fails if an allocation
+/// fails; the lists are unchanged then.
 pub(crate) fn keep_moved(
     alloc: Global,
     lists: &mut Items<Items<Outcome>>,
@@ -56,7 +56,7 @@ pub(crate) fn keep_moved(
 ) -> Result<(), OutOfMemory>
     requires { lane < length lists.old }
     ensures kept { OnOk result (lists.new ≡ with_moved lists.old lane moved.now) }
-    ensures left { OnErr result (lists.new ≡ lists.old) }
+    ensures unchanged { OnErr result (lists.new ≡ lists.old) }
 {
     match moved {
         Moved::Ended { outcome } => {
@@ -68,7 +68,7 @@ pub(crate) fn keep_moved(
 }
 
 impl Lanes {
-    /// The outcomes that are kept of a lane, in their order; none where the lane isn't there.
+    /// Returns the outcomes that are kept of a lane, in their order; none if the lane doesn't exist.
     pub fn outcomes(&self, lane: u32) -> &[Outcome]
         ensures { result.now ≡ slice_index_or self.now.outcomes lane [] }
     {
@@ -78,7 +78,7 @@ impl Lanes {
         }
     }
 
-    /// Whether a lane has no call left: as many of its calls have ended as it has.
+    /// Returns true if a lane has no call left: all of its calls have ended.
     pub fn is_done(&self, lane: u32) -> bool
         ensures { result ≡ nat_le (length (calls_of (slice_get self.now.calls lane))) (length (slice_index_or self.now.outcomes lane [])) }
     {
@@ -88,7 +88,7 @@ impl Lanes {
         }
     }
 
-    /// Whether a lane was let go.
+    /// Returns true if a lane was released.
     pub fn was_let_go(&self, lane: u32) -> bool
         ensures { result ≡ slice_index_or self.now.gone lane false }
     {

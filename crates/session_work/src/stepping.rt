@@ -1,27 +1,27 @@
-// One step of a lane.
+//! Steps of a lane.
 ghost use Rattle.std.specs.Prelude.{◌≡◌, ◌+◌, ℕ, Bool, length, IfOk, OnErr};
 ghost use Rattle.session_model.specs.Calls.{Setting};
-ghost use Rattle.session_lane.specs.declared.lane.Moved.{Moved as MovedValue};
-ghost use Rattle.session_work.specs.Noting.{CanTurn, HasTurned, Turning, with_begun, is_went};
+ghost use Rattle.session_work.specs.declared.lane.Moved.{Moved as MovedValue};
+ghost use Rattle.session_work.specs.Noting.{CanTurn, HasTurned, HasTurnToNote, with_begun, is_went};
 ghost use Rattle.session_work.specs.SoFar.{HasRoom, IsIntact, IsLeft};
-ghost use Rattle.session_work.specs.Working.{IsOpened, IsWorking, StepsLane, Works, contents_of};
+ghost use Rattle.session_work.specs.Working.{IsOpened, IsWorking, StepsLane, IsAtRestOpen, contents_of};
 
+use crate::Moved;
 use crate::lanes::Lanes;
 use crate::noting::current_call;
 use crate::reports::keep_moved;
 use session_driver::Stepped;
-use session_lane::Moved;
 use ssh_encoding::OutOfMemory;
 use std::alloc::Global;
 
-/// Room for the CLOSEs of so many grants and one more, and for three entries beside them.
+/// Returns the room for the CLOSEs of this many grants and another, and for three entries beside them.
 pub(crate) fn entries_for(grants: usize) -> Result<usize, OutOfMemory>
     ensures { IfOk result (λ n. n ≡ grants + 4) }
 {
     grants.checked_add(4).ok_or(OutOfMemory)
 }
 
-/// Whether a turn went on to another reply, and left nothing to note.
+/// Returns true if a turn continued to another reply, and left nothing to record.
 fn is_went(moved: &Moved) -> bool
     ensures { result ≡ is_went moved.now }
 {
@@ -32,10 +32,10 @@ fn is_went(moved: &Moved) -> bool
 }
 
 impl Lanes {
-    /// One turn of a lane that has a call. Refused for want of memory. It notes nothing.
+    /// Makes one turn of a lane that has a call. It records nothing. Fails if an allocation fails.
     fn turn(&mut self, alloc: Global, lane: u32) -> Result<Moved, OutOfMemory>
         requires { CanTurn lane self.old }
-        ensures turned { (s : Setting) (begun : ℕ → Bool) → Works s (with_begun begun (contents_of self.old)) → IfOk result (Turning s lane (with_begun begun (contents_of self.old)) (with_begun begun (contents_of self.new))) }
+        ensures turned { (s : Setting) (begun : ℕ → Bool) → IsAtRestOpen s (with_begun begun (contents_of self.old)) → IfOk result (HasTurnToNote s lane (with_begun begun (contents_of self.old)) (with_begun begun (contents_of self.new))) }
         ensures leaves { IfOk result (HasTurned lane self.old self.new) }
         ensures left { IsLeft self.old self.new }
         ensures room { HasRoom self.new }
@@ -48,7 +48,12 @@ impl Lanes {
         state.turn(alloc, &mut self.core, call, self.asked, &self.facts)
     }
 
-    /// One step of a lane: turns of its call, up to one that leaves an entry or waits. Refused for want of memory.
+    /// Makes one step of a lane: turns of its call, up to one that leaves an entry or waits.
+    ///
+    /// # Errors
+    ///
+    /// `OutOfMemory` if an allocation fails; the calls, the journal, the recorded fault and the records for the report
+    /// are unchanged.
     pub fn step(&mut self, alloc: Global, lane: u32) -> Result<Stepped, OutOfMemory>
         requires opened { IsOpened self.old }
         requires intact { IsIntact (length self.old.calls) self.old }

@@ -1,7 +1,7 @@
-// What the lanes of an open session hand out and take.
+//! Frames that the lanes of an open session hand out and take.
 ghost use Rattle.std.specs.Prelude.{IfOk, IfErr, OnErr, OnOk, length};
 ghost use Rattle.std.specs.Option.{option_map};
-ghost use Rattle.sftp_model.specs.Pieces.{joined};
+ghost use Rattle.sftp_model.specs.Pieces.{joined_pieces};
 ghost use Rattle.sftp_model.specs.ReplyReadings.{reply_at};
 ghost use Rattle.session_model.specs.Calls.{Setting};
 ghost use Rattle.session_work.specs.SoFar.{IsIntact, IsLeft, RefusesWhileOpen};
@@ -14,11 +14,16 @@ use sftp_core::{Chunk, TakeError, Taken};
 use ssh_encoding::OutOfMemory;
 
 impl Lanes {
-    /// The frames of all unsent requests; None where nothing is unsent. Refused for want of memory.
+    /// Returns the frames of all unsent requests, or `None` if nothing is unsent.
+    ///
+    /// # Errors
+    ///
+    /// `OutOfMemory` if an allocation fails; the calls, the journal, the recorded fault and the records for the report
+    /// are unchanged.
     pub fn hand_out(&mut self) -> Result<Option<Chunk>, OutOfMemory>
         requires opened { IsOpened self.old }
         requires intact { IsIntact (length self.old.calls) self.old }
-        ensures hands_out { (s : Setting) → IsWorking s self.old → IfOk result (λ chunk. HandsAll s self.old self.new (option_map joined chunk)) }
+        ensures hands_out { (s : Setting) → IsWorking s self.old → IfOk result (λ chunk. HandsAll s self.old self.new (option_map joined_pieces chunk)) }
         ensures left { OnErr result (IsLeft self.old self.new) }
         ensures intact { IsIntact (length self.old.calls) self.new }
     {
@@ -31,8 +36,12 @@ impl Lanes {
         Ok(Some(chunk))
     }
 
-    /// Takes the body of one frame. Refused by the first thing that is wrong with it, which is kept and noted, or for want
-    /// of memory.
+    /// Takes the body of one frame.
+    ///
+    /// # Errors
+    ///
+    /// The first thing that is wrong with the body, which is kept and recorded in the journal, or `OutOfMemory` if an
+    /// allocation fails. The calls are unchanged.
     pub fn take(&mut self, body: &[u8]) -> Result<(), TakeError>
         requires opened { IsOpened self.old }
         requires intact { IsIntact (length self.old.calls) self.old }

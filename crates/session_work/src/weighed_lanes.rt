@@ -11,12 +11,14 @@ use ssh_encoding::OutOfMemory;
 use std::alloc::Global;
 use std::marker::Model;
 
-/// The calls of each lane, and what they count together, so that a further call is looked at alone. A contract sees the
+/// The calls of each lane, and what they count together, so that a further call is checked alone. A contract sees the
 /// lanes.
+///
+/// Used in `crates/session_work/src/lanes.rt`.
 #[derive(Drop)]
 pub struct WeighedLanes {
     lanes: Items<Lane>,
-    // 2147483648 where it is more.
+    // At most 2147483648, also if the weight is more.
     weight: u32,
 }
 
@@ -33,7 +35,7 @@ impl Model for WeighedLanes {
     ghost invariant = { λ w. w.weight ≡ min (sum_by lane_weight w.lanes) (2 ^ 31) };
 }
 
-/// A sum, or 2147483648 where it is more.
+/// Returns a sum, or 2147483648 if it is more.
 fn limited_sum(a: u32, b: u32) -> u32
     ensures { result ≡ min (a + b) (2 ^ 31) }
 {
@@ -41,7 +43,7 @@ fn limited_sum(a: u32, b: u32) -> u32
 }
 
 impl WeighedLanes {
-    /// These lanes.
+    /// Returns these lanes with what they count.
     pub(crate) fn new(lanes: Items<Lane>) -> WeighedLanes
         ensures { result ≡ lanes }
     {
@@ -49,22 +51,22 @@ impl WeighedLanes {
         WeighedLanes { lanes, weight }
     }
 
-    /// The lanes.
+    /// Returns the lanes.
     pub fn as_items(&self) -> &Items<Lane>
         ensures { result.now ≡ self.now }
     {
         &self.lanes
     }
 
-    /// The lanes, as a slice.
+    /// Returns the lanes, as a slice.
     pub fn as_slice(&self) -> &[Lane]
         ensures { result.now ≡ self.now }
     {
         self.lanes.as_slice()
     }
 
-    /// Whether a session that may be given these lanes may also be given them with the call behind those of one of them,
-    /// as `lanes_ok` tells of the lanes with the call. Nothing is copied.
+    /// Returns true if a session that may be given these lanes may also be given them with the call appended to one of
+    /// them, as `lanes_ok` decides for the lanes with the call. Nothing is copied.
     pub fn may_have(&self, call: &Call) -> bool
         requires ok { are_ok self.now ≡ true }
         ensures { (lane : ℕ) → lane < length self.now → result ≡ are_ok (with_call self.now lane call.now) }
@@ -72,7 +74,7 @@ impl WeighedLanes {
         call.is_within() && limited_sum(self.weight, call.weight()) < 0x8000_0000
     }
 
-    /// Puts a call behind those of a lane. Refused for want of memory; the lanes are as before then.
+    /// Appends a call to those of a lane. Fails if an allocation fails; the lanes are unchanged then.
     pub(crate) fn push_call(
         &mut self,
         alloc: Global,
@@ -81,7 +83,7 @@ impl WeighedLanes {
     ) -> Result<(), OutOfMemory>
         requires { lane < length self.old }
         ensures added { OnOk result (self.new ≡ with_call self.old lane call) }
-        ensures left { OnErr result (self.new ≡ self.old) }
+        ensures unchanged { OnErr result (self.new ≡ self.old) }
     {
         let weight = limited_sum(self.weight, call.weight());
         add_call(alloc, &mut self.lanes, lane, call)?;

@@ -34,7 +34,7 @@ use Rattle.std.proofs.Common.{
 }
 use Rattle.std.specs.Prelude.{max, ◌||◌}
 use Rattle.std.proofs.lemmas.Bool.Decides.{nat_tests}
-use Rattle.sftp_model.specs.Answers.{allows, is_content}
+use Rattle.sftp_model.specs.Answers.{allows_reply, is_content}
 use Rattle.sftp_model.specs.Numbers.{SSH_FX_EOF}
 use Rattle.sftp_model.specs.declared.answers.Expected.TheVariants as expected
 use Rattle.sftp_model.specs.declared.error.Error.{Error}
@@ -43,14 +43,14 @@ use Rattle.sftp_model.specs.declared.error.Fault.{Fault}
 use Rattle.sftp_model.specs.declared.error.IoKind.TheVariants as kind
 use Rattle.sftp_model.specs.declared.reply.Reply.{Reply}
 use Rattle.sftp_model.specs.declared.reply.Reply.TheVariants as reply
-use Rattle.sftp_core.specs.Core.{Core, after_poll, at}
+use Rattle.sftp_core.specs.Core.{Core, after_poll, record_at}
 use Rattle.sftp_core.proofs.Elsewhere.{poll_elsewhere}
-use Rattle.call_state.specs.Asked.{HoldsTicket, Submitted}
-use Rattle.call_state.specs.Keeping.{KeepsHeld}
-use Rattle.call_state.specs.declared.asking.Asking.TheVariants.{Whole}
-use Rattle.call_state.specs.declared.poll.Poll.{Poll}
-use Rattle.call_state.specs.declared.poll.Poll.TheVariants as poll
-use Rattle.call_state.proofs.Keeping.{submitted_holds, submitted_keeps}
+use Rattle.plan_state.specs.Asked.{HoldsTicket, SubmitsAsking}
+use Rattle.plan_state.specs.Keeping.{KeepsHeld}
+use Rattle.plan_state.specs.declared.asking.Asking.TheVariants.{Whole}
+use Rattle.plan_state.specs.declared.poll.Poll.{Poll}
+use Rattle.plan_state.specs.declared.poll.Poll.TheVariants as poll
+use Rattle.plan_state.proofs.Keeping.{submitted_holds, submitted_keeps}
 use Rattle.sftp_buffered.specs.declared.file.DeferredWrite.{DeferredWrite}
 use Rattle.sftp_buffered.specs.declared.file.ReadUnderWay.{ReadUnderWay}
 use Rattle.sftp_buffered.specs.Buffered.{
@@ -73,7 +73,7 @@ use Rattle.sftp_buffered.specs.Reads.{
   IsAllowedRead,
   LooksAtRead,
   TookRead,
-  appended,
+  with_bytes_appended,
   end_of,
   fill_value,
   read_behind,
@@ -87,7 +87,7 @@ use Rattle.sftp_buffered.proofs.Sound.{apart_read, held_but, sound_left}
 
 -- ---- the reply that was taken
 
-appended_reading : (r : Reply) (c : CompatValue) → (appended r c).reading ≡ c.reading
+appended_reading : (r : Reply) (c : CompatValue) → (with_bytes_appended r c).reading ≡ c.reading
 appended_reading (reply.Content bytes) c = refl
 appended_reading (reply.Status code message language) c = refl
 appended_reading (reply.Handle handle) c = refl
@@ -117,14 +117,15 @@ no_fault (reply.Status code message language) f is =
 no_fault (reply.Content bytes) f is = cc
 no_fault other f is = cc
 
-took_value : (old new : Core) (p q : CompatValue) (value : Result (Unit {0}) Error) → TookRead old new p q value → AwaitsFill old new p q (poll.Ready value)
+took_value : (old new : Core) (p q : CompatValue) (value : Result (Unit {0}) Error) → TookRead old new p q value
+    → AwaitsFill old new p q (poll.Ready value)
 took_value old new p q (Ok u) t = t
 took_value old new p q (Err error.OutOfMemory) t = absurd (no_memory t.reply t.says)
 took_value old new p q (Err (error.BackgroundTaskFailure f)) t = absurd (no_fault t.reply f t.says)
 took_value old new p q (Err e) t = t
 
 took_at : (old new : Core) (p m q : CompatValue) (value : Result (Unit {0}) Error) (read : Option ReadUnderWay)
-    → p.reading ≡ read → (read ≡ None → ⊥) → (r : Reply) → read_reply old read ≡ Some r → m ≡ appended r p
+    → p.reading ≡ read → (read ≡ None → ⊥) → (r : Reply) → read_reply old read ≡ Some r → m ≡ with_bytes_appended r p
     → IsAllowedRead old read
     → value ≡ fill_value r → q ≡ without_read m → new ≡ read_taken old read → EndsFill old new p q (poll.Ready value)
 took_at old new p m q value None is some r came made allowed says left core = absurd (some refl)
@@ -161,29 +162,37 @@ rising_more from (d ∷ ds) to h = (h.0, rising_more (d.place + 1) ds to h.1)
 
 rising_below : (from : ℕ) (ds : List DeferredWrite) (to : ℕ) → AreRising from ds to → from ≤ to
 rising_below from [] to h = h
-rising_below from (d ∷ ds) to h = (let below : d.place + 1 ≤ to = rising_below (d.place + 1) ds to h.1 in omega (arith, below, h.0))
+rising_below from (d ∷ ds) to h = (let below : d.place + 1 ≤ to = rising_below (d.place + 1) ds to h.1 in
+    omega (arith, below, h.0))
 
 pub rising_elsewhere : (from : ℕ) (ds : List DeferredWrite) (to : ℕ) → AreRising from ds to → AreElsewhere to ds
 rising_elsewhere from [] to h = tt
-rising_elsewhere from (d ∷ ds) to h =
-    (let below : d.place + 1 ≤ to = rising_below (d.place + 1) ds to h.1 in λ same. omega (arith, below, same), rising_elsewhere (d.place + 1) ds to h.1)
+rising_elsewhere from (d ∷ ds) to h = (
+  let below : d.place + 1 ≤ to = rising_below (d.place + 1) ds to h.1 in λ same. omega (arith, below, same),
+  rising_elsewhere (d.place + 1) ds to h.1,
+)
 
 held_all : (old new : Core) (ds : List DeferredWrite) → KeepsHeld old new → AreHeld old ds → AreHeld new ds
 held_all old new [] k held = tt
 held_all old new (d ∷ ds) k held = (k.holds d.ticket expected.Status held.0, held.1, held_all old new ds k held.2)
 
 begun_sound : (old new : Core) (p : CompatValue) (len ticket : ℕ) → IsSound old p → end_of p + len < 2 ^ 64
-    → Submitted old (Whole (read_behind p len)) ticket new → IsSound new (with_read p len ticket)
+    → SubmitsAsking old (Whole (read_behind p len)) ticket new → IsSound new (with_read p len ticket)
 begun_sound old new p len ticket s fits submitted =
     record {
       held = record {
-        writes = held_all old new p.deferred (submitted_keeps old new (Whole (read_behind p len)) ticket submitted) s.held.writes;
+        writes = held_all old new p.deferred (submitted_keeps old new (Whole (read_behind p len)) ticket submitted)
+            s.held.writes;
         read = submitted_holds old new (Whole (read_behind p len)) ticket (expected.Content len) submitted refl;
       };
       counted = record {
         pending = s.counted.pending;
         rising = rising_more 1 p.deferred p.place s.counted.rising;
-        placed = (rising_below 1 p.deferred p.place s.counted.rising, omega arith, rising_elsewhere 1 p.deferred p.place s.counted.rising);
+        placed = (
+          rising_below 1 p.deferred p.place s.counted.rising,
+          omega arith,
+          rising_elsewhere 1 p.deferred p.place s.counted.rising,
+        );
         ends = fits;
         capacity = s.counted.capacity;
       };
@@ -192,11 +201,14 @@ begun_sound old new p len ticket s fits submitted =
 content_fits : (len : ℕ) (bytes : List ℕ) → (is_content len (reply.Content bytes) || false) ≡ true → length bytes ≤ len
 content_fits len bytes fits = grind (arith, nat_tests)
 
-pub content_some : (len : ℕ) (bytes : List ℕ) → (is_content len (reply.Content bytes) || false) ≡ true → 0 < length bytes
+pub content_some : (len : ℕ) (bytes : List ℕ) → (is_content len (reply.Content bytes) || false) ≡ true
+    → 0 < length bytes
 content_some len bytes fits = grind (arith, nat_tests)
 
-ends_appended : (offset len : ℕ) (xs ys : List ℕ) → offset + length xs + len < 2 ^ 64 → length ys ≤ len → offset + length (xs ++ ys) + 0 < 2 ^ 64
-ends_appended offset len xs ys ends fits = (let sum : length (xs ++ ys) ≡ length xs + length ys = length-append xs ys in omega (arith, sum, ends, fits))
+ends_appended : (offset len : ℕ) (xs ys : List ℕ) → offset + length xs + len < 2 ^ 64 → length ys ≤ len
+    → offset + length (xs ++ ys) + 0 < 2 ^ 64
+ends_appended offset len xs ys ends fits = (let sum : length (xs ++ ys) ≡ length xs + length ys = length-append xs ys in
+    omega (arith, sum, ends, fits))
 
 less_ends : (a b : ℕ) → a + b < 2 ^ 64 → a + 0 < 2 ^ 64
 less_ends a b ends = omega (arith, ends)
@@ -215,7 +227,8 @@ counted_without_read c k = record {
 }
 
 counted_took : (c : CompatValue) (read : ReadUnderWay) (r : Reply) → c.reading ≡ Some read
-    → allows (expected.Content read.len) r ≡ true → IsCounted c → IsCounted (without_read (appended r c))
+    → allows_reply (expected.Content read.len) r ≡ true → IsCounted c
+    → IsCounted (without_read (with_bytes_appended r c))
 counted_took c read (reply.Content bytes) is allowed k =
     record {
       pending = k.pending;
@@ -233,7 +246,7 @@ counted_took c read (reply.Names names) is allowed k = counted_without_read c k
 counted_took c read (reply.Attrs attrs) is allowed k = counted_without_read c k
 counted_took c read (reply.Extended content) is allowed k = counted_without_read c k
 
-pub appended_deferred : (r : Reply) (c : CompatValue) → (appended r c).deferred ≡ c.deferred
+pub appended_deferred : (r : Reply) (c : CompatValue) → (with_bytes_appended r c).deferred ≡ c.deferred
 appended_deferred (reply.Content bytes) c = refl
 appended_deferred (reply.Status code message language) c = refl
 appended_deferred (reply.Handle handle) c = refl
@@ -242,29 +255,38 @@ appended_deferred (reply.Names names) c = refl
 appended_deferred (reply.Attrs attrs) c = refl
 appended_deferred (reply.Extended content) c = refl
 
-took_sound : (old new : Core) (p q : CompatValue) (value : Result (Unit {0}) Error) → IsSound old p → TookRead old new p q value → IsSound new q
+took_sound : (old new : Core) (p q : CompatValue) (value : Result (Unit {0}) Error) → IsSound old p
+    → TookRead old new p q value → IsSound new q
 took_sound old new p q value s t =
-    let read : HoldsTicket old t.read.ticket (expected.Content t.read.len) = subst (IsHeldRead old) t.under_way s.held.read in
+    let read : HoldsTicket old t.read.ticket (expected.Content t.read.len) =
+    subst (IsHeldRead old) t.under_way s.held.read in
     let writes : AreHeld (after_poll old t.read.ticket) p.deferred =
     held_but old (after_poll old t.read.ticket) t.read.ticket p.deferred
-    (λ k. poll_elsewhere old t.read.ticket old.fault (at old t.read.ticket) k)
+    (λ k. poll_elsewhere old t.read.ticket old.fault (record_at old t.read.ticket) k)
     (apart_read old t.read p.deferred read s.held.writes) s.held.writes in
-    let next : IsSound (after_poll old t.read.ticket) (without_read (appended t.reply p)) = record {
-      held = record { writes = subst (AreHeld (after_poll old t.read.ticket)) (sym (appended_deferred t.reply p)) writes; read = tt };
+    let next : IsSound (after_poll old t.read.ticket) (without_read (with_bytes_appended t.reply p)) = record {
+      held = record {
+        writes = subst (AreHeld (after_poll old t.read.ticket)) (sym (appended_deferred t.reply p))
+            writes;
+        read = tt;
+      };
       counted = counted_took p t.read t.reply t.under_way t.allowed s.counted;
     } in
-    subst (λ (x : CompatValue). IsSound new x) (sym t.left) (subst (λ (x : Core). IsSound x (without_read (appended t.reply p))) (sym t.core) next)
+    subst (λ (x : CompatValue). IsSound new x) (sym t.left) (subst
+    (λ (x : Core). IsSound x (without_read (with_bytes_appended t.reply p))) (sym t.core) next)
 
 begins_sound : (len : ℕ) (old new : Core) (p q : CompatValue) (result : Poll (Result (Unit {0}) Error)) → IsSound old p
     → BeginsRead len old new p q result → IsSound new q
-begins_sound len old new p q poll.Pending s b = subst (λ (x : CompatValue). IsSound new x) (sym b.3) (begun_sound old new p len b.1 s b.0 b.2)
+begins_sound len old new p q poll.Pending s b = subst (λ (x : CompatValue). IsSound new x) (sym b.3)
+    (begun_sound old new p len b.1 s b.0 b.2)
 begins_sound len old new p q (poll.Ready (Ok u)) s b = absurd b
 begins_sound len old new p q (poll.Ready (Err error.OutOfMemory)) s b = sound_left old new p q b s
 begins_sound len old new p q (poll.Ready (Err (error.BackgroundTaskFailure fault))) s b = sound_left old new p q b.2 s
 begins_sound len old new p q (poll.Ready (Err (error.IOError kind.OffsetOverflow))) s b = sound_left old new p q b.1 s
 begins_sound len old new p q (poll.Ready (Err other)) s b = absurd b
 
-awaits_sound : (old new : Core) (p q : CompatValue) (result : Poll (Result (Unit {0}) Error)) → IsSound old p → AwaitsFill old new p q result → IsSound new q
+awaits_sound : (old new : Core) (p q : CompatValue) (result : Poll (Result (Unit {0}) Error)) → IsSound old p
+    → AwaitsFill old new p q result → IsSound new q
 awaits_sound old new p q poll.Pending s a = sound_left old new p q a.2 s
 awaits_sound old new p q (poll.Ready (Ok u)) s a = took_sound old new p q (Ok u) s a
 awaits_sound old new p q (poll.Ready (Err error.OutOfMemory)) s a = sound_left old new p q a s
@@ -278,9 +300,11 @@ fills_sound len old new p q result s (inr e) = awaits_sound old new p q result s
 
 -- ---- what is left to others
 
-took_others : (old new : Core) (p q : CompatValue) (value : Result (Unit {0}) Error) → IsSound old p → TookRead old new p q value → LeavesOthers old new p
+took_others : (old new : Core) (p q : CompatValue) (value : Result (Unit {0}) Error) → IsSound old p
+    → TookRead old new p q value → LeavesOthers old new p
 took_others old new p q value s t =
-    let read : HoldsTicket old t.read.ticket (expected.Content t.read.len) = subst (IsHeldRead old) t.under_way s.held.read in
+    let read : HoldsTicket old t.read.ticket (expected.Content t.read.len) =
+    subst (IsHeldRead old) t.under_way s.held.read in
     subst (λ (x : Core). LeavesOthers old x p) (sym t.core)
     (others_polled old t.read.ticket p read.counted (λ other apart. subst (IsOther other) t.under_way apart.read))
 

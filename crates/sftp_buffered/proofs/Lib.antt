@@ -1,19 +1,19 @@
-pub mod Replies
-pub mod Fronts
-pub mod Holding
-pub mod Deferring
-pub mod Sound
-pub mod Others
-pub mod Resting
-pub mod Windows
-pub mod Planning
-pub mod WritePolls
-pub mod Flushing
-pub mod Filling
-pub mod FillPlans
-pub mod Reading
-pub mod Seeking
-pub mod Abandoning
-pub mod Pieces
+mod Replies
+mod Fronts
+mod Holding
+mod Deferring
+mod Sound
+mod Others
+mod Resting
+mod Windows
+mod Planning
+mod WritePolls
+mod Flushing
+mod Filling
+mod FillPlans
+mod Reading
+mod Seeking
+mod Abandoning
+mod Pieces
 pub mod Keeping
-pub mod Staying
+mod Staying

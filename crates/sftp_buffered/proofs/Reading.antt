@@ -37,7 +37,7 @@ use Rattle.std.proofs.lemmas.List.{length-take, length-take-le, length-drop, tak
 use Rattle.std.proofs.Math.Seq.{take-append_seam}
 use Rattle.sftp_model.specs.Numbers.{SSH_FX_EOF}
 use Rattle.sftp_model.specs.declared.answers.Expected.TheVariants as expected
-use Rattle.sftp_model.specs.Answers.{allows}
+use Rattle.sftp_model.specs.Answers.{allows_reply}
 use Rattle.sftp_model.specs.declared.error.Error.{Error}
 use Rattle.sftp_model.specs.declared.error.Error.TheVariants as error
 use Rattle.sftp_model.specs.declared.error.IoKind.TheVariants as kind
@@ -50,13 +50,13 @@ use Rattle.sftp_model.specs.declared.slot.Move.{Move}
 use Rattle.sftp_model.specs.declared.slot.Move.TheVariants.{Ask, Done}
 use Rattle.sftp_model.specs.declared.slot.Site.{Site}
 use Rattle.sftp_model.specs.declared.slot.Slot.TheVariants.{Buffered}
-use Rattle.plan_model.specs.BufferPlans.{fill_next, from_buffer, given, was_filled}
-use Rattle.plan_model.specs.Moves.{Answers, Plan, further, handle_of, overflows, refuses}
+use Rattle.plan_model.specs.BufferPlans.{fill_next, from_buffer, buffered_bytes, was_filled}
+use Rattle.plan_model.specs.Moves.{Answers, Plan, further, handle_of, overflows, refuse_locally}
 use Rattle.sftp_core.specs.Core.{Core}
-use Rattle.call_state.specs.declared.poll.Poll.{Poll}
-use Rattle.call_state.specs.declared.poll.Poll.TheVariants as poll
+use Rattle.plan_state.specs.declared.poll.Poll.{Poll}
+use Rattle.plan_state.specs.declared.poll.Poll.TheVariants as poll
 use Rattle.sftp_file.specs.Files.{facts_of, file_at}
-use Rattle.sftp_buffered.specs.Buffered.{CompatValue, Defers, IsSound, buffer_of, lane_of, len_of, place_of}
+use Rattle.sftp_buffered.specs.Buffered.{CompatValue, DefersWrites, IsSound, buffer_of, lane_of, len_of, place_of}
 use Rattle.sftp_buffered.specs.Polls.{AnyCut, PollsPlan, PlanWaits}
 use Rattle.sftp_buffered.specs.Reads.{
   BeganRead,
@@ -64,9 +64,9 @@ use Rattle.sftp_buffered.specs.Reads.{
   ReadsTo,
   TookRead,
   append_next,
-  appended,
+  with_bytes_appended,
   buf_fill_next,
-  consumed,
+  after_consuming,
   end_of,
   fill_plan,
   fill_value,
@@ -103,13 +103,13 @@ fill_by : (amt : ℕ) (facts : Facts) (answers : Answers) (p : CompatValue) → 
 fill_by amt facts answers p may brought =
     record {
       asks = λ none.
-          (λ i. if not (may i) then refuses kind.NotReadable (lane_of p) else
+          (λ i. if not (may i) then refuse_locally kind.NotReadable (lane_of p) else
           append_next 0 amt (file_at p.file) (buffer_of p) (lane_of p) facts (place_of (none i)) [] answers)
-          ∙ (λ i. if not (may i) then refuses kind.NotReadable (lane_of p) else
-          if overflows (end_of p) (min amt facts.read_len) then refuses kind.OffsetOverflow (lane_of p)
+          ∙ (λ i. if not (may i) then refuse_locally kind.NotReadable (lane_of p) else
+          if overflows (end_of p) (min amt facts.read_len) then refuse_locally kind.OffsetOverflow (lane_of p)
           else Ask (request.Read (brought i) (end_of p) (min amt facts.read_len)));
       waits = λ r is.
-          (λ i. if not (may i) then refuses kind.NotReadable (lane_of p) else
+          (λ i. if not (may i) then refuse_locally kind.NotReadable (lane_of p) else
           append_next 0 amt (file_at p.file) (buffer_of p) (lane_of p) facts (place_of (is i)) [] answers);
     }
 
@@ -121,7 +121,7 @@ append_status : (code : ℕ) (message language : List ℕ) (p : CompatValue) →
 append_status code message language p is = ended_status code message language (lane_of (without_read p))
     (Done outcome.Done (lane_of (without_read p))) (code == SSH_FX_EOF) is
 
-append_ends : (p : CompatValue) (r : Reply) → Ok tt ≡ fill_value r → append_go p r ≡ Done outcome.Done (lane_of (without_read (appended r p)))
+append_ends : (p : CompatValue) (r : Reply) → Ok tt ≡ fill_value r → append_go p r ≡ Done outcome.Done (lane_of (without_read (with_bytes_appended r p)))
 append_ends p (reply.Content bytes) is = refl
 append_ends p (reply.Status code message language) is = append_status code message language p is
 append_ends p (reply.Handle handle) is = absurd cc
@@ -131,7 +131,7 @@ append_ends p (reply.Attrs attrs) is = absurd cc
 append_ends p (reply.Extended content) is = absurd cc
 
 fills_by : (plan : Plan) (len : ℕ) (old new : Core) (p q : CompatValue) (result : Poll (Result (Unit {0}) Error))
-    (answers : Answers) → ReadsBy plan len (append_go p) answers p → Defers old p answers → FillsBuffer len old new p q result
+    (answers : Answers) → ReadsBy plan len (append_go p) answers p → DefersWrites old p answers → FillsBuffer len old new p q result
     → PollsPlan (PlanWaits plan answers old (IsLeft old new p q) ⊎ BeganRead plan answers old new p q) (IsLeft old new p q) AnyCut
     plan (λ (u : Unit {0}). outcome.Done) answers old new p q result
 fills_by plan len old new p q poll.Pending answers h d f = fills_pending plan len (append_go p) answers old new p q h d f
@@ -146,7 +146,7 @@ fills_by plan len old new p q (poll.Ready (Err e)) answers h d f =
     fills_stop (λ (u : Unit {0}). outcome.Done) plan len (append_go p) answers old new p q e h d (append_refused p) f
 
 fills_to : (plan : Plan) (len : ℕ) (old new : Core) (p q : CompatValue) (result : Poll (Result (Unit {0}) Error))
-    → ((answers : Answers) → Defers old p answers → ReadsBy plan len (append_go p) answers p) → IsSound old p
+    → ((answers : Answers) → DefersWrites old p answers → ReadsBy plan len (append_go p) answers p) → IsSound old p
     → FillsBuffer len old new p q result → ReadsTo plan (λ (u : Unit {0}). outcome.Done) old new p q result
 fills_to plan len old new p q result by s f =
     record {
@@ -201,9 +201,9 @@ ready_stays core c some s =
     }
 
 unreadable_fill : (amt : ℕ) (core : Core) (c : CompatValue) (answers : Answers) → c.file.readable ≡ false
-    → fill_plan amt core c [] answers ≡ refuses kind.NotReadable (lane_of c)
+    → fill_plan amt core c [] answers ≡ refuse_locally kind.NotReadable (lane_of c)
 unreadable_fill amt core c answers not_so =
-    (λ i. if not (not_so i) then refuses kind.NotReadable (lane_of c) else
+    (λ i. if not (not_so i) then refuse_locally kind.NotReadable (lane_of c) else
     append_next 0 amt (file_at c.file) (buffer_of c) (lane_of c) (facts_of core) (place_of c.reading) [] answers)
 
 pub unreadable_fills : (amt : ℕ) (core : Core) (c : CompatValue) → c.file.readable ≡ false → IsSound core c
@@ -237,7 +237,7 @@ consumed_ends offset n kept most xs within ends = (let len : length (drop n xs) 
 less_kept : (n most : ℕ) (xs : List ℕ) → length xs ≤ most → length (drop n xs) ≤ most
 less_kept n most xs fits = (let len : length (drop n xs) ≡ length xs - n = length-drop n xs in omega (arith, len, fits))
 
-pub consumed_sound : (core : Core) (c : CompatValue) (n : ℕ) → n ≤ length c.buffered → IsSound core c → IsSound core (consumed c n)
+pub consumed_sound : (core : Core) (c : CompatValue) (n : ℕ) → n ≤ length c.buffered → IsSound core c → IsSound core (after_consuming c n)
 consumed_sound core c n within s =
     record {
       held = record { writes = s.held.writes; read = s.held.read };
@@ -250,7 +250,7 @@ consumed_sound core c n within s =
       };
     }
 
-consumed_rest : (old new : Core) (p m : CompatValue) (n : ℕ) → IsRestOf old new p m → IsRestOf old new p (consumed m n)
+consumed_rest : (old new : Core) (p m : CompatValue) (n : ℕ) → IsRestOf old new p m → IsRestOf old new p (after_consuming m n)
 consumed_rest old new p m n r =
     record {
       between = r.between;
@@ -261,8 +261,8 @@ consumed_rest old new p m n r =
     }
 
 -- the bytes that are given
-given_is : (m : CompatValue) (n : ℕ) → given 0 n m.buffered (file_at m.file) (buffer_of m) (lane_of m)
-    ≡ Done (outcome.Bytes (take n m.buffered)) (lane_of (consumed m (min n (length m.buffered))))
+given_is : (m : CompatValue) (n : ℕ) → buffered_bytes 0 n m.buffered (file_at m.file) (buffer_of m) (lane_of m)
+    ≡ Done (outcome.Bytes (take n m.buffered)) (lane_of (after_consuming m (min n (length m.buffered))))
 given_is m n =
     let site : ℕ → List ℕ → Site = λ j ys. record {
       slots = Buffered (further (file_at m.file) j)
@@ -310,17 +310,17 @@ pub record MayRead (n : ℕ) (c : CompatValue) : Type 0 where
 read_looks : (n : ℕ) (core : Core) (c : CompatValue) (answers : Answers) → MayRead n c → read_plan n core c [] answers
     ≡ from_buffer 0 n (file_at c.file) (buffer_of c) (lane_of c) (facts_of core) c.buffered [] answers
 read_looks n core c answers m =
-    (λ i. if not (m.may i) then refuses kind.NotReadable (lane_of c) else if m.some i then Done (outcome.Bytes []) (lane_of c)
+    (λ i. if not (m.may i) then refuse_locally kind.NotReadable (lane_of c) else if m.some i then Done (outcome.Bytes []) (lane_of c)
     else from_buffer 0 n (file_at c.file) (buffer_of c) (lane_of c) (facts_of core) c.buffered [] answers)
 
 from_is : (n : ℕ) (core : Core) (c : CompatValue) (answers : Answers) (xs : List ℕ) → (length xs == 0) ≡ false
-    → from_buffer 0 n (file_at c.file) (buffer_of c) (lane_of c) (facts_of core) xs [] answers ≡ given 0 n xs (file_at c.file) (buffer_of c) (lane_of c)
+    → from_buffer 0 n (file_at c.file) (buffer_of c) (lane_of c) (facts_of core) xs [] answers ≡ buffered_bytes 0 n xs (file_at c.file) (buffer_of c) (lane_of c)
 from_is n core c answers [] some = absurd cc
 from_is n core c answers (x ∷ xs) some = refl
 
 -- something is buffered
 pub buffered_reads : (n k : ℕ) (core : Core) (p q : CompatValue) (old new : List ℕ) → MayRead n p
-    → (length p.buffered == 0) ≡ false → IsSound core p → IsPut n k p.buffered old new → q ≡ consumed p k
+    → (length p.buffered == 0) ≡ false → IsSound core p → IsPut n k p.buffered old new → q ≡ after_consuming p k
     → ReadsTo (read_plan n core p) (room_outcome n new) core core p q (poll.Ready (Ok k))
 buffered_reads n k core p q old new m there s h left =
     let within : k ≤ length p.buffered = omega (arith, h.len) in
@@ -328,7 +328,7 @@ buffered_reads n k core p q old new m there s h left =
       polled = λ answers d. inl (record {
         ends = read_looks n core p answers m ∙ (from_is n core p answers p.buffered there ∙ (given_is p n
             ∙ ((λ i. Done (sym (put_outcome n k p.buffered old new h m.some there) i)
-            (lane_of (consumed p (sym h.len i)))) ∙ ap (λ (x : CompatValue). Done (room_outcome n new k)
+            (lane_of (after_consuming p (sym h.len i)))) ∙ ap (λ (x : CompatValue). Done (room_outcome n new k)
             (lane_of x)) (sym left))));
         rest = subst (IsRestOf core core p) (sym left) (consumed_rest core core p p k (rest_same core p));
       });
@@ -351,8 +351,8 @@ read_by n old answers p m none brought =
     record {
       asks = λ under_way. looks
           ∙ ((λ i. fill_next 0 n (file_at p.file) (buffer_of p) (lane_of p) (facts_of old) (place_of (under_way i)) [] answers)
-          ∙ (λ i. if not (m.may i) then refuses kind.NotReadable (lane_of p) else
-          if overflows (end_is p none i) len then refuses kind.OffsetOverflow (lane_of p)
+          ∙ (λ i. if not (m.may i) then refuse_locally kind.NotReadable (lane_of p) else
+          if overflows (end_is p none i) len then refuse_locally kind.OffsetOverflow (lane_of p)
           else Ask (request.Read (brought i) (end_is p none i) len)));
       waits = λ r is. looks ∙ (λ i. fill_next 0 n (file_at p.file) (buffer_of p) (lane_of p) (facts_of old) (place_of (is i)) [] answers);
     }
@@ -360,39 +360,39 @@ read_by n old answers p m none brought =
 read_refused : (n : ℕ) (p : CompatValue) → EndsRefused (read_go n p) p
 read_refused n p r e is = refused_content r (lane_of (without_read p)) (Done outcome.End (lane_of (without_read p))) _ e is
 
-some_content : (len : ℕ) (bytes : List ℕ) → allows (expected.Content len) (reply.Content bytes) ≡ true → (length bytes == 0) ≡ false
+some_content : (len : ℕ) (bytes : List ℕ) → allows_reply (expected.Content len) (reply.Content bytes) ≡ true → (length bytes == 0) ≡ false
 some_content len bytes fits = (let there : 0 < length bytes = content_some len bytes fits in grind (arith, nat_tests))
 
 -- a DATA into an empty buffer, of which the first bytes are given
 content_gives : (n k len : ℕ) (p : CompatValue) (bytes old new : List ℕ) → (n == 0) ≡ false → p.buffered ≡ []
-    → allows (expected.Content len) (reply.Content bytes) ≡ true
+    → allows_reply (expected.Content len) (reply.Content bytes) ≡ true
     → IsPut n k (p.buffered ++ bytes) old new → read_go n p (reply.Content bytes)
-    ≡ Done (room_outcome n new k) (lane_of (consumed (without_read (appended (reply.Content bytes) p)) k))
+    ≡ Done (room_outcome n new k) (lane_of (after_consuming (without_read (with_bytes_appended (reply.Content bytes) p)) k))
 content_gives n k len p bytes old new some none fits h =
-    let m : CompatValue = without_read (appended (reply.Content bytes) p) in
+    let m : CompatValue = without_read (with_bytes_appended (reply.Content bytes) p) in
     let all : bytes ≡ p.buffered ++ bytes = ap (λ (xs : List ℕ). xs ++ bytes) (sym none) in
     let there : (length (p.buffered ++ bytes) == 0) ≡ false = subst (λ (xs : List ℕ). (length xs == 0) ≡ false) all (some_content len bytes fits) in
-    (λ i. given 0 n (all i) (file_at p.file) (record (buffer_of p) { reading = None }) (lane_of p))
-    ∙ (given_is m n ∙ (λ i. Done (sym (put_outcome n k (p.buffered ++ bytes) old new h some there) i) (lane_of (consumed m (sym h.len i)))))
+    (λ i. buffered_bytes 0 n (all i) (file_at p.file) (record (buffer_of p) { reading = None }) (lane_of p))
+    ∙ (given_is m n ∙ (λ i. Done (sym (put_outcome n k (p.buffered ++ bytes) old new h some there) i) (lane_of (after_consuming m (sym h.len i)))))
 
-consumed_none : (m : CompatValue) (k : ℕ) → k ≡ 0 → lane_of (consumed m k) ≡ lane_of m
+consumed_none : (m : CompatValue) (k : ℕ) → k ≡ 0 → lane_of (after_consuming m k) ≡ lane_of m
 consumed_none m k zero_is =
-    ap (λ (j : ℕ). lane_of (consumed m j)) zero_is
+    ap (λ (j : ℕ). lane_of (after_consuming m j)) zero_is
     ∙ (let same : m.file.offset + 0 ≡ m.file.offset = omega arith in (λ i. lane_of (record m { file = record m.file { offset = same i } })))
 
 -- the end of the file gives none
 end_gives : (n k : ℕ) (p : CompatValue) (code : ℕ) (message language old new : List ℕ) → (n == 0) ≡ false → p.buffered
     ≡ [] → Ok tt ≡ fill_value (reply.Status code message language)
-    → IsPut n k p.buffered old new → read_go n p (reply.Status code message language) ≡ Done (room_outcome n new k) (lane_of (consumed (without_read p) k))
+    → IsPut n k p.buffered old new → read_go n p (reply.Status code message language) ≡ Done (room_outcome n new k) (lane_of (after_consuming (without_read p) k))
 end_gives n k p code message language old new some none is h =
     let nothing : k ≡ 0 = put_none n k p.buffered h.len none in
     ended_status code message language (lane_of (without_read p)) (Done outcome.End (lane_of (without_read p))) (code == SSH_FX_EOF) is
     ∙ (λ i. Done (sym (end_outcome n k new nothing some) i) (sym (consumed_none (without_read p) k nothing) i))
 
 read_gives : (n k len : ℕ) (p : CompatValue) (r : Reply) (old new : List ℕ) → (n == 0) ≡ false → p.buffered ≡ []
-    → allows (expected.Content len) r ≡ true → Ok tt ≡ fill_value r
-    → IsPut n k (without_read (appended r p)).buffered old new → read_go n p r
-    ≡ Done (room_outcome n new k) (lane_of (consumed (without_read (appended r p)) k))
+    → allows_reply (expected.Content len) r ≡ true → Ok tt ≡ fill_value r
+    → IsPut n k (without_read (with_bytes_appended r p)).buffered old new → read_go n p r
+    ≡ Done (room_outcome n new k) (lane_of (after_consuming (without_read (with_bytes_appended r p)) k))
 read_gives n k len p (reply.Content bytes) old new some none fits is h = content_gives n k len p bytes old new some none fits h
 read_gives n k len p (reply.Status code message language) old new some none fits is h = end_gives n k p code message language old new some none is h
 read_gives n k len p (reply.Handle handle) old new some none fits is h = absurd cc
@@ -405,18 +405,18 @@ read_gives n k len p (reply.Extended content) old new some none fits is h = absu
 pub filled_reads : (n k : ℕ) (core next : Core) (p m q : CompatValue) (old new : List ℕ) → MayRead n p
     → (length p.buffered == 0) ≡ true → IsSound core p → FillsBuffer (min (max n p.buffer_len) (facts_of core).read_len) core
     next p m (poll.Ready (Ok tt))
-    → IsPut n k m.buffered old new → q ≡ consumed m k → ReadsTo (read_plan n core p) (room_outcome n new) core next p q (poll.Ready (Ok k))
+    → IsPut n k m.buffered old new → q ≡ after_consuming m k → ReadsTo (read_plan n core p) (room_outcome n new) core next p q (poll.Ready (Ok k))
 filled_reads n k core next p m q old new h empty s f put left =
     let none : p.buffered ≡ [] = empty_is p.buffered empty in
     let len : ℕ = min (max n p.buffer_len) (facts_of core).read_len in
     let t : TookRead core next p m (Ok tt) = fills_took len core next p m f in
     let within : k ≤ length m.buffered = omega (arith, put.len) in
-    let here : IsPut n k (without_read (appended t.reply p)).buffered old new = subst (λ (x : CompatValue). IsPut n k x.buffered old new) t.left put in
+    let here : IsPut n k (without_read (with_bytes_appended t.reply p)).buffered old new = subst (λ (x : CompatValue). IsPut n k x.buffered old new) t.left put in
     record {
       polled = λ answers d. inl (record {
         ends = took_goes (read_plan n core p) len (read_go n p) answers core next p m (Ok tt) (read_by n core answers p h none d.brought) d t
             ∙ (read_gives n k t.read.len p t.reply old new h.some none t.allowed t.says here
-            ∙ (ap (λ (x : CompatValue). Done (room_outcome n new k) (lane_of (consumed x k))) (sym t.left)
+            ∙ (ap (λ (x : CompatValue). Done (room_outcome n new k) (lane_of (after_consuming x k))) (sym t.left)
             ∙ ap (λ (x : CompatValue). Done (room_outcome n new k) (lane_of x)) (sym left)));
         rest = subst (IsRestOf core next p) (sym left) (consumed_rest core next p m k (took_rest core next p m (Ok tt) t));
       });
@@ -458,7 +458,7 @@ pub unreadable_reads : (n : ℕ) (core : Core) (c : CompatValue) (room : List �
 unreadable_reads n core c room not_so s =
     record {
       polled = λ answers d. record {
-        ends = (λ i. if not (not_so i) then refuses kind.NotReadable (lane_of c) else if n == 0 then Done (outcome.Bytes []) (lane_of c)
+        ends = (λ i. if not (not_so i) then refuse_locally kind.NotReadable (lane_of c) else if n == 0 then Done (outcome.Bytes []) (lane_of c)
             else from_buffer 0 n (file_at c.file) (buffer_of c) (lane_of c) (facts_of core) c.buffered [] answers);
         rest = rest_same core c;
       };
@@ -471,7 +471,7 @@ pub empty_reads : (n : ℕ) (core : Core) (c : CompatValue) (room : List ℕ) �
 empty_reads n core c room may none s =
     record {
       polled = λ answers d. inl (record {
-        ends = (λ i. if not (may i) then refuses kind.NotReadable (lane_of c) else if none i then Done (outcome.Bytes []) (lane_of c)
+        ends = (λ i. if not (may i) then refuse_locally kind.NotReadable (lane_of c) else if none i then Done (outcome.Bytes []) (lane_of c)
             else from_buffer 0 n (file_at c.file) (buffer_of c) (lane_of c) (facts_of core) c.buffered [] answers)
             ∙ (λ i. Done (if not (sym none i) then outcome.End else outcome.Bytes (take 0 room)) (lane_of c));
         rest = rest_same core c;

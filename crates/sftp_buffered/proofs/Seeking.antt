@@ -39,7 +39,7 @@ use Rattle.sftp_model.specs.declared.slot.Slot.TheVariants.{Buffered}
 use Rattle.sftp_model.specs.Slots.{with_slot}
 use Rattle.plan_model.specs.BufferPlans.{buf_seek_next, sought_buffer, sought_slot}
 use Rattle.plan_model.specs.FilePlans.{on_seek}
-use Rattle.plan_model.specs.Moves.{Answers, refuses}
+use Rattle.plan_model.specs.Moves.{Answers, refuse_locally}
 use Rattle.sftp_model.specs.declared.error.Error.TheVariants as error
 use Rattle.sftp_model.specs.declared.error.IoKind.{IoKind}
 use Rattle.sftp_core.specs.Core.{Core}
@@ -75,7 +75,8 @@ pub seek_same : (position : SeekFrom) (core : Core) (c : CompatValue) (to : ℕ)
 seek_same position core c to leads same s =
     record {
       seeks = λ facts answers. seek_goes position c to facts answers leads
-          ∙ ((λ i. Done (outcome.Count to) (with_slot (lane_of c) 0 (if same_test to c.file.offset same i then Buffered (file_at c.file) (buffer_of c)
+          ∙ ((λ i. Done (outcome.Count to) (with_slot (lane_of c) 0
+          (if same_test to c.file.offset same i then Buffered (file_at c.file) (buffer_of c)
           else Buffered (record (file_at c.file) { offset = to }) (sought_buffer c.file.offset to (buffer_of c)))))
           ∙ ap (λ (k : ℕ). Done (outcome.Count k) (lane_of c)) same);
       rest = rest_same core c;
@@ -86,15 +87,18 @@ seek_same position core c to leads same s =
 
 kept_ends : (from to kept : ℕ) (xs : List ℕ) (b : Bool) → nat_lt from to ≡ b → from + length xs + kept < 2 ^ 64
     → to < 2 ^ 64 → to + length (if b then drop (to - from) xs else []) + 0 < 2 ^ 64
-kept_ends from to kept xs true is ends below = (let len : length (drop (to - from) xs) ≡ length xs - (to - from) = length-drop (to - from) xs in
+kept_ends from to kept xs true is ends below = (let len : length (drop (to - from) xs) ≡ length xs - (to - from) =
+    length-drop (to - from) xs in
     let less : from < to = grind (arith, nat_tests) in omega (arith, len, less, ends, below))
 kept_ends from to kept xs false is ends below = omega (arith, below)
 
 kept_fits : (n most : ℕ) (xs : List ℕ) (b : Bool) → length xs ≤ most → length (if b then drop n xs else []) ≤ most
-kept_fits n most xs true fits = (let len : length (drop n xs) ≡ length xs - n = length-drop n xs in omega (arith, len, fits))
+kept_fits n most xs true fits = (let len : length (drop n xs) ≡ length xs - n = length-drop n xs in
+    omega (arith, len, fits))
 kept_fits n most xs false fits = omega arith
 
-stood_sound : (core : Core) (c : CompatValue) (to : ℕ) → to < 2 ^ 64 → IsSound core c → IsSound (read_dropped core c.reading) (stood c to)
+stood_sound : (core : Core) (c : CompatValue) (to : ℕ) → to < 2 ^ 64 → IsSound core c
+    → IsSound (read_dropped core c.reading) (stood c to)
 stood_sound core c to below s =
     record {
       held = record { writes = held_dropped core c.reading c.deferred s.held.read s.held.writes; read = tt };
@@ -102,7 +106,8 @@ stood_sound core c to below s =
         pending = s.counted.pending;
         rising = s.counted.rising;
         placed = tt;
-        ends = kept_ends c.file.offset to (len_of c.reading) c.buffered (nat_lt c.file.offset to) refl s.counted.ends below;
+        ends = kept_ends c.file.offset to (len_of c.reading) c.buffered (nat_lt c.file.offset to) refl s.counted.ends
+            below;
         capacity = kept_fits (to - c.file.offset) c.capacity c.buffered (nat_lt c.file.offset to) s.counted.capacity;
       };
     }
@@ -114,7 +119,8 @@ pub seek_moved : (position : SeekFrom) (old new : Core) (p q : CompatValue) (to 
 seek_moved position old new p q to leads other below s left core =
     let now : SeeksTo position old (read_dropped old p.reading) p (stood p to) (Ok tt) = record {
       seeks = λ facts answers. seek_goes position p to facts answers leads
-          ∙ (λ i. Done (outcome.Count to) (with_slot (lane_of p) 0 (if other_test to p.file.offset other i then Buffered (file_at p.file) (buffer_of p)
+          ∙ (λ i. Done (outcome.Count to) (with_slot (lane_of p) 0
+          (if other_test to p.file.offset other i then Buffered (file_at p.file) (buffer_of p)
           else Buffered (record (file_at p.file) { offset = to }) (sought_buffer p.file.offset to (buffer_of p)))));
       rest = record {
         between = old;
@@ -132,10 +138,11 @@ seek_moved position old new p q to leads other below s left core =
 
 -- a position leads to no offset
 abbrev pub LeadsNowhere : SeekFrom → ℕ → IoKind → Type 0
-LeadsNowhere position from why = (site : Site) (go : ℕ → Move) → on_seek position from site go ≡ refuses why site
+LeadsNowhere position from why = (site : Site) (go : ℕ → Move) → on_seek position from site go ≡ refuse_locally why site
 
 pub seek_refused : (position : SeekFrom) (core : Core) (c : CompatValue) (why : IoKind)
-    → LeadsNowhere position c.file.offset why → IsSound core c → SeeksTo position core core c c (Err (error.IOError why))
+    → LeadsNowhere position c.file.offset why → IsSound core c
+    → SeeksTo position core core c c (Err (error.IOError why))
 seek_refused position core c why leads s =
     record {
       seeks = λ facts answers. leads (lane_of c) (λ k. Done (outcome.Count k) (sought_site c k));

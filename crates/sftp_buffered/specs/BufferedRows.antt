@@ -1,4 +1,4 @@
--- Worked examples of buffered files, and beside each what nearly is one. The OPEN has place 0, and the next request 4.
+-- Worked examples of buffered files, each beside a near miss. The OPEN has place 0, and the next request 4.
 use Rattle.std.specs.Prelude.{
   ℕ,
   ◌≡◌,
@@ -32,27 +32,34 @@ use Rattle.sftp_buffered.specs.declared.file.DeferredWrite.{DeferredWrite}
 use Rattle.sftp_buffered.specs.declared.file.ReadUnderWay.{ReadUnderWay}
 use Rattle.sftp_buffered.specs.Buffered.{CompatValue, lane_of}
 use Rattle.sftp_buffered.specs.Reads.{
-  appended,
+  with_bytes_appended,
   buf_fill_next,
   buf_ready_next,
-  consumed,
+  after_consuming,
   fill_value,
   room_outcome,
   with_read,
   without_read,
 }
 use Rattle.sftp_buffered.specs.Seeks.{stood}
-use Rattle.sftp_buffered.specs.Steps.{after_written, deferring, must_wait, room_of, status_value, without_oldest}
-use Rattle.sftp_buffered.specs.Whole.{shrunk}
+use Rattle.sftp_buffered.specs.Steps.{
+  after_written,
+  with_deferred_write,
+  must_wait,
+  room_of,
+  status_value,
+  without_oldest,
+}
+use Rattle.sftp_buffered.specs.Whole.{with_capacity_at_most}
 
--- READs ask for 4 bytes at most, WRITEs carry 2, and 4 may be pending
+-- READs ask for at most 4 bytes, WRITEs carry 2, and 4 may be pending.
 abbrev facts : Facts
 facts = record { extensions = record { 0 = 0 }; read_len = 4; write_len = 2; write_limit = 4; read_window = 1 }
 
 abbrev at : ℕ → FileValue
 at offset = record { grant = record { id = 7; handle = codes "h" }; readable = true; writable = true; offset = offset }
 
--- a file at 5 that has these bytes buffered, so many of its writes pending, and such a READ under way
+-- A file at offset 5 with these bytes buffered, this many bytes of writes pending, and this READ under way.
 abbrev write_at : ℕ → DeferredWrite
 write_at place = record { place = place; len = 2; ticket = place }
 
@@ -72,7 +79,7 @@ holding bytes writes pending reading =
 abbrev bare : List ℕ → CompatValue
 bare bytes = holding bytes [] 0 None
 
--- the HANDLE, and this reply at place 4
+-- The HANDLE, and this reply at place 4.
 abbrev after : Option Reply → Answers
 after told place = if place == 0 then Some (reply.Handle (codes "h")) else if place == 4 then told else None
 
@@ -82,9 +89,9 @@ read_of offset len = request.Read (codes "h") offset len
 abbrev got : List ℕ → Reply
 got bytes = reply.Content bytes
 
--- ---- reads into the buffer
+-- ---- Reads into the buffer
 
--- behind the buffer, and not at the offset
+-- A read into the buffer asks for bytes after the buffer, not at the offset.
 pub fill_asks_behind : buf_fill_next 0 9 (lane_of (bare (codes "ab"))) facts [] (after None) ≡ Ask (read_of 7 4)
 fill_asks_behind = refl
 
@@ -96,8 +103,8 @@ pub fill_appends : buf_fill_next 0 9 (lane_of (bare (codes "ab"))) facts ((4, re
     ≡ Done outcome.Done (lane_of (bare (codes "abc")))
 fill_appends = refl
 
--- what the core has is appended in the same way
-pub fill_appended : lane_of (without_read (appended (got (codes "c")) (with_read (bare (codes "ab")) 4 9)))
+-- Bytes that the core has are appended in the same way.
+pub fill_appended : lane_of (without_read (with_bytes_appended (got (codes "c")) (with_read (bare (codes "ab")) 4 9)))
     ≡ lane_of (bare (codes "abc"))
 fill_appended = refl
 
@@ -110,7 +117,7 @@ pub fill_refused : buf_fill_next 0 9 (lane_of (bare (codes "ab"))) facts ((4, re
     ≡ Done (outcome.Refused (error.SftpError 3 [] [])) (lane_of (bare (codes "ab")))
 fill_refused = refl
 
--- a READ that is under way is awaited, whatever it asked for
+-- A READ under way is awaited, no matter how many bytes it asked for.
 pub fill_awaits : buf_fill_next 0 9 (lane_of (with_read (bare []) 1 9)) facts [] (after None) ≡ Wait 4
 fill_awaits = refl
 
@@ -121,14 +128,14 @@ ready_stays = refl
 pub ready_asks : buf_ready_next 0 (lane_of (bare [])) facts [] (after None) ≡ Ask (read_of 5 3)
 ready_asks = refl
 
--- a STATUS of EOF is an end of a READ alone
+-- A STATUS of EOF is an end for a READ alone.
 pub fill_end_is_good : fill_value (status 1) ≡ Ok tt
 fill_end_is_good = refl
 
 pub write_end_is_bad : status_value (status 1) ≡ Err (error.SftpError 1 [] [])
 write_end_is_bad = refl
 
--- ---- a room
+-- ---- Room of a read
 
 pub room_of_some : room_outcome 3 (codes "abz") 2 ≡ outcome.Bytes (codes "ab")
 room_of_some = refl
@@ -136,11 +143,11 @@ room_of_some = refl
 pub room_at_the_end : room_outcome 3 (codes "xyz") 0 ≡ outcome.End
 room_at_the_end = refl
 
--- no room is no end
+-- A read without room is no end of the file.
 pub no_room : room_outcome 0 [] 0 ≡ outcome.Bytes []
 no_room = refl
 
--- ---- the window
+-- ---- Windows
 
 pub full_waits : must_wait facts (holding [] (write_at 1 ∷ write_at 2 ∷ []) 4 None) ≡ true
 full_waits = refl
@@ -151,12 +158,12 @@ room_goes_on = refl
 pub full_without_oldest : room_of facts (without_oldest (holding [] (write_at 1 ∷ write_at 2 ∷ []) 4 None)) ≡ 2
 full_without_oldest = refl
 
--- a write moves by its bytes, takes them off the buffer, and gives the READ up
-pub write_moves : after_written (deferring (with_read (bare (codes "abc")) 4 9) 2 8) 2
+-- A write moves the file by its bytes, takes them off the buffer, and gives the READ up.
+pub write_moves : after_written (with_deferred_write (with_read (bare (codes "abc")) 4 9) 2 8) 2
     ≡ record (holding (codes "c") (record { place = 5; len = 2; ticket = 8 } ∷ []) 2 None) { file = at 7; place = 6 }
 write_moves = refl
 
--- ---- seeks
+-- ---- Seeks
 
 pub seek_forward_keeps : (stood (bare (codes "abc")) 7).buffered ≡ codes "c"
 seek_forward_keeps = refl
@@ -167,13 +174,13 @@ seek_past_keeps_none = refl
 pub seek_back_keeps_none : (stood (bare (codes "abc")) 4).buffered ≡ []
 seek_back_keeps_none = refl
 
--- ---- the buffer
+-- ---- Buffers
 
-pub consume_moves : consumed (bare (codes "abc")) 2 ≡ record (bare (codes "c")) { file = at 7 }
+pub consume_moves : after_consuming (bare (codes "abc")) 2 ≡ record (bare (codes "c")) { file = at 7 }
 consume_moves = refl
 
-pub shrink_empties : shrunk (bare (codes "abc")) 4 ≡ record (bare []) { capacity = 4 }
+pub shrink_empties : with_capacity_at_most (bare (codes "abc")) 4 ≡ record (bare []) { capacity = 4 }
 shrink_empties = refl
 
-pub shrink_to_more : shrunk (bare (codes "abc")) 8 ≡ bare (codes "abc")
+pub shrink_to_more : with_capacity_at_most (bare (codes "abc")) 8 ≡ bare (codes "abc")
 shrink_to_more = refl

@@ -28,7 +28,7 @@ use Rattle.std.specs.Prelude.{
   Err,
   if◌then◌else◌,
 }
-use Rattle.sftp_model.specs.Answers.{allows}
+use Rattle.sftp_model.specs.Answers.{allows_reply}
 use Rattle.sftp_model.specs.Numbers.{SSH_FX_EOF}
 use Rattle.sftp_model.specs.Slots.{slot_at, with_slot}
 use Rattle.sftp_model.specs.declared.answers.Expected.TheVariants as expected
@@ -59,22 +59,22 @@ use Rattle.plan_model.specs.Moves.{
   on_buffered,
   on_content,
   once_answered,
-  refuses,
+  refuse_locally,
 }
-use Rattle.sftp_core.specs.Core.{Core, after_poll, at, reply_in}
-use Rattle.call_state.specs.Asked.{Submitted}
-use Rattle.call_state.specs.declared.asking.Asking.TheVariants.{Whole}
-use Rattle.call_state.specs.declared.poll.Poll.{Poll}
-use Rattle.call_state.specs.declared.poll.Poll.TheVariants as poll
+use Rattle.sftp_core.specs.Core.{Core, after_poll, record_at, reply_in}
+use Rattle.plan_state.specs.Asked.{SubmitsAsking}
+use Rattle.plan_state.specs.declared.asking.Asking.TheVariants.{Whole}
+use Rattle.plan_state.specs.declared.poll.Poll.{Poll}
+use Rattle.plan_state.specs.declared.poll.Poll.TheVariants as poll
 use Rattle.sftp_file.specs.Files.{facts_of}
 use Rattle.sftp_buffered.specs.declared.file.ReadUnderWay.{ReadUnderWay}
-use Rattle.sftp_buffered.specs.Buffered.{CompatValue, Defers, IsSound, LeavesOthers, lane_of}
+use Rattle.sftp_buffered.specs.Buffered.{CompatValue, DefersWrites, IsSound, LeavesOthers, lane_of}
 use Rattle.sftp_buffered.specs.Polls.{AnyCut, PollsPlan, PlanWaits}
 use Rattle.sftp_buffered.specs.Steps.{IsLeft}
 
--- ---- the plan of a read into the buffer
+-- ---- The plan of a read into the buffer
 
--- the buffer with these bytes at its end, and no READ under way
+-- The buffer with these bytes at its end, and no READ under way.
 abbrev pub filled_slot : FileAt → Buffer → List ℕ → Slot
 filled_slot file buffer bytes = Buffered file (record buffer { bytes = buffer.bytes ++ bytes; reading = None })
 
@@ -83,7 +83,7 @@ was_appended slot file buffer site r =
     on_content r (without_reading slot file buffer site) (Done outcome.Done (without_reading slot file buffer site))
     (λ bytes. Done outcome.Done (with_slot site slot (filled_slot file buffer bytes)))
 
--- the READ under way, or else one behind the buffer
+-- The plan continues the READ under way, or asks for one after the buffer if none is under way.
 abbrev pub append_next : ℕ → ℕ → FileAt → Buffer → Site → Facts → Option ℕ → Plan
 append_next slot len file buffer site facts (Some place) own answers =
     once_answered place (answers place) (was_appended slot file buffer site)
@@ -91,13 +91,13 @@ append_next slot len file buffer site facts None own answers = by_reply
     (ask_read (further file (length buffer.bytes)) (min len facts.read_len) site answers)
     (was_appended slot file buffer site) own answers
 
--- a read into the buffer, which asks for so many bytes
+-- The plan of a read into the buffer that asks for this many bytes.
 abbrev pub buf_fill_next : ℕ → ℕ → Site → Facts → Plan
 buf_fill_next slot len site facts own answers = on_buffered (slot_at site slot) site
-    (λ file buffer. if not file.readable then refuses kind.NotReadable site else
+    (λ file buffer. if not file.readable then refuse_locally kind.NotReadable site else
     append_next slot len file buffer site facts buffer.reading own answers)
 
--- the same where the buffer is empty, and else nothing
+-- The same plan if the buffer is empty, and nothing otherwise.
 abbrev pub ready_next : ℕ → Site → Facts → List ℕ → Buffer → Plan
 ready_next slot site facts [] buffer own answers = buf_fill_next slot buffer.len site facts own answers
 ready_next slot site facts (b ∷ bytes) buffer own answers = Done outcome.Done site
@@ -106,9 +106,9 @@ abbrev pub buf_ready_next : ℕ → Site → Facts → Plan
 buf_ready_next slot site facts own answers = on_buffered (slot_at site slot) site
     (λ file buffer. ready_next slot site facts buffer.bytes buffer own answers)
 
--- ---- the steps
+-- ---- Steps
 
--- a READ of so many bytes is under way, as the file's next request
+-- A READ of this many bytes is under way, as the file's next request.
 abbrev pub with_read : CompatValue → ℕ → ℕ → CompatValue
 with_read c len ticket =
     record c { reading = Some (record { place = c.place; len = len; ticket = ticket }); place = c.place + 1 }
@@ -116,42 +116,42 @@ with_read c len ticket =
 abbrev pub without_read : CompatValue → CompatValue
 without_read c = record c { reading = None }
 
--- where the buffer ends
+-- The offset at which the buffer ends.
 abbrev pub end_of : CompatValue → ℕ
 end_of c = c.file.offset + length c.buffered
 
--- a READ of so many bytes behind the buffer
+-- A READ of this many bytes after the buffer.
 abbrev pub read_behind : CompatValue → ℕ → Request
 read_behind c len = request.Read c.file.grant.handle (end_of c) len
 
--- what the core has for the READ
+-- The reply that the core has for the READ.
 abbrev pub read_reply : Core → Option ReadUnderWay → Option Reply
 read_reply core None = None
-read_reply core (Some r) = reply_in (at core r.ticket)
+read_reply core (Some r) = reply_in (record_at core r.ticket)
 
--- that reply is one that the READ allows
+-- That reply is one that the READ allows.
 abbrev pub IsAllowedRead : Core → Option ReadUnderWay → Type 0
 IsAllowedRead core None = Unit {0}
-IsAllowedRead core (Some r) = (reply : Reply) → reply_in (at core r.ticket) ≡ Some reply
-    → allows (expected.Content r.len) reply ≡ true
+IsAllowedRead core (Some r) = (reply : Reply) → reply_in (record_at core r.ticket) ≡ Some reply
+    → allows_reply (expected.Content r.len) reply ≡ true
 
--- the bytes that the reply brings stand at the end of the buffer
-abbrev pub appended : Reply → CompatValue → CompatValue
-appended (reply.Content bytes) c =
+-- The bytes that the reply brings are at the end of the buffer.
+abbrev pub with_bytes_appended : Reply → CompatValue → CompatValue
+with_bytes_appended (reply.Content bytes) c =
     record c { buffered = c.buffered ++ bytes; capacity = max c.capacity (length (c.buffered ++ bytes)) }
-appended other c = c
+with_bytes_appended other c = c
 
--- what the reply to a READ says
+-- The value of a reply to a READ.
 abbrev pub fill_value : Reply → Result (Unit {0}) Error
 fill_value (reply.Content bytes) = Ok tt
 fill_value (reply.Status code message language) = if code == SSH_FX_EOF then Ok tt else
     Err (error.SftpError code message language)
 fill_value other = Err (error.InvalidResponse None)
 
--- the READ was submitted, or nothing changed: for want of memory, by a kept fault, or past the greatest offset
+-- The READ was submitted, or nothing changed: out of memory, a recorded fault, or past the greatest offset.
 abbrev pub BeginsRead : ℕ → Core → Core → CompatValue → CompatValue → Poll (Result (Unit {0}) Error) → Type 0
 BeginsRead len old new p q poll.Pending = (end_of p + len < 2 ^ 64) × (ticket : ℕ)
-    × Submitted old (Whole (read_behind p len)) ticket new × (q ≡ with_read p len ticket)
+    × SubmitsAsking old (Whole (read_behind p len)) ticket new × (q ≡ with_read p len ticket)
 BeginsRead len old new p q (poll.Ready (Ok u)) = ⊥
 BeginsRead len old new p q (poll.Ready (Err error.OutOfMemory)) = IsLeft old new p q
 BeginsRead len old new p q (poll.Ready (Err (error.BackgroundTaskFailure fault))) = (end_of p + len < 2 ^ 64)
@@ -160,33 +160,34 @@ BeginsRead len old new p q (poll.Ready (Err (error.IOError kind.OffsetOverflow))
     × IsLeft old new p q
 BeginsRead len old new p q (poll.Ready (Err other)) = ⊥
 
--- a look at the reply to the READ, whose bytes are copied to the end of the buffer
+-- The relation of a look at the reply to the READ: its bytes are copied to the end of the buffer.
 abbrev pub LooksAtRead : Core → CompatValue → CompatValue → Poll (Result (Unit {0}) Error) → Type 0
 LooksAtRead core p q poll.Pending = (read_reply core p.reading ≡ None) × (core.fault ≡ None) × (q ≡ p)
-LooksAtRead core p q (poll.Ready (Ok u)) = (r : Reply) × (read_reply core p.reading ≡ Some r) × (q ≡ appended r p)
+LooksAtRead core p q (poll.Ready (Ok u)) = (r : Reply) × (read_reply core p.reading ≡ Some r)
+    × (q ≡ with_bytes_appended r p)
 LooksAtRead core p q (poll.Ready (Err error.OutOfMemory)) = q ≡ p
 LooksAtRead core p q (poll.Ready (Err (error.BackgroundTaskFailure fault))) = (read_reply core p.reading ≡ None)
     × (core.fault ≡ Some fault) × (q ≡ p)
 LooksAtRead core p q (poll.Ready (Err other)) = ⊥
 
--- the reply to the READ was taken
+-- The reply to the READ was taken.
 pub record TookRead (old new : Core) (p q : CompatValue) (value : Result (Unit {0}) Error) : Type 0 where
   pub read : ReadUnderWay
   pub under_way : p.reading ≡ Some read
   pub reply : Reply
-  pub came : reply_in (at old read.ticket) ≡ Some reply
-  pub allowed : allows (expected.Content read.len) reply ≡ true
+  pub came : reply_in (record_at old read.ticket) ≡ Some reply
+  pub allowed : allows_reply (expected.Content read.len) reply ≡ true
   pub says : value ≡ fill_value reply
-  pub left : q ≡ without_read (appended reply p)
+  pub left : q ≡ without_read (with_bytes_appended reply p)
   pub core : new ≡ after_poll old read.ticket
 
--- with no READ under way one is asked
+-- If no READ is under way, one is asked.
 pub record BeginsFill (len : ℕ) (old new : Core) (p q : CompatValue) (result : Poll (Result (Unit {0}) Error)) : Type 0
   where
     pub none : p.reading ≡ None
     pub begins : BeginsRead len old new p q result
 
--- else its reply is looked at, and taken
+-- If a READ is under way, its reply is looked at, and taken.
 abbrev pub AwaitsFill : Core → Core → CompatValue → CompatValue → Poll (Result (Unit {0}) Error) → Type 0
 AwaitsFill old new p q poll.Pending = (read_reply old p.reading ≡ None) × (old.fault ≡ None) × IsLeft old new p q
 AwaitsFill old new p q (poll.Ready (Err error.OutOfMemory)) = IsLeft old new p q
@@ -202,50 +203,51 @@ pub record EndsFill (old new : Core) (p q : CompatValue) (result : Poll (Result 
 abbrev pub FillsBuffer : ℕ → Core → Core → CompatValue → CompatValue → Poll (Result (Unit {0}) Error) → Type 0
 FillsBuffer len old new p q result = BeginsFill len old new p q result ⊎ EndsFill old new p q result
 
--- ---- the polls
+-- ---- Polls
 
--- the plan asks for a READ, which was submitted and is under way, as after a read that is cancelled then
+-- The plan asks for a READ, which was submitted and is under way, as after a read that is cancelled then.
 pub record BeganRead (plan : Plan) (answers : Answers) (old new : Core) (p q : CompatValue) : Type 0 where
   pub len : ℕ
   pub ticket : ℕ
   pub asks : plan [] answers ≡ Ask (read_behind p len)
-  pub submitted : Submitted old (Whole (read_behind p len)) ticket new
+  pub submitted : SubmitsAsking old (Whole (read_behind p len)) ticket new
   pub left : q ≡ with_read p len ticket
   pub lane : lane_of q ≡ cancelled_buf_read 0 (lane_of p) (facts_of old) ((p.place, read_behind p len) ∷ []) answers
 
--- The poll did the next move of this plan, whatever the replies to come, the file may be polled on, and others find the
--- core as it was. `Pending` comes where the plan waits and nothing changed, and where its READ was submitted; want of
--- memory and a kept fault leave core and file as they were.
+-- The poll made the next move of this plan, for any replies to come. The file may be polled further, and others find
+-- the core as it was. `Pending` comes if the plan waits and nothing changed, and if its READ was submitted. Running out
+-- of memory and a recorded fault leave core and file as they were.
 pub record ReadsTo {V : Type 0} (plan : Plan) (o : V → Outcome) (old new : Core) (p q : CompatValue)
     (result : Poll (Result V Error)) : Type 0 where
-  pub polled : (answers : Answers) → Defers old p answers
+  pub polled : (answers : Answers) → DefersWrites old p answers
       → PollsPlan (PlanWaits plan answers old (IsLeft old new p q) ⊎ BeganRead plan answers old new p q)
       (IsLeft old new p q) AnyCut
       plan o answers old new p q result
   pub sound : IsSound new q
   pub others : LeavesOthers old new p
 
--- the plan of a read into the buffer
+-- The plan of a read into the buffer.
 abbrev pub fill_plan : ℕ → Core → CompatValue → Plan
 fill_plan len core c = buf_fill_next 0 len (lane_of c) (facts_of core)
 
--- of one into an empty buffer
+-- The plan of a read into an empty buffer.
 abbrev pub ready_plan : Core → CompatValue → Plan
 ready_plan core c = buf_ready_next 0 (lane_of c) (facts_of core)
 
--- and of a read of at most so many bytes
+-- The plan of a read of at most `n` bytes.
 abbrev pub read_plan : ℕ → Core → CompatValue → Plan
 read_plan n core c = buf_read_next 0 n (lane_of c) (facts_of core)
 
--- the file stands behind the first n buffered bytes
-abbrev pub consumed : CompatValue → ℕ → CompatValue
-consumed c n = record c { file = record c.file { offset = c.file.offset + n }; buffered = drop n c.buffered }
+-- The file is after the first n buffered bytes.
+abbrev pub after_consuming : CompatValue → ℕ → CompatValue
+after_consuming c n = record c { file = record c.file { offset = c.file.offset + n }; buffered = drop n c.buffered }
 
--- the outcome of a read that put n bytes into a room of a length: none in a room for some is the end of the file
+-- The outcome of a read that put n bytes into a room of this length. No bytes in a room that isn't empty are the end of
+-- the file.
 abbrev pub room_outcome : ℕ → List ℕ → ℕ → Outcome
 room_outcome len room n = if n == 0 && not (len == 0) then outcome.End else outcome.Bytes (take n room)
 
--- the bytes stand first in the room, whose rest is as before; without an answer all of it is
+-- The bytes come first in the room, and the rest of it is as before. Without an answer all of it is as before.
 abbrev pub IsGiven : List ℕ → List ℕ → Poll (Result ℕ Error) → Type 0
 IsGiven old new (poll.Ready (Ok n)) = (n ≤ length old) × (new ≡ take n new ++ drop n old)
 IsGiven old new other = new ≡ old

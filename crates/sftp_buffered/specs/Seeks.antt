@@ -12,7 +12,7 @@ use Rattle.sftp_core.specs.Core.{Core}
 use Rattle.sftp_buffered.specs.Buffered.{CompatValue, IsSound, LeavesOthers, lane_of}
 use Rattle.sftp_buffered.specs.Steps.{IsLeft, IsRestOf}
 
--- the file stands at another offset: a move forward keeps the bytes from there on, and the READ is given up
+-- The file at another offset: a move forward keeps the bytes from there on, and the READ is given up.
 abbrev pub stood : CompatValue → ℕ → CompatValue
 stood c to =
     record c {
@@ -21,17 +21,17 @@ stood c to =
       reading = None;
     }
 
--- how a seek ends: with the new offset, or refused
+-- The move that ends a seek: with the new offset, or refused.
 abbrev pub seek_ended : Result (Unit {0}) Error → CompatValue → Move
 seek_ended (Ok u) c = Done (outcome.Count c.file.offset) (lane_of c)
 seek_ended (Err e) c = Done (outcome.Refused e) (lane_of c)
 
--- refused, nothing changed
+-- After an error nothing changed.
 abbrev pub IsLeftByErr : Core → Core → CompatValue → CompatValue → Result (Unit {0}) Error → Type 0
 IsLeftByErr old new p q (Ok u) = Unit {0}
 IsLeftByErr old new p q (Err e) = IsLeft old new p q
 
--- The seek did what its plan says, the file may be polled on, and others find the core as it was.
+-- The seek did what its plan says. The file may be polled further, and others find the core as it was.
 pub record SeeksTo (position : SeekFrom) (old new : Core) (p q : CompatValue) (result : Result (Unit {0}) Error) : Type
     0
   where

@@ -2,8 +2,8 @@
 ghost use Rattle.std.specs.Prelude.{◌≡◌, max, None, OnOk, OnErr};
 ghost use Rattle.sftp_core.specs.Core.{Core as CoreValue};
 ghost use Rattle.sftp_buffered.specs.Buffered.{IsCounted, IsHeldRead, IsSound};
-ghost use Rattle.sftp_buffered.specs.Steps.{read_dropped, skipped};
-ghost use Rattle.sftp_buffered.specs.Whole.{Shrinks};
+ghost use Rattle.sftp_buffered.specs.Steps.{read_dropped, without_first_bytes};
+ghost use Rattle.sftp_buffered.specs.Whole.{ShrinksCapacity};
 
 use crate::file::{ReadUnderWay, TokioCompatFile};
 use bytes::BytesMut;
@@ -12,18 +12,22 @@ use sftp_file::OutOfMemory;
 use std::mem;
 
 impl TokioCompatFile {
-    /// What is buffered, from the file's offset on.
+    /// Returns the buffered bytes, from the file's offset on.
     pub fn buffer(&self) -> &[u8]
         ensures { result.now ≡ self.now.buffered }
     {
         self.buffered.as_slice()
     }
 
-    /// Takes memory so that the capacity is `new_cap` bytes at least. Refused, nothing changes.
+    /// Raises the capacity to at least `new_cap` bytes.
+    ///
+    /// # Errors
+    ///
+    /// `OutOfMemory` if an allocation fails; nothing changes then.
     pub fn reserve(&mut self, new_cap: usize) -> Result<(), OutOfMemory>
         requires { IsCounted self.old }
         ensures ok { OnOk result (self.new ≡ record self.old { capacity = max self.old.capacity new_cap }) }
-        ensures err { OnErr result (self.new ≡ self.old) }
+        ensures unchanged { OnErr result (self.new ≡ self.old) }
         ensures sound { (core : CoreValue) → IsSound core self.old → IsSound core self.new }
     {
         self.buffered
@@ -32,11 +36,15 @@ impl TokioCompatFile {
         Ok(())
     }
 
-    /// Lowers the capacity to `new_cap` bytes, where it is over: the buffer is emptied then, and the READ under way is
-    /// given up. The offset stays. Refused, nothing changes.
+    /// Lowers the capacity to `new_cap` bytes, if it is over that. Then the buffer is emptied, and the READ under way
+    /// is given up. The offset stays.
+    ///
+    /// # Errors
+    ///
+    /// `OutOfMemory` if an allocation fails; nothing changes then.
     pub fn shrink_to(&mut self, core: &mut Core, new_cap: usize) -> Result<(), OutOfMemory>
         requires { IsSound core.old self.old }
-        ensures { Shrinks new_cap core.old core.new self.old self.new result }
+        ensures { ShrinksCapacity new_cap core.old core.new self.old self.new result }
     {
         if self.capacity <= new_cap {
             return Ok(());
@@ -48,9 +56,9 @@ impl TokioCompatFile {
         Ok(())
     }
 
-    /// Lets the first buffered bytes go, or all where there are fewer.
+    /// Removes the first `len` buffered bytes, or all if there are fewer.
     pub(crate) fn skip(&mut self, len: u64)
-        ensures { self.new ≡ skipped self.old len }
+        ensures { self.new ≡ without_first_bytes self.old len }
     {
         if len < self.buffered.len() as u64 {
             self.buffered.advance(len as usize);

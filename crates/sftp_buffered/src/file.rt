@@ -1,4 +1,4 @@
-//! The file, its buffer, and what is under way.
+//! Files with their buffer and the requests under way.
 ghost use Rattle.std.specs.Prelude.{◌≡◌, ◌≤◌, [], None, true};
 ghost use Rattle.sftp_core.specs.Core.{Core as CoreValue};
 ghost use Rattle.sftp_buffered.specs.Buffered.{IsSound, new_value};
@@ -10,21 +10,25 @@ use std::alloc::Global;
 use std::collections::VecDeque;
 use std::marker::Model;
 
-/// How many bytes a read into the buffer asks for, where nothing else is said.
+/// The number of bytes that a read into the buffer asks for by default.
 pub const DEFAULT_BUFLEN: usize = 4096;
 
 /// A WRITE whose status wasn't taken.
+///
+/// Used in `crates/sftp_buffered/src/whole.rt`.
 #[must_use]
 pub struct DeferredWrite {
     /// Its place among the requests of the file.
     pub place: u64,
-    /// How many bytes it carries.
+    /// The number of bytes that it carries.
     pub len: u32,
     /// Its ticket.
     pub ticket: Ticket,
 }
 
 /// The READ under way.
+///
+/// Used in `crates/sftp_buffered/src/fill.rt`.
 #[must_use]
 pub struct ReadUnderWay {
     /// Its place among the requests of the file.
@@ -35,8 +39,10 @@ pub struct ReadUnderWay {
     pub ticket: Ticket,
 }
 
-/// A file with a buffer for reads, and with writes whose statuses are left for later. It isn't droppable: `into_inner`
-/// spends it, and `let_go` where its core was given up.
+/// A file with a buffer for reads, and with writes whose statuses are taken later. It isn't droppable: `into_inner`
+/// consumes it, and `let_go` does after its core was given up.
+///
+/// Example: `crates/test_library/src/buffered.rt`.
 #[must_use]
 pub struct TokioCompatFile {
     pub(crate) file: File,
@@ -67,7 +73,8 @@ impl Model for TokioCompatFile {
 }
 
 impl TokioCompatFile {
-    /// The file with an empty buffer, whose reads ask for at least `DEFAULT_BUFLEN` bytes. No memory is taken.
+    /// Returns the file with an empty buffer, whose reads ask for at least `DEFAULT_BUFLEN` bytes. No memory is
+    /// allocated.
     pub fn new(alloc: Global, inner: File) -> TokioCompatFile
         ensures value { result ≡ new_value inner 4096 }
         ensures sound { (core : CoreValue) → IsSound core result }
@@ -75,7 +82,7 @@ impl TokioCompatFile {
         TokioCompatFile::with_capacity(alloc, inner, DEFAULT_BUFLEN)
     }
 
-    /// The file with an empty buffer, whose reads ask for at least `buffer_len` bytes. No memory is taken.
+    /// Returns the file with an empty buffer, whose reads ask for at least `buffer_len` bytes. No memory is allocated.
     pub fn with_capacity(alloc: Global, inner: File, buffer_len: usize) -> TokioCompatFile
         requires { 1 ≤ buffer_len }
         ensures value { result ≡ new_value inner buffer_len }
@@ -93,28 +100,28 @@ impl TokioCompatFile {
         }
     }
 
-    /// For how many bytes the buffer has memory, at least as many as are buffered.
+    /// Returns the capacity of the buffer in bytes, which is at least the number of buffered bytes.
     pub fn capacity(&self) -> usize
         ensures { result ≡ self.now.capacity }
     {
         self.capacity
     }
 
-    /// The file below the buffer.
+    /// Returns the file below the buffer.
     pub fn file(&self) -> &File
         ensures { result.now ≡ self.now.file }
     {
         &self.file
     }
 
-    /// The offset of the next read or write, in bytes: no seek is ever under way.
+    /// Returns the offset of the next read or write, in bytes. No seek is ever under way.
     pub fn poll_complete(&self) -> u64
         ensures { result ≡ self.now.file.offset }
     {
         self.file.offset()
     }
 
-    /// Whether `poll_write_vectored` takes the bytes of more than one piece.
+    /// Returns true, as `poll_write_vectored` takes the bytes of more than one piece.
     pub fn is_write_vectored(&self) -> bool
         ensures { result ≡ true }
     {

@@ -4,8 +4,8 @@ ghost use Rattle.std.specs.Option.{option_copied};
 ghost use Rattle.sftp_model.specs.declared.outcome.Outcome.TheVariants as outcome;
 ghost use Rattle.sftp_model.specs.declared.reply.Reply.{Reply as ReplyValue};
 ghost use Rattle.sftp_model.specs.declared.request.Request.TheVariants as request;
-ghost use Rattle.call_state.specs.Asked.{IsReady, Submitted};
-ghost use Rattle.call_state.specs.declared.asking.Asking.TheVariants as asking;
+ghost use Rattle.plan_state.specs.Asked.{IsReady, SubmitsAsking};
+ghost use Rattle.plan_state.specs.declared.asking.Asking.TheVariants as asking;
 ghost use Rattle.sftp_file.specs.Files.{facts_of};
 ghost use Rattle.sftp_buffered.specs.Buffered.{IsHeldRead, IsSound};
 ghost use Rattle.sftp_buffered.specs.Reads.{BeginsRead, FillsBuffer, IsAllowedRead, LooksAtRead, ReadsTo, end_of, fill_plan, fill_value, read_reply, without_read};
@@ -21,7 +21,7 @@ use sftp_model::{Reply, Request};
 use std::mem;
 
 impl TokioCompatFile {
-    /// The reply to the READ under way, where it was taken.
+    /// Returns the reply to the READ under way, if it was taken.
     fn read_reply<'a>(&self, core: &'a Core) -> Option<&'a Reply>
         requires { IsHeldRead core.now self.now.reading }
         ensures { option_copied result ≡ read_reply core.now self.now.reading }
@@ -32,17 +32,17 @@ impl TokioCompatFile {
         }
     }
 
-    /// Submits a READ of `len` bytes at an offset. Refused by a kept fault or for want of memory, the core is as
-    /// before.
+    /// Submits a READ of `len` bytes at an offset. Fails if the core has recorded a fault or an allocation fails; the
+    /// core is unchanged then.
     fn submit_read(&self, core: &mut Core, offset: u64, len: u32) -> Result<Ticket, Error>
         requires { IsReady core.old }
-        ensures ok { IfOk result (λ ticket. Submitted core.old
+        ensures ok { IfOk result (λ ticket. SubmitsAsking core.old
             (asking.Whole (request.Read self.now.file.grant.handle offset len)) ticket core.new) }
         ensures err { IfErr result (IsStopped core.old) }
-        ensures left { OnErr result (core.new ≡ core.old) }
+        ensures unchanged { OnErr result (core.new ≡ core.old) }
     {
         let handle = self.file.grant().handle();
-        // for the contract: a handle has at most 256 bytes
+        // For the contract: a handle has at most 256 bytes.
         let _short = handle.as_bytes();
         let request = Request::Read {
             handle: handle.copied(),
@@ -57,7 +57,7 @@ impl TokioCompatFile {
         }
     }
 
-    /// Puts the READ under way, where none is.
+    /// Puts the READ under way; none may be under way.
     fn put_read(&mut self, read: ReadUnderWay)
         requires { self.old.reading ≡ None }
         ensures { self.new ≡ record self.old { reading = Some read } }
@@ -68,7 +68,7 @@ impl TokioCompatFile {
         }
     }
 
-    /// Asks for `len` bytes behind the buffer.
+    /// Asks for `len` bytes after the buffer.
     fn begin_read(&mut self, core: &mut Core, len: u32) -> Poll<Result<(), Error>>
         requires ready { IsReady core.old }
         requires none { self.old.reading ≡ None }
@@ -93,7 +93,7 @@ impl TokioCompatFile {
         }
     }
 
-    /// Looks at the reply to the READ under way, and copies its bytes to the end of the buffer. Refused, nothing
+    /// Looks at the reply to the READ under way, and copies its bytes to the end of the buffer. After an error nothing
     /// changes.
     fn append_reply(&mut self, core: &Core) -> Poll<Result<(), Error>>
         requires { IsHeldRead core.now self.old.reading }
@@ -115,7 +115,7 @@ impl TokioCompatFile {
         }
     }
 
-    /// Takes the reply to the READ out, which was taken, and gives what it says.
+    /// Takes out the reply to the READ, which was taken, and returns its value.
     fn take_read(&mut self, core: &mut Core) -> Result<(), Error>
         requires held { IsHeldRead core.old self.old.reading }
         requires taken { IsSome (read_reply core.old self.old.reading) }
@@ -137,7 +137,7 @@ impl TokioCompatFile {
         }
     }
 
-    /// Goes on with the READ under way, or asks for at most `len` bytes behind the buffer.
+    /// Continues with the READ under way, or asks for at most `len` bytes after the buffer.
     pub(crate) fn fill(&mut self, core: &mut Core, len: usize) -> Poll<Result<(), Error>>
         requires ready { IsReady core.old }
         requires sound { IsSound core.old self.old }
@@ -155,7 +155,7 @@ impl TokioCompatFile {
     }
 }
 
-/// What the reply to a READ says.
+/// Returns the value of a reply to a READ.
 fn fill_value(reply: Reply) -> Result<(), Error>
     ensures { result ≡ fill_value reply }
 {

@@ -11,7 +11,7 @@ use sftp_core::Core;
 use sftp_file::{Error, IoKind, Poll};
 
 impl TokioCompatFile {
-    /// Whether a STATUS of OK was taken for the oldest deferred write.
+    /// Returns true if a STATUS of OK was taken for the oldest deferred write.
     fn is_oldest_good(&self, core: &Core) -> bool
         requires { AreHeld core.now self.now.deferred }
         ensures { result ≡ is_good (oldest_reply core.now self.now.deferred) }
@@ -32,12 +32,14 @@ impl TokioCompatFile {
         }
     }
 
-    /// `()` once each deferred write was answered by a STATUS of OK. Statuses of OK are taken out, oldest first; the
-    /// first other one is awaited, or taken out and answered, and later ones stay. Nothing is sent, and no memory is
-    /// taken.
+    /// Returns `()` once each deferred write was answered by a STATUS of OK. Statuses of OK are taken out, oldest
+    /// first. The first other one is awaited, or taken out and returned, and later ones stay. Nothing is sent, and no
+    /// memory is allocated.
     ///
-    /// `IOError(NotWritable)`, looked at first; `SftpError` for a refusal; `BackgroundTaskFailure`, where a status is
-    /// due and the core keeps a fault.
+    /// # Errors
+    ///
+    /// `IOError(NotWritable)`, which is checked first; `SftpError` for a refusal; `BackgroundTaskFailure` if a status
+    /// is due and the core has recorded a fault.
     pub fn poll_flush(&mut self, core: &mut Core) -> Poll<Result<(), Error>>
         requires { IsSound core.old self.old }
         ensures { FlushesTo core.old core.new self.old self.new result }
@@ -52,7 +54,11 @@ impl TokioCompatFile {
         self.poll_oldest(core)
     }
 
-    /// The same as `poll_flush`: the file stays open until `start_close` of the file below.
+    /// Does the same as `poll_flush`: the file stays open until `start_close` of the file below.
+    ///
+    /// # Errors
+    ///
+    /// Those of `poll_flush`.
     pub fn poll_shutdown(&mut self, core: &mut Core) -> Poll<Result<(), Error>>
         requires { IsSound core.old self.old }
         ensures { FlushesTo core.old core.new self.old self.new result }

@@ -1,4 +1,4 @@
-//! A file of an SFTP server with a buffer for reads, and with writes whose statuses are left for later.
+//! A file of an SFTP server with a buffer for reads, and with writes whose statuses are taken later.
 #![tactic(auto)]
 
 mod buffer;

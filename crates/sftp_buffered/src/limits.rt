@@ -1,4 +1,4 @@
-//! What a core tells of its session.
+//! Limits of a session, as its core reports them.
 ghost use Rattle.std.specs.Prelude.{◌≡◌, ◌≤◌, IsSome};
 ghost use Rattle.sftp_core.specs.Info.{info_of};
 ghost use Rattle.sftp_file.specs.Files.{facts_of};
@@ -6,14 +6,14 @@ ghost use Rattle.sftp_model.specs.Numbers.{MAX_TRANSFER_LEN};
 
 use sftp_core::Core;
 
-/// The most bytes of a buffered file's deferred writes, at least 1.
+/// Returns the most bytes of a buffered file's deferred writes, at least 1.
 pub(crate) fn write_limit(core: &Core) -> u64
     ensures { result ≡ (facts_of core.now).write_limit }
 {
     (core.options().get_tokio_compat_file_write_limit() as u64).max(1)
 }
 
-/// The most bytes that one WRITE carries.
+/// Returns the most bytes that one WRITE carries.
 pub(crate) fn write_len(core: &Core) -> u32
     requires { IsSome (info_of core.now.phase) }
     ensures is { result ≡ (facts_of core.now).write_len }
@@ -25,7 +25,7 @@ pub(crate) fn write_len(core: &Core) -> u32
     }
 }
 
-/// The most bytes that one READ asks for.
+/// Returns the most bytes that one READ asks for.
 pub(crate) fn read_len(core: &Core) -> u32
     requires { IsSome (info_of core.now.phase) }
     ensures { result ≡ (facts_of core.now).read_len }

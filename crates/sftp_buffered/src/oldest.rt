@@ -1,7 +1,7 @@
 //! The oldest deferred write.
 ghost use Rattle.std.specs.Prelude.{◌≡◌, ◌≤◌, Some, IsSome, true, slice_get};
 ghost use Rattle.std.specs.Option.{option_copied};
-ghost use Rattle.sftp_model.specs.Answers.{allows};
+ghost use Rattle.sftp_model.specs.Answers.{allows_reply};
 ghost use Rattle.sftp_model.specs.declared.answers.Expected.TheVariants as expected;
 ghost use Rattle.sftp_model.specs.declared.reply.Reply.{Reply as ReplyValue};
 ghost use Rattle.sftp_buffered.specs.Buffered.{AreHeld};
@@ -15,14 +15,14 @@ use sftp_model::Reply;
 use sftp_model::numbers::SSH_FX_OK;
 
 impl TokioCompatFile {
-    /// The oldest deferred write.
+    /// Returns the oldest deferred write.
     pub(crate) fn oldest(&self) -> Option<&DeferredWrite>
         ensures { option_copied result ≡ slice_get self.now.deferred 0 }
     {
         self.deferred.front()
     }
 
-    /// The bytes of the oldest deferred write.
+    /// Returns the number of bytes of the oldest deferred write.
     pub(crate) fn oldest_len(&self) -> u32
         ensures { result ≡ oldest_len self.now.deferred }
     {
@@ -32,7 +32,7 @@ impl TokioCompatFile {
         }
     }
 
-    /// The status of the oldest deferred write, where it was taken.
+    /// Returns the status of the oldest deferred write, if it was taken.
     pub(crate) fn oldest_reply<'a>(&self, core: &'a Core) -> Option<&'a Reply>
         requires { AreHeld core.now self.now.deferred }
         ensures { option_copied result ≡ oldest_reply core.now self.now.deferred }
@@ -43,7 +43,7 @@ impl TokioCompatFile {
         }
     }
 
-    /// Takes the oldest deferred write out, whose status was taken, and gives what that says.
+    /// Takes out the oldest deferred write, whose status was taken, and returns the value of that status.
     pub(crate) fn take_oldest(&mut self, core: &mut Core) -> Result<(), Error>
         requires held { AreHeld core.old self.old.deferred }
         requires taken { IsSome (oldest_reply core.old self.old.deferred) }
@@ -65,7 +65,7 @@ impl TokioCompatFile {
         status_value(take_reply(core, ticket))
     }
 
-    /// Looks at the oldest deferred write: a refusal is taken out and answered, and a status of OK stays.
+    /// Looks at the oldest deferred write: a refusal is taken out and returned, and a status of OK stays.
     pub(crate) fn poll_oldest(&mut self, core: &mut Core) -> Poll<Result<(), Error>>
         requires held { AreHeld core.old self.old.deferred }
         requires counted { oldest_len self.old.deferred ≤ self.old.pending }
@@ -87,9 +87,9 @@ impl TokioCompatFile {
     }
 }
 
-/// What the reply to a WRITE says.
+/// Returns the value of a reply to a WRITE.
 fn status_value(reply: Reply) -> Result<(), Error>
-    requires { allows expected.Status reply ≡ true }
+    requires { allows_reply expected.Status reply ≡ true }
     ensures { result ≡ status_value reply }
 {
     match reply {

@@ -10,11 +10,13 @@ use sftp_file::{Error, sought};
 use std::io::SeekFrom;
 
 impl TokioCompatFile {
-    /// Moves the offset; no request is needed. Where it changes, the READ under way is given up; a move forward inside
-    /// the buffer keeps the bytes from there on, and any other move none.
+    /// Moves the offset; no request is needed. If the offset changes, the READ under way is given up. A move forward
+    /// inside the buffer keeps the bytes from there on, and any other move none.
     ///
-    /// `IOError`, of which `SeekFromEnd` comes for each position from the end, `SeekOverflow` where the offset would be
-    /// over 18446744073709551615, and `SeekUnderflow` where it would be below 0. Refused, core and file are as before.
+    /// # Errors
+    ///
+    /// `IOError`; core and file are unchanged then. `SeekFromEnd` comes for each position from the end, `SeekOverflow`
+    /// if the offset would be over 18446744073709551615, and `SeekUnderflow` if it would be below 0.
     pub fn start_seek(&mut self, core: &mut Core, position: SeekFrom) -> Result<(), Error>
         requires { IsSound core.old self.old }
         ensures { SeeksTo position core.old core.new self.old self.new result }
@@ -32,7 +34,7 @@ impl TokioCompatFile {
         }
     }
 
-    /// Stands at another offset.
+    /// Sets the offset to another.
     fn stand(&mut self, core: &mut Core, from: u64, to: u64)
         requires sound { IsSound core.old self.old }
         requires here { self.old.file.offset ≡ from }

@@ -1,10 +1,10 @@
 //! The file below the buffer: taken out, shared, and lent.
 ghost use Rattle.std.specs.Borrow.{sem};
 ghost use Rattle.std.specs.Prelude.{◌≡◌, ◌<◌};
-ghost use Rattle.sftp_core.specs.Core.{Core as CoreValue, at, retained, users_of, IsGrant};
+ghost use Rattle.sftp_core.specs.Core.{Core as CoreValue, record_at, core_after_retain, users_of, IsGrant};
 ghost use Rattle.sftp_buffered.specs.Buffered.{AreHeld, IsHeld, IsSound, new_value};
 ghost use Rattle.sftp_buffered.specs.Lending.{LendsFile};
-ghost use Rattle.sftp_buffered.specs.Whole.{Abandons, Empties, all_dropped};
+ghost use Rattle.sftp_buffered.specs.Whole.{AbandonsRequests, EmptiesBuffer, all_dropped};
 
 use crate::buffer::abandon_read;
 use crate::file::{DeferredWrite, ReadUnderWay, TokioCompatFile};
@@ -14,12 +14,12 @@ use sftp_file::File;
 use std::collections::VecDeque;
 
 impl TokioCompatFile {
-    /// The file below. The buffer is dropped, and the deferred writes and the READ under way are given up: they stay
+    /// Returns the file below. The buffer is dropped, and the deferred writes and the READ are given up: they stay
     /// under way, and their replies are dropped.
     pub fn into_inner(self, core: &mut Core) -> File
         requires { IsSound core.old self }
         ensures file { result ≡ self.file }
-        ensures abandons { Abandons core.old core.new self }
+        ensures abandons { AbandonsRequests core.old core.new self }
     {
         let TokioCompatFile {
             file,
@@ -36,26 +36,26 @@ impl TokioCompatFile {
         file
     }
 
-    /// The file below, to be moved or asked. The buffer is emptied before, and the READ under way is given up; the
-    /// deferred writes stay.
+    /// Returns the file below, to be moved or asked. The buffer is emptied before, and the READ under way is given up;
+    /// the deferred writes stay.
     pub fn as_mut_file(&mut self, core: &mut Core) -> &mut File
         requires { IsSound core.old self.old }
         ensures* writes_back { sem 𝓛 (LendsFile self.entry result) }
         ensures value { result.now ≡ self.old.file }
-        ensures empties { Empties core.old core.new self.old }
+        ensures empties { EmptiesBuffer core.old core.new self.old }
     {
         self.buffered.clear();
         self.drop_read(core);
         &mut self.file
     }
 
-    /// The same file once more, for one user more, at the same offset and with the same buffer length; nothing of it is
+    /// Returns the same file for another user, at the same offset and with the same buffer length; nothing of it is
     /// buffered or under way.
     pub fn clone_compat(&self, core: &mut Core) -> TokioCompatFile
         requires counted { IsGrant core.old self.now.file.grant }
-        requires few { users_of (at core.old self.now.file.grant.id) < 4294967295 }
+        requires few { users_of (record_at core.old self.now.file.grant.id) < 4294967295 }
         ensures file { result ≡ new_value self.now.file self.now.buffer_len }
-        ensures core { core.new ≡ retained core.old self.now.file.grant }
+        ensures core { core.new ≡ core_after_retain core.old self.now.file.grant }
         ensures granted { IsGrant core.new self.now.file.grant }
         ensures sound { (other : CoreValue) → IsSound other result }
     {
@@ -71,7 +71,7 @@ impl TokioCompatFile {
         }
     }
 
-    /// Lets the file go where its core was given up. No CLOSE is sent.
+    /// Releases the file after its core was given up. No CLOSE is sent.
     pub fn let_go(self, core: Ended) {
         let TokioCompatFile {
             file,

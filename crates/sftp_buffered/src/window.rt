@@ -1,9 +1,9 @@
-//! The window of deferred writes: how many bytes the next WRITE may carry.
+//! Windows of deferred writes: how many bytes the next WRITE may carry.
 ghost use Rattle.std.specs.Prelude.{◌≡◌, ◌≤◌, ◌<◌, ◌+◌, ◌^◌, true, IsSome};
 ghost use Rattle.plan_model.specs.BufferPlans.{is_good};
 ghost use Rattle.sftp_model.specs.Numbers.{MAX_TRANSFER_LEN};
 ghost use Rattle.sftp_buffered.specs.Buffered.{AreHeld, IsHeldRead, IsSound};
-ghost use Rattle.sftp_buffered.specs.Steps.{after_written, freed, freed_core, must_wait, oldest_len, oldest_reply, read_dropped, room_of};
+ghost use Rattle.sftp_buffered.specs.Steps.{after_written, with_oldest_settled, freed_core, must_wait, oldest_len, oldest_reply, read_dropped, room_of};
 ghost use Rattle.sftp_buffered.specs.Writes.{IsWindow};
 ghost use Rattle.sftp_file.specs.Files.{facts_of};
 ghost use Rattle.sftp_core.specs.Info.{info_of};
@@ -13,30 +13,30 @@ use crate::limits::{write_len, write_limit};
 use sftp_core::Core;
 use sftp_file::{Error, Poll};
 
-/// What a window has for a WRITE.
+/// The room that a window has for a WRITE.
 #[derive(Clone, Copy, Debug)]
 pub(crate) struct Window {
-    /// The most bytes that it may carry.
+    /// The most bytes that the WRITE may carry.
     pub len: usize,
-    /// Whether the window is full, so that the oldest status, which is good, makes way.
+    /// True if the window is full, so that the oldest status, which is good, makes way.
     pub is_full: bool,
 }
 
 impl TokioCompatFile {
-    /// Whether the window is full, so that the oldest status must make way.
+    /// Returns true if the window is full, so that the oldest status must make way.
     fn must_wait(&self, core: &Core) -> bool
         ensures { result ≡ must_wait (facts_of core.now) self.now }
     {
         self.oldest().is_some() && self.pending == write_limit(core)
     }
 
-    /// How many bytes one WRITE may carry, where the oldest status makes way or not.
+    /// Returns how many bytes one WRITE may carry, if the oldest status makes way or not.
     fn window_len(&self, core: &Core, full: bool) -> usize
         requires ready { IsSome (info_of core.now.phase) }
         requires counted { oldest_len self.now.deferred ≤ self.now.pending }
-        ensures len { result ≡ room_of (facts_of core.now) (freed full self.now) }
+        ensures len { result ≡ room_of (facts_of core.now) (with_oldest_settled full self.now) }
         ensures short { result ≤ MAX_TRANSFER_LEN }
-        ensures counts { (freed full self.now).pending + result < 2 ^ 64 }
+        ensures counts { (with_oldest_settled full self.now).pending + result < 2 ^ 64 }
     {
         let mut pending = self.pending;
         if full {
@@ -46,8 +46,8 @@ impl TokioCompatFile {
         (write_len(core) as u64).min(room) as usize
     }
 
-    /// The room for the next WRITE. In a full window it comes once the oldest status was taken; a refusal is taken out
-    /// and answered, and a status of OK stays until the WRITE is submitted.
+    /// Returns the room for the next WRITE. In a full window it comes once the oldest status was taken. A refusal is
+    /// taken out and returned; a status of OK stays until the WRITE is submitted.
     pub(crate) fn poll_window(&mut self, core: &mut Core) -> Poll<Result<Window, Error>>
         requires ready { IsSome (info_of core.old.phase) }
         requires sound { IsSound core.old self.old }
@@ -67,12 +67,12 @@ impl TokioCompatFile {
         }))
     }
 
-    /// Takes the oldest status out, which is good, where the window is full.
+    /// Takes out the oldest status, which is good, if the window is full.
     pub(crate) fn make_way(&mut self, core: &mut Core, full: bool)
         requires held { AreHeld core.old self.old.deferred }
         requires good { full ≡ true → is_good (oldest_reply core.old self.old.deferred) ≡ true }
         requires counted { full ≡ true → oldest_len self.old.deferred ≤ self.old.pending }
-        ensures left { self.new ≡ freed full self.old }
+        ensures left { self.new ≡ with_oldest_settled full self.old }
         ensures core { core.new ≡ freed_core full core.old self.old }
     {
         if full {
@@ -80,7 +80,7 @@ impl TokioCompatFile {
         }
     }
 
-    /// Stands behind so many bytes that were written, and gives up the READ under way.
+    /// Moves the offset past `len` bytes that were written, and gives up the READ under way.
     pub(crate) fn go_behind(&mut self, core: &mut Core, len: usize)
         requires fits { self.old.file.offset + len < 2 ^ 64 }
         requires counts { self.old.pending + len < 2 ^ 64 }

@@ -3,12 +3,12 @@ use Rattle.std.proofs.Common.{◌≡◌, ℕ, false, true, List, inl, refl, sym,
 use Rattle.std.specs.Prelude.{Option, Some, None, Err, IfSome}
 use Rattle.sftp_link.specs.Views.{SinkView}
 use Rattle.sftp_map_server.specs.Serving.{Serving}
-use Rattle.sftp_script.specs.declared.script.Script.{Script}
-use Rattle.program_ends.specs.declared.ending.Answered.TheVariants.{Done}
-use Rattle.program_ends.specs.declared.ending.Failure.TheVariants.{OutOfMemory}
-use Rattle.program_ends.specs.Ended.{End, EndsAtSink, IsServerOf, Only}
-use Rattle.program_ends.specs.Texts.{answered_of, text_of}
-use Rattle.program_ends.proofs.Writing.{at_sink, nothing_new, right_at_sink}
+use Rattle.script_grammar.specs.declared.script.Script.{Script}
+use Rattle.program_shell.specs.declared.ending.Answered.TheVariants.{Done}
+use Rattle.program_shell.specs.declared.ending.ProgramFailure.TheVariants.{OutOfMemory}
+use Rattle.program_shell.specs.Ended.{End, EndsAtSink, IsServerOf, IsOnlyAnswer}
+use Rattle.program_shell.specs.Texts.{answered_of, text_of}
+use Rattle.program_shell.proofs.Writing.{at_sink, nothing_new, right_at_sink}
 use Rattle.sftp_cli.specs.declared.bulk.Numbers.{Numbers}
 use Rattle.sftp_cli.specs.declared.printed.Form.TheVariants as form
 use Rattle.sftp_cli.specs.Ended.{EndsSummed, RightSummary}
@@ -17,13 +17,18 @@ use Rattle.sftp_cli.specs.Words.{AtPath, Bulk, InMemory, Text, asked_by, bulk_of
 
 -- ---- a script that three numbers make
 
-pub summary_starved : (script : Script) (kept : Option Serving) (to : SinkView) → IfSome kept (λ server. IsServerOf script server)
+pub summary_starved : (script : Script) (kept : Option Serving) (to : SinkView)
+    → IfSome kept (λ server. IsServerOf script server)
     → EndsSummed script (Err OutOfMemory) kept to to
 summary_starved script kept to k =
-    record { writes = record { wrote = inl (nothing_new to.written); cause = refl; only = ((λ e. cc e), (λ e. cc e)) }; left = k }
+    record {
+      writes = record { wrote = inl (nothing_new to.written); cause = refl; only = ((λ e. cc e), (λ e. cc e)) };
+      left = k;
+    }
 
 -- what is kept is a server of the script, under another name for it
-kept_as : (script made : Script) (kept : Option Serving) → made ≡ script → IfSome kept (λ server. IsServerOf made server)
+kept_as : (script made : Script) (kept : Option Serving) → made ≡ script
+    → IfSome kept (λ server. IsServerOf made server)
     → IfSome kept (λ server. IsServerOf script server)
 kept_as script made kept is k = subst (λ (s : Script). IfSome kept (λ server. IsServerOf s server)) is k
 
@@ -33,7 +38,7 @@ summary_unwritten script made kept to is k = summary_starved script kept to (kep
 
 pub summary_answered : (script made : Script) (kept : Option Serving) (text items : List ℕ) (end : End)
     (to to_now : SinkView) → made ≡ script → text ≡ items → IsPrinted form.Summary kept made items
-    → IfSome kept (λ server. IsServerOf made server) → EndsAtSink (Only Done text) end to to_now
+    → IfSome kept (λ server. IsServerOf made server) → EndsAtSink (IsOnlyAnswer Done text) end to to_now
     → EndsSummed script end kept to to_now
 summary_answered script made kept text items end to to_now is same r k w =
     let right : RightSummary kept script Done text = (
@@ -44,7 +49,8 @@ summary_answered script made kept text items end to to_now is same r k w =
     let left = kept_as script made kept is k in
     record {
       writes = right_at_sink (RightSummary kept script) Done text end to to_now right w;
-      left = at_sink (λ why. IfSome kept (λ server. IsServerOf script server)) (Only Done text) end to to_now w left left;
+      left = at_sink (λ why. IfSome kept (λ server. IsServerOf script server)) (IsOnlyAnswer Done text) end to to_now w
+          left left;
     }
 
 -- ---- what the words ask for

@@ -1,9 +1,12 @@
-pub mod Files
-pub mod Running
-pub mod Reading
-pub mod Exits
-pub mod Linked
-pub mod Fixing
-pub mod Completing
-pub mod Causing
-pub mod BulkRuns
+mod Files
+mod Running
+mod Reading
+mod Exits
+mod Linked
+mod Fixing
+mod Completing
+mod Causing
+mod BulkRuns
+mod ScriptLaws
+mod Sending
+mod Steps

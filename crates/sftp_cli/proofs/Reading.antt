@@ -1,7 +1,7 @@
 -- Too many bytes are no script.
 use Rattle.std.proofs.Common.{refl}
-use Rattle.sftp_script.specs.Scripts.{script_of}
-use Rattle.program_ends.proofs.Reading.{RefusesLong}
+use Rattle.script_grammar.specs.Scripts.{script_of}
+use Rattle.program_shell.proofs.Reading.{RefusesLong}
 
 pub long_refused : RefusesLong script_of
 long_refused bytes h = rw h refl

@@ -8,20 +8,20 @@ use Rattle.sftp_model.specs.declared.options.SftpOptions.{SftpOptions}
 use Rattle.sftp_model.specs.declared.reply.Reply.{Reply}
 use Rattle.plan_model.specs.declared.call.Lane.{Lane}
 use Rattle.session_model.specs.declared.report.Report.{Report}
-use Rattle.sftp_script.specs.declared.script.Script.{Script}
+use Rattle.script_grammar.specs.declared.script.Script.{Script}
 use Rattle.session_model.specs.declared.turn.Turn.{Turn}
 use Rattle.plan_model.specs.Lanes.{are_ok}
-use Rattle.session_model.specs.Settings.{greeting, setting_of}
-use Rattle.session_model.specs.Shown.{Shows}
+use Rattle.session_model.specs.Settings.{version_reply_of, setting_of}
+use Rattle.session_model.specs.Shown.{ShowsExchange}
 use Rattle.sftp_cli.specs.declared.printed.Form.{Form}
-use Rattle.session_driver.specs.Session.{Given, IsFixed}
+use Rattle.session_driver.specs.Session.{SessionInputs, IsFixed}
 use Rattle.sftp_map_server.specs.Serving.{IsServing, Serving, version_reply}
 use Rattle.sftp_map_server.specs.Unopened.{IsUnopened}
-use Rattle.map_server_laws.proofs.Whole.{version_is_told, run_is_served}
+use Rattle.machine_laws.proofs.Whole.{version_is_told, run_is_served}
 use Rattle.sftp_lanes.specs.Reported.{IsReport}
 use Rattle.sftp_lanes.specs.ServesFiles.{ServesFiles}
-use Rattle.program_ends.specs.Ended.{IsServerOf}
-use Rattle.program_ends.proofs.Stopping.{begins_well, from_empty}
+use Rattle.program_shell.specs.Ended.{IsServerOf}
+use Rattle.program_shell.proofs.Stopping.{begins_well, from_empty}
 use Rattle.sftp_cli.specs.Printed.{IsPrinted, IsServedReport, report_text}
 
 -- a value in Some
@@ -34,28 +34,29 @@ pub server_serves_files : (lanes : List Lane) (options : SftpOptions) (server : 
     → ServesFiles lanes options server.first.state.machine.config server.first.state.choices
     server.first.state.machine.tree server.now.state.machine.tree [] server.log
 server_serves_files lanes options server ok new serving extensions turns past run shown =
-    (run_is_served (record { lanes = lanes; options = options }) (Some (greeting extensions))
+    (run_is_served (record { lanes = lanes; options = options }) (Some (version_reply_of extensions))
     (setting_of lanes options extensions past) turns past server new serving ok run (extensions, (refl, refl))
     shown).serves
 
 pub served_report : (lanes : List Lane) (options : SftpOptions) (turns : List Turn) (old now : Serving) (r : Report)
     → are_ok lanes ≡ true → IsUnopened old.first → old.log ≡ [] → now.first ≡ old.first
-    → IsServing now.first now.now now.log now.ended → IsReport lanes options turns (Some old.log) (Some now.log) r → IsServedReport lanes options turns now r
+    → IsServing now.first now.now now.log now.ended → IsReport lanes options turns (Some old.log) (Some now.log) r
+    → IsServedReport lanes options turns now r
 served_report lanes options turns old now r ok new none same serving report =
-    let given : Given = record { lanes = lanes; options = options } in
-    let hello : Option Reply = Some (greeting report.extensions) in
+    let given : SessionInputs = record { lanes = lanes; options = options } in
+    let hello : Option Reply = Some (version_reply_of report.extensions) in
     let s = setting_of lanes options report.extensions report.past in
     let fixed : IsFixed given hello report.past s = (report.extensions, (refl, refl)) in
     let fresh : IsUnopened now.first = subst IsUnopened (sym same) new in
-    let shown : Shows (greeting report.extensions) report.past [] now.log =
-    from_empty (Shows (greeting report.extensions) report.past) old.log now.log none report.log in
+    let shown : ShowsExchange (version_reply_of report.extensions) report.past [] now.log =
+    from_empty (ShowsExchange (version_reply_of report.extensions) report.past) old.log now.log none report.log in
     let told = version_is_told given hello s report.past now fresh serving fixed shown in
     let served = run_is_served given hello s turns report.past now fresh serving ok report.run fixed shown in
     record {
       extensions = report.extensions;
       past = report.past;
       run = report.run;
-      version = some_is (greeting report.extensions) (version_reply now.first.state.machine.config) told;
+      version = some_is (version_reply_of report.extensions) (version_reply now.first.state.machine.config) told;
       shown = shown;
       served = served;
       closed = report.closed;

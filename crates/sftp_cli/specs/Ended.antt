@@ -1,39 +1,39 @@
--- How the program ends, by what the words of its command line ask for.
+-- The end of the program, by the request of its command line.
 use Rattle.std.specs.Prelude.{◌≡◌, ℕ, List, Option, None, IfSome, IfErr}
-use Rattle.sftp_bulk.specs.Bulk.{bulk_script}
+use Rattle.sftp_cli.specs.Bulk.{bulk_script}
 use Rattle.sftp_link.specs.Views.{SinkView, SourceView}
 use Rattle.sftp_map_server.specs.Serving.{Serving}
-use Rattle.sftp_script.specs.declared.script.Script.{Script}
-use Rattle.sftp_script.specs.Scripts.{script_of}
-use Rattle.program_ends.specs.declared.ending.Answered.{Answered}
-use Rattle.program_ends.specs.declared.ending.Answered.TheVariants.{Done}
-use Rattle.program_ends.specs.Ended.{
+use Rattle.script_grammar.specs.declared.script.Script.{Script}
+use Rattle.script_grammar.specs.Scripts.{script_of}
+use Rattle.program_shell.specs.declared.ending.Answered.{Answered}
+use Rattle.program_shell.specs.declared.ending.Answered.TheVariants.{Done}
+use Rattle.program_shell.specs.Ended.{
   End,
   EndsAtSink,
   EndsInMemory,
   EndsOverLink,
   IsServerOf,
-  Only,
+  IsOnlyAnswer,
   status_of,
 }
-use Rattle.program_ends.specs.Outside.{Outside}
+use Rattle.program_shell.specs.Outside.{Outside}
 use Rattle.sftp_cli.specs.declared.printed.Form.TheVariants as form
 use Rattle.sftp_cli.specs.Dialled.{RunsOver}
 use Rattle.sftp_cli.specs.Printed.{IsPrinted}
 use Rattle.sftp_cli.specs.Words.{Asked, InMemory, AtPath, Bulk, Text}
 
--- a script that the source gives is run over a server of its own files in memory, and the text of the run is written
+-- A script from the source is run over a server of its own files in memory, and the text of the run is written.
 abbrev pub EndsScript : End → Option Serving → SourceView → SourceView → SinkView → SinkView → Type 0
 EndsScript = EndsInMemory script_of (λ script. script) (IsPrinted form.Whole)
 
--- a script that the source gives is run over a link to the server at a path, and the text of the run is written
+-- A script from the source is run over a link to the server at a path, and the text of the run is written.
 abbrev pub EndsScriptAt : {History : Type 0} → (List ℕ → History → History) → List ℕ → End → Outside History
     → Outside History → Type 0
 EndsScriptAt = EndsOverLink script_of RunsOver
 
--- ---- a script that three numbers make
+-- ---- A script that three numbers make
 
--- the summary of a run over a server that is kept
+-- The summary of a run over a server that is kept.
 abbrev pub RightSummary : Option Serving → Script → Answered → List ℕ → Type 0
 RightSummary kept script answered text = (answered ≡ Done) × IsPrinted form.Summary kept script text
 
@@ -41,9 +41,9 @@ pub record EndsSummed (script : Script) (end : End) (kept : Option Serving) (bef
   pub writes : EndsAtSink (RightSummary kept script) end before now
   pub left : IfErr end (λ why. IfSome kept (λ server. IsServerOf script server))
 
--- ---- all words
+-- ---- All arguments
 
--- by what is asked for: how it ends, what is kept, and that what is not needed stays as it was
+-- The end for each request, the server that is kept, and the unused parts of the environment, which are unchanged.
 abbrev pub EndsSo : {History : Type 0} → (List ℕ → History → History) → Asked → End → Option Serving → Outside History
     → Outside History → Type 0
 EndsSo dialled InMemory end kept before now =
@@ -53,10 +53,10 @@ EndsSo dialled (Bulk n) end kept before now =
     EndsSummed (bulk_script n.start n.lanes n.calls) end kept before.sink now.sink
     × (now.source ≡ before.source) × (now.dial ≡ before.dial)
 EndsSo dialled (Text answered text) end kept before now =
-    EndsAtSink (Only answered text) end before.sink now.sink
+    EndsAtSink (IsOnlyAnswer answered text) end before.sink now.sink
     × (kept ≡ None) × (now.source ≡ before.source) × (now.dial ≡ before.dial)
 
--- the program ends with this status
+-- The program ends with this status.
 pub record ProgramEnds {History : Type 0} (dialled : List ℕ → History → History) (asked : Asked) (status : ℕ)
     (kept : Option Serving) (before now : Outside History) : Type 0 where
   pub end : End

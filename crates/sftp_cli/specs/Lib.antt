@@ -3,3 +3,6 @@ pub mod Printed
 pub mod Dialled
 pub mod Ended
 pub mod Completed
+pub mod Bulk
+pub mod BulkRows
+pub mod Summary

@@ -1,10 +1,10 @@
-//! The words of the command line, and the text of `--help`.
+//! The arguments of the command line, and the text of `--help`.
 ghost use Rattle.std.specs.Prelude.{◌≡◌, map};
 ghost use Rattle.std.specs.Option.{option_copied};
 ghost use Rattle.std.specs.String.{string_bytes};
 ghost use Rattle.sftp_cli.specs.Words.{help_text, is_script, path_of};
 
-/// What `--help` writes.
+/// Returns the text of `--help`.
 #[tactic(auto, unfolding(crate::specs::Words::help_text))]
 pub(crate) fn help_text() -> &'static str
     ensures { result.now ≡ help_text }
@@ -12,22 +12,28 @@ pub(crate) fn help_text() -> &'static str
     "\
 Usage: sftp_cli script | unix PATH | bulk START LANES CALLS | --help | --version
 
-  script       runs the script on standard input over a server of its files in memory
-  unix PATH    runs it over the SFTP server that listens on the Unix socket PATH
+  script       run the script on standard input over a server of its files in memory
+  unix PATH    run it over the SFTP server that listens on the Unix socket PATH
   bulk START LANES CALLS
-               runs a script that the three numbers make, and writes a summary
-  --help       writes this text
-  --version    writes the version
+               run a script that is generated from three numbers, and write a summary
+  --help       print this help
+  --version    print the version
 
-The frames that were sent and taken, the outcomes of the calls and, with script, the
-files that are left are written to standard output. The status is 0 where all was done,
-1 where the session failed, 2 for a script or words that can't be used, 3 where the
-input failed, 4 where the output failed, 5 where memory ran out, and 6 where nothing
-answers at PATH.
+The program writes to standard output the frames sent and received, the outcome of each
+call and, with script, the files left on the server.
 
-A script has a command a line. lane begins a list of calls that run one after another; all
-lanes run at once. Paths and bytes are hexadecimal, or - for none. These lines write a file
-and read it:
+Exit status:
+  0  everything was done
+  1  the session failed
+  2  the script or the arguments are invalid
+  3  standard input failed
+  4  standard output failed
+  5  out of memory
+  6  no server listens at PATH
+
+A script has one command per line. The command lane starts a list of calls that run one
+after another; all lanes run at once. Paths and bytes are hexadecimal, or - for none.
+These lines write a file and read it back:
 
   lane
   fs_write 61 68656c6c6f
@@ -35,11 +41,11 @@ and read it:
   read_all 0 5
   close 0
 
-docs/sftp_cli.1 names all lines, and docs/SPEC.md says what each of them means.
+docs/sftp_cli.1 lists all commands, and docs/SPEC.md says what each of them means.
 "
 }
 
-/// Whether the words are the one word `script`.
+/// Returns true if the arguments are the single argument `script`.
 pub(crate) fn is_script(words: &[String]) -> bool
     ensures { result ≡ is_script (map string_bytes words.now) }
 {
@@ -49,7 +55,7 @@ pub(crate) fn is_script(words: &[String]) -> bool
     }
 }
 
-/// The path, where the words are `unix` and a path.
+/// Returns the path, if the arguments are `unix` and a path.
 pub(crate) fn unix_path(words: &[String]) -> Option<&str>
     ensures { option_copied result ≡ path_of (map string_bytes words.now) }
 {

@@ -1,16 +1,16 @@
-// A script that three numbers make is run over a server in memory, and the summary of the run is written.
+//! Runs the script that three numbers make over a server in memory, and writes the summary of the run.
 ghost use Rattle.std.specs.Prelude.{◌≡◌, ◌<◌, ◌-◌, ◌^◌, None, map, IfOk, IfSome};
 ghost use Rattle.std.specs.String.{string_bytes};
-ghost use Rattle.sftp_bulk.specs.Bulk.{bulk_script};
+ghost use Rattle.sftp_cli.specs.Bulk.{bulk_script};
 ghost use Rattle.sftp_cli.specs.Ended.{EndsSummed};
 ghost use Rattle.sftp_cli.specs.Words.{IsBulk, bulk_of, numbers_in};
 
+use crate::bulk_script;
 use crate::printed::Form;
-use program_ends::{Answered, Failure, text_in_memory, write_answer};
-use sftp_bulk::bulk_script;
+use program_shell::{Answered, ProgramFailure, text_in_memory, write_answer};
+use script_grammar::{Reason, number_in};
 use sftp_link::Sink;
 use sftp_map_server::MapServer;
-use sftp_script::{Reason, number_in};
 use std::alloc::Global;
 
 /// The most lanes of such a script.
@@ -23,17 +23,19 @@ const MAX_LANE_CALLS: u64 = 4096;
 const MAX_CALLS: u64 = 16384;
 
 /// The three numbers that make a script.
+///
+/// Used by the functions of this module.
 #[derive(Clone, Copy, Debug, PartialEq, Eq)]
 pub struct Numbers {
-    /// What the first draw is made of.
+    /// The number of which the first draw is made.
     pub start: u64,
-    /// How many lanes there are.
+    /// The number of lanes.
     pub lanes: u32,
-    /// How many calls each lane has.
+    /// The number of calls of each lane.
     pub calls: u32,
 }
 
-/// Three numbers, each within its range, and no more calls in all than may be.
+/// Returns the three numbers, if each is within its range and the calls in all are at most `MAX_CALLS`.
 fn numbers_in(start: &[u8], lanes: &[u8], calls: &[u8]) -> Result<Numbers, Reason>
     ensures value { result ≡ numbers_in start.now lanes.now calls.now }
     ensures bulk { IfOk result IsBulk }
@@ -51,7 +53,7 @@ fn numbers_in(start: &[u8], lanes: &[u8], calls: &[u8]) -> Result<Numbers, Reaso
     })
 }
 
-/// The numbers, where the words are `bulk` and three numbers that may stand there.
+/// Returns the numbers, if the arguments are `bulk` and three permitted numbers.
 pub(crate) fn bulk_numbers(words: &[String]) -> Option<Numbers>
     ensures value { result ≡ bulk_of (map string_bytes words.now) }
     ensures bulk { IfSome result IsBulk }
@@ -68,13 +70,14 @@ pub(crate) fn bulk_numbers(words: &[String]) -> Option<Numbers>
     }
 }
 
-/// Runs the script of three numbers over a server in memory, which is left in `kept`, and writes the summary of the run.
+/// Runs the script of three numbers over a server in memory, which is left in `kept`, and writes the summary of the
+/// run.
 pub(crate) fn run_bulk<K: Sink>(
     alloc: Global,
     numbers: Numbers,
     sink: &mut K,
     kept: &mut Option<MapServer>,
-) -> Result<Answered, Failure>
+) -> Result<Answered, ProgramFailure>
     requires bulk { IsBulk numbers }
     requires none { kept.old ≡ None }
     requires sink { (K.state sink.old).faults < 2 ^ 64 - 1 }

@@ -1,23 +1,40 @@
-//! The program of Tilfrjon.
+//! The command line program of Tilfrjon.
 #![tactic(auto)]
 
 mod answer;
 mod bulk;
+mod bulk_laws;
+#[cfg(test)]
+mod bulk_tests;
+mod content;
+mod drawn_script;
+mod draws;
+mod kind;
 mod laws;
 mod printed;
 mod run;
 mod script;
+mod summary;
 #[cfg(test)]
 mod tests;
+mod text;
 
+pub use bulk_laws::{
+    bulk_lanes_are_ok, bulk_scripts_are_whole, bulk_servers_may_begin, traces_keep_requests,
+};
+pub use drawn_script::bulk_script;
 pub use laws::{
     runs_are_complete, scripts_fix_texts, servers_in_memory_serve_files, statuses_have_causes,
 };
-use program_ends::{OUT_OF_MEMORY, exit_with, words_given};
+use program_shell::{OUT_OF_MEMORY, exit_with, words_given};
 pub use run::run;
+pub use script_grammar::Script;
+pub use session_model::Report;
 use sftp_link::{ReadSource, UnixDial, WriteSink};
 use ssh_encoding::OutOfMemory;
 use std::process::ExitCode;
+pub use summary::{Summary, summary_of};
+pub use text::write_summary;
 
 fn main(rt: HostRuntime) -> ExitCode {
     let words = match words_given(&rt) {

@@ -1,4 +1,4 @@
-//! Lanes are run over a server in memory, and the text of the run is made.
+//! Runs lanes over a server in memory, and makes the text of the run.
 ghost use Rattle.std.specs.Prelude.{◌≡◌, [], true, IfOk};
 ghost use Rattle.machine_model.specs.Listing.{file_at};
 ghost use Rattle.plan_model.specs.Lanes.{are_ok};
@@ -6,26 +6,28 @@ ghost use Rattle.sftp_map_server.specs.Unopened.{IsUnopened};
 ghost use Rattle.sftp_cli.specs.declared.printed.Form.TheVariants as form;
 ghost use Rattle.sftp_cli.specs.Printed.{IsServedReport, bytes_left, file_len_of, report_text};
 
-use program_ends::{want_of_memory, write_dirs, write_files};
+use crate::{summary_of, write_summary};
+use program_shell::{want_of_memory, write_dirs, write_files};
+use script_text::write_text;
 use session_model::{Lane, Report, Turn};
-use sftp_bulk::{summary_of, write_summary};
 use sftp_lanes::run_lanes;
 use sftp_map_server::MapServer;
 use sftp_model::SftpOptions;
-use sftp_text::write_text;
 use ssh_encoding::OutOfMemory;
 use std::alloc::Global;
 
-/// What is written of a run.
+/// The form of the text of a run.
+///
+/// Used in `crates/sftp_cli/src/run.rt`.
 #[derive(Clone, Copy, Debug, PartialEq, Eq)]
 pub enum Form {
-    /// Its frames, the outcomes, and the files and directories that are left.
+    /// The frames, the outcomes, and the files and directories that are left.
     Whole,
     /// The numbers of these.
     Summary,
 }
 
-/// Runs lanes over a server that nothing was sent to.
+/// Runs lanes over a server to which nothing was sent.
 #[tactic(auto, using(crate::proofs::Running::served_report))]
 pub(crate) fn served_run(
     alloc: Global,
@@ -41,7 +43,7 @@ pub(crate) fn served_run(
     ensures first { server.new.first ≡ server.old.first }
 {
     let result = run_lanes(alloc, server, lanes, turns, options);
-    // for the contract: its log is that of a server
+    // For the contract: its log is that of a server.
     let _ended = server.is_ended();
     match result {
         Ok(report) => Ok(report),
@@ -49,7 +51,7 @@ pub(crate) fn served_run(
     }
 }
 
-/// How many bytes file k has.
+/// Returns the size of file k in bytes.
 fn file_len_at(server: &MapServer, k: u64) -> u64
     ensures { result ≡ file_len_of (file_at server.now.now.state.machine.tree k) }
 {
@@ -59,7 +61,7 @@ fn file_len_at(server: &MapServer, k: u64) -> u64
     }
 }
 
-/// How many bytes all files have, or the greatest number of 64 bits where they are more.
+/// Returns the total size of all files in bytes, or the greatest number of 64 bits if it is more.
 #[tactic(auto, using(crate::proofs::Files::len_step, crate::proofs::Files::lens_end))]
 fn bytes_left(server: &MapServer) -> u64
     ensures { result ≡ bytes_left server.now.now.state.machine.tree }
@@ -71,7 +73,7 @@ fn bytes_left(server: &MapServer) -> u64
     count
 }
 
-/// The numbers of a report, and of the files that a server has.
+/// Returns the text of the numbers of a report, and of the files that a server has.
 fn summary_with_files(
     alloc: Global,
     report: &Report,
@@ -85,7 +87,7 @@ fn summary_with_files(
     Ok(text)
 }
 
-/// The frames and outcomes of a report, and the files and directories that a server has.
+/// Returns the text of the frames and outcomes of a report, and of the files and directories that a server has.
 fn text_with_files(
     alloc: Global,
     report: &Report,
@@ -100,7 +102,7 @@ fn text_with_files(
     Ok(text)
 }
 
-/// The text of a report, and of the files and directories that a server has.
+/// Returns the text of a report, and of the files and directories that a server has.
 pub(crate) fn report_text(
     alloc: Global,
     form: Form,

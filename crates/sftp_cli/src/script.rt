@@ -1,16 +1,16 @@
-//! How a script is run, over a server in memory or over a link, and what is written of it.
-ghost use Rattle.sftp_script.specs.CanRun.{CanRun};
-ghost use Rattle.sftp_script.specs.Scripts.{script_of};
+//! Runs a script over a server in memory or over a link, and returns its text.
+ghost use Rattle.script_grammar.specs.CanRun.{CanRun};
+ghost use Rattle.script_grammar.specs.Scripts.{script_of};
 ghost use Rattle.sftp_cli.specs.Dialled.{RunsOver};
 ghost use Rattle.sftp_cli.specs.Printed.{IsPrinted};
 
 use crate::printed::{Form, report_text, served_run};
-use program_ends::{Answered, LinkProgram, Printed, Program, stop_reply};
+use program_shell::{Answered, LinkProgram, Printed, Program, stop_reply};
+use script_grammar::{Script, ScriptError, read_script};
+use script_text::write_text;
 use sftp_lanes::run_lanes;
 use sftp_link::{Link, Logged};
 use sftp_map_server::MapServer;
-use sftp_script::{Script, ScriptError, read_script};
-use sftp_text::write_text;
 use ssh_encoding::OutOfMemory;
 use std::alloc::Global;
 
@@ -36,7 +36,8 @@ impl Program for Form {
         script
     }
 
-    /// Runs the lanes, and gives the text of the run and of what is left.
+    /// Runs the lanes, and returns the text of the run and of the files and directories that are left. Fails only if an
+    /// allocation fails.
     #[tactic(auto, using(crate::proofs::Running::is_printed))]
     fn text_over(
         &self,
@@ -54,8 +55,8 @@ impl Program for Form {
 impl LinkProgram for Form {
     ghost over = { λ form. RunsOver };
 
-    /// Runs the lanes, and gives the text of the whole run, or the line of the error that stopped it. The script's files, server,
-    /// choices and picks are passed over.
+    /// Runs the lanes, and returns the text of the whole run, or the line of the error that stopped it. The script's
+    /// files, server, choices and picks are ignored. Fails only if an allocation fails.
     #[tactic(auto, using(crate::proofs::Linked::is_shown))]
     fn reply_over<L: Link>(
         &self,

@@ -1,3 +1,4 @@
+//! Tests of whole runs of the program, with failing and working sources, sinks and dials.
 ghost use Rattle.std.specs.Prelude.{◌<◌, ◌-◌, ◌^◌};
 
 mod broken_links;
@@ -11,10 +12,10 @@ use sftp_link::{MemoryDial, MemorySink, MemorySource};
 use std::alloc::{AllocError, Global};
 use std::test::Fail;
 
-/// A file is opened, read and closed.
+/// A script that opens, reads and closes a file.
 const HELLO: &str = "file 61 68656c6c6f\nlane\nopen 0 r 61\nread 0 5\nclose 0\n";
 
-/// Words, a script, the numbers of the reads and the writes that fail, and the status and the text that are wanted.
+/// Arguments, a script, the numbers of the reads and the writes that fail, and the expected status and text.
 #[derive(Clone, Copy)]
 struct Run<'a> {
     words: &'a [&'a str],
@@ -25,7 +26,7 @@ struct Run<'a> {
     text: &'a str,
 }
 
-/// Whether a run over a dial ends as it is wanted.
+/// Returns true if a run over a dial ends as expected.
 fn ends_so(alloc: Global, wanted: &Run, dial: &mut MemoryDial) -> Result<bool, AllocError>
     requires { dial.old.faults < 2 ^ 64 - 1 }
 {
@@ -42,7 +43,7 @@ fn ends_so(alloc: Global, wanted: &Run, dial: &mut MemoryDial) -> Result<bool, A
     Ok(status == wanted.status && sink.bytes() == wanted.text.as_bytes())
 }
 
-/// Words, a script, the numbers of the reads and the writes that fail, and the status.
+/// Arguments, a script, the numbers of the reads and the writes that fail, and the status.
 type Row = (
     &'static [&'static str],
     &'static str,
@@ -51,7 +52,7 @@ type Row = (
     u8,
 );
 
-/// Runs that write nothing, since the source, the sink or the dial fails.
+/// Runs that write nothing, because the source, the sink or the dial fails.
 const FAILING: &[Row] = &[
     (&["script"], HELLO, &[0], &[], 3),
     (&["script"], HELLO, &[], &[0], 4),

@@ -8,7 +8,7 @@ use Rattle.sftp_core.specs.Info.{info_of}
 use Rattle.sftp_core.specs.declared.handshake.Handshake.{Handshake}
 use Rattle.sftp_link.specs.Views.{LinkView}
 use Rattle.sftp_client.specs.Sessions.{FlushesQueue, SftpValue, TakesOrKept, TakesFrame}
-use Rattle.sftp_client.specs.Rounds.{Drains, HasRounds, RoundStops}
+use Rattle.sftp_client.specs.Rounds.{DrainsReplies, HasRounds, RoundStops}
 use Rattle.sftp_client.proofs.Lowering.{all_awaited, hand_out_leaves, hand_out_waits, still_due, take_lowers, take_stays_open}
 
 -- what holds between two rounds
@@ -22,7 +22,8 @@ pub record DrainsOn {L S : Type 0} (state : L → LinkView S) (old new : SftpVal
   pub unfaulted : (state new.link).faults ≡ (state old.link).faults
 
 -- the link doesn't fail in rounds that go well
-pub drains_first : {L S : Type 0} (state : L → LinkView S) (old new : SftpValue L) (u : Unit {0}) → IsSome (info_of old.core.phase)
+pub drains_first : {L S : Type 0} (state : L → LinkView S) (old new : SftpValue L) (u : Unit {0})
+    → IsSome (info_of old.core.phase)
     → FlushesQueue state old new (Ok u) → DrainsOn state old new
 drains_first state old new u opened flushed =
     let sends = flushed.1 in record {
@@ -31,12 +32,14 @@ drains_first state old new u opened flushed =
       out = ap (λ (s : SftpValue _). s.core) sends.left;
       sent = ap (λ (s : SftpValue _). s.unsent) sends.left;
       unfailed = ap (λ (s : SftpValue _). s.core.fault) sends.left ∙ flushed.0;
-      opened = subst (λ (p : Handshake). IsSome (info_of p)) (sym (ap (λ (s : SftpValue _). s.core.phase) sends.left)) opened;
+      opened = subst (λ (p : Handshake). IsSome (info_of p)) (sym (ap (λ (s : SftpValue _). s.core.phase) sends.left))
+          opened;
       unfaulted = sends.unfaulted.cause;
     }
 
 -- where something is unanswered, a take takes a frame
-pub takes_one : {L S : Type 0} (state : L → LinkView S) (old mid new : SftpValue L) (took : Bool) → DrainsOn state old mid
+pub takes_one : {L S : Type 0} (state : L → LinkView S) (old mid new : SftpValue L) (took : Bool)
+    → DrainsOn state old mid
     → 0 < unanswered_of mid.core → TakesOrKept state mid new (Ok took) → TakesFrame state mid new
 takes_one state old mid new true d some takes = takes.1.1
 takes_one state old mid new false d some takes =
@@ -49,7 +52,8 @@ takes_one state old mid new false d some takes =
     absurd (omega (arith, none, all, due, gone, same, some))
 
 -- a round
-pub drains_next : {L S : Type 0} (state : L → LinkView S) (old mid took new : SftpValue L) (u : Unit {0}) → DrainsOn state old mid
+pub drains_next : {L S : Type 0} (state : L → LinkView S) (old mid took new : SftpValue L) (u : Unit {0})
+    → DrainsOn state old mid
     → TakesFrame state mid took → FlushesQueue state took new (Ok u) → DrainsOn state old new
 drains_next state old mid took new u d takes flushed =
     let sends = flushed.1 in
@@ -66,26 +70,33 @@ drains_next state old mid took new u d takes flushed =
       out = ap (λ (s : SftpValue _). s.core) sends.left;
       sent = ap (λ (s : SftpValue _). s.unsent) sends.left;
       unfailed = ap (λ (s : SftpValue _). s.core.fault) sends.left ∙ flushed.0;
-      opened = subst (λ (p : Handshake). IsSome (info_of p)) (sym (ap (λ (s : SftpValue _). s.core.phase) sends.left)) opened;
+      opened = subst (λ (p : Handshake). IsSome (info_of p)) (sym (ap (λ (s : SftpValue _). s.core.phase) sends.left))
+          opened;
       unfaulted = sends.unfaulted.cause ∙ (takes.unfaulted.cause ∙ d.unfaulted);
     }
 
 -- and less is due after it
-pub drains_less : {L S : Type 0} (state : L → LinkView S) (old mid took new : SftpValue L) (u : Unit {0}) → DrainsOn state old mid
+pub drains_less : {L S : Type 0} (state : L → LinkView S) (old mid took new : SftpValue L) (u : Unit {0})
+    → DrainsOn state old mid
     → TakesFrame state mid took → FlushesQueue state took new (Ok u) → still_due new.core < still_due mid.core
 drains_less state old mid took new u d takes flushed =
     let less = take_lowers mid.core took.core (reply_at takes.body) takes.told d.opened takes.right takes.taken in
-    let same : still_due new.core ≡ still_due (handed_out took.core) = ap (λ (s : SftpValue _). still_due s.core) flushed.1.left in
+    let same : still_due new.core ≡ still_due (handed_out took.core) =
+    ap (λ (s : SftpValue _). still_due s.core) flushed.1.left in
     let out = hand_out_leaves took.core in omega (arith, less, same, out)
 
-pub drain_counts : {L S : Type 0} (state : L → LinkView S) (old new : SftpValue L) → (state old.link).faults < 2 ^ 64 - 1 → DrainsOn state old new
+pub drain_counts : {L S : Type 0} (state : L → LinkView S) (old new : SftpValue L)
+    → (state old.link).faults < 2 ^ 64 - 1 → DrainsOn state old new
     → (state new.link).faults < 2 ^ 64 - 1
 drain_counts state old new count d = subst (λ (n : ℕ). n < 2 ^ 64 - 1) (sym d.unfaulted) count
 
-pub took_counts : {L S : Type 0} (state : L → LinkView S) (old mid new : SftpValue L) → (state old.link).faults < 2 ^ 64 - 1 → DrainsOn state old mid
+pub took_counts : {L S : Type 0} (state : L → LinkView S) (old mid new : SftpValue L)
+    → (state old.link).faults < 2 ^ 64 - 1 → DrainsOn state old mid
     → TakesFrame state mid new → (state new.link).faults < 2 ^ 64 - 1
-took_counts state old mid new count d takes = subst (λ (n : ℕ). n < 2 ^ 64 - 1) (sym (takes.unfaulted.cause ∙ d.unfaulted)) count
+took_counts state old mid new count d takes = subst (λ (n : ℕ). n < 2 ^ 64 - 1)
+    (sym (takes.unfaulted.cause ∙ d.unfaulted)) count
 
-pub drain_stops : {L S : Type 0} (state : L → LinkView S) (old mid new : SftpValue L) (e : Error) → DrainsOn state old mid
-    → RoundStops state mid new e → Drains state old new (Err e)
+pub drain_stops : {L S : Type 0} (state : L → LinkView S) (old mid new : SftpValue L) (e : Error)
+    → DrainsOn state old mid
+    → RoundStops state mid new e → DrainsReplies state old new (Err e)
 drain_stops state old mid new e d stops = inr (mid, (d.rounds, stops))

@@ -1,11 +1,11 @@
 pub mod Lowering
-pub mod Sending
-pub mod Getting
-pub mod Draining
-pub mod Taking
-pub mod Opening
+mod Sending
+mod Getting
+mod Draining
+mod Taking
+mod Opening
 pub mod Waiting
-pub mod Moving
-pub mod Listing
-pub mod WholeWaiting
-pub mod WriteWaiting
+mod Moving
+mod Listing
+mod WholeWaiting
+mod WriteWaiting

@@ -5,18 +5,18 @@ use Rattle.sftp_model.specs.ReplyReadings.{reply_at}
 use Rattle.sftp_model.specs.declared.error.Error.{Error}
 use Rattle.sftp_model.specs.declared.error.Error.TheVariants as error
 use Rattle.sftp_model.specs.declared.error.Fault.{Fault}
-use Rattle.sftp_core.specs.Core.{Core, at, awaited_of, failed_with, handed_out, is_ticket, reply_in}
+use Rattle.sftp_core.specs.Core.{Core, record_at, awaited_of, failed_with, handed_out, is_ticket, reply_in}
 use Rattle.sftp_core.specs.Info.{info_of}
 use Rattle.sftp_link.specs.Views.{LinkView}
-use Rattle.call_state.specs.Calls.{CallValue, CancelsAwaited, CountsGrant, HoldsReady, IsHeld, IsHeldAt, IsNoneOfCall, IsUnderWay, KeepsOtherTickets, Stepped, cancelled, is_ended}
-use Rattle.call_state.specs.Keeping.{KeepsHeld, KeepsGrants, SparesOthers}
-use Rattle.call_state.proofs.Sparing.{cancelled_spares, spares_both, spares_kept, spares_then, stepped_spares}
-use Rattle.call_state.specs.Runners.{Meaning}
-use Rattle.call_state.specs.declared.poll.Poll.{Poll}
-use Rattle.call_state.specs.declared.stage.Stage.{Stage}
-use Rattle.call_state.specs.declared.stage.Stage.TheVariants.{Ended, Ready, Unsent, Asked, Came}
-use Rattle.call_state.specs.declared.poll.Poll.TheVariants as poll
-use Rattle.call_state.proofs.Keeping.{grants_both, keeps_both, keeps_failed, keeps_handed_out, keeps_same, keeps_taken, keeps_unchanged, still_under_way}
+use Rattle.plan_state.specs.Calls.{CallValue, CancelsAwaited, CountsGrant, HoldsReady, IsHeld, IsHeldAt, IsNoneOfCall, IsUnderWay, KeepsOtherTickets, StepsByPlan, core_after_cancel, is_ended}
+use Rattle.plan_state.specs.Keeping.{KeepsHeld, KeepsGrants, SparesOthers}
+use Rattle.plan_state.proofs.Sparing.{cancelled_spares, spares_both, spares_kept, spares_then, stepped_spares}
+use Rattle.plan_state.specs.Runners.{Meaning}
+use Rattle.plan_state.specs.declared.poll.Poll.{Poll}
+use Rattle.plan_state.specs.declared.stage.Stage.{Stage}
+use Rattle.plan_state.specs.declared.stage.Stage.TheVariants.{Ended, Ready, Unsent, Asked, Came}
+use Rattle.plan_state.specs.declared.poll.Poll.TheVariants as poll
+use Rattle.plan_state.proofs.Keeping.{grants_both, keeps_both, keeps_failed, keeps_handed_out, keeps_same, keeps_taken, keeps_unchanged, still_under_way}
 use Rattle.sftp_core.specs.Table.{asks_handle, count, is_waiting}
 use Rattle.sftp_core.specs.declared.id_record.IdRecord.{IdRecord}
 use Rattle.sftp_core.specs.declared.id_record.IdRecord.TheVariants.{Answered, Granted, Waiting}
@@ -35,7 +35,7 @@ use Rattle.sftp_client.specs.Sessions.{
   TakesWhole,
   fault_by,
   failed_by,
-  handed,
+  with_queue_handed_out,
   kept_after,
   with_core,
 }
@@ -78,7 +78,7 @@ unfailed_flush state old new (Ok u) h = kept_out old.core new.core (ap (λ (s : 
 unfailed_flush state old new (Err e) (inl h) = send_stops state old new e h
 unfailed_flush state old new (Err e) (inr h) =
     keeps_both old.core (handed_out old.core) new.core (kept_out old.core (handed_out old.core) refl)
-    (send_stops state (handed old) new e h)
+    (send_stops state (with_queue_handed_out old) new e h)
 
 kept_same : {L : Type 0} (old new : SftpValue L) (e : Error) → IsKept old new e → new.core ≡ old.core
 kept_same old new (error.BackgroundTaskFailure fault) h = ap (λ (s : SftpValue _). s.core) h.1
@@ -112,7 +112,8 @@ whole_stops state old new e (inr h) = kept_failed old.core new.core h.fault (ap 
 unfailed_take : {L S : Type 0} (state : L → LinkView S) (old new : SftpValue L) (result : Result Bool Error)
     → IsSome (info_of old.core.phase) → TakesUnfailed state old new result → KeepsHeld old.core new.core
 unfailed_take state old new (Ok true) opened h = frame_stays state old new opened h.1
-unfailed_take state old new (Ok false) opened h = keeps_unchanged old.core new.core (ap (λ (s : SftpValue _). s.core) h.sends.left)
+unfailed_take state old new (Ok false) opened h = keeps_unchanged old.core new.core
+    (ap (λ (s : SftpValue _). s.core) h.sends.left)
 unfailed_take state old new (Err e) opened (inl h) = send_stops state old new e h
 unfailed_take state old new (Err e) opened (inr h) = whole_stops state old new e h.1
 
@@ -127,9 +128,11 @@ pub round_stays : {L S : Type 0} (state : L → LinkView S) (old new : SftpValue
     → SendsAndTakes state old new → KeepsHeld old.core new.core
 round_stays state old new opened h =
     let first = flush_stays state old h.mid (Ok tt) h.sends in
-    keeps_both old.core h.mid.core new.core first (take_stays state h.mid new (Ok h.took) (first.grants.opened opened) h.takes)
+    keeps_both old.core h.mid.core new.core first (take_stays state h.mid new (Ok h.took) (first.grants.opened opened)
+    h.takes)
 
-pub fail_stays : {L S : Type 0} (state : L → LinkView S) (old new : SftpValue L) (e : Error) → IsSome (info_of old.core.phase)
+pub fail_stays : {L S : Type 0} (state : L → LinkView S) (old new : SftpValue L) (e : Error)
+    → IsSome (info_of old.core.phase)
     → RoundFails state old new e → KeepsHeld old.core new.core
 fail_stays state old new e opened (inl h) = flush_stays state old new (Err e) h
 fail_stays state old new e opened (inr h) =
@@ -141,10 +144,11 @@ fail_stays state old new e opened (inr h) =
 -- a core has a ticket whose reply is missing
 pub record AwaitsOne (core : Core) : Type 0 where
   pub ticket : ℕ
-  pub counted : IsTrue (is_ticket (at core ticket))
-  pub missing : reply_in (at core ticket) ≡ None
+  pub counted : IsTrue (is_ticket (record_at core ticket))
+  pub missing : reply_in (record_at core ticket) ≡ None
 
-waiting_here : (core : Core) (ticket : ℕ) (p : Option IdRecord) → at core ticket ≡ p → IsTrue (is_ticket p) → reply_in p ≡ None
+waiting_here : (core : Core) (ticket : ℕ) (p : Option IdRecord) → record_at core ticket ≡ p → IsTrue (is_ticket p)
+    → reply_in p ≡ None
     → 0 < count is_waiting core.table
 waiting_here core ticket (Some (Waiting kind sent wanted)) here counted none =
     let w = count-remove is_waiting core.table ticket (Waiting kind sent wanted) here in omega (arith, w)
@@ -161,7 +165,7 @@ pub round_takes : {L S : Type 0} (state : L → LinkView S) (old new : SftpValue
     → IsSome (info_of old.core.phase) → AwaitsOne old.core → h.took ≡ true
 round_takes state old new h opened one =
     let out : h.mid.core ≡ handed_out old.core = ap (λ (s : SftpValue _). s.core) h.sends.1.left in
-    let some = waiting_here old.core one.ticket (at old.core one.ticket) refl one.counted one.missing in
+    let some = waiting_here old.core one.ticket (record_at old.core one.ticket) refl one.counted one.missing in
     let all = all_awaited old.core opened in
     let due : 0 < awaited_of h.mid.core = subst (λ (c : Core). 0 < awaited_of c) (sym out) (omega (arith, some, all)) in
     took_frame state h.mid new h.took due h.takes.1
@@ -188,7 +192,8 @@ pub record WaitsOn {W M V L S : Type 0} (s : Meaning W M V) (state : L → LinkV
   pub spares : SparesOthers old.core new.core (IsNoneOfCall p.stage) (IsNoneOfCall q.stage)
   pub unfaulted : (state new.link).faults ≡ (state old.link).faults
 
-pub waits_first : {W M V L S : Type 0} (s : Meaning W M V) (state : L → LinkView S) (old : SftpValue L) (p : CallValue M)
+pub waits_first : {W M V L S : Type 0} (s : Meaning W M V) (state : L → LinkView S) (old : SftpValue L)
+    (p : CallValue M)
     → MayWait s old.core p → WaitsOn s state 0 old old p p
 waits_first s state old p may =
     record {
@@ -216,7 +221,8 @@ holds_nothing : {W M V : Type 0} (s : Meaning W M V) (core : Core) (result : Pol
 holds_nothing s core result is = subst (λ r. HoldsReady s core r) (sym is) tt
 
 poll_leaves : {W M V L : Type 0} (s : Meaning W M V) (old new : SftpValue L) (p q : CallValue M)
-    (result : Poll (Result V Error)) → MayWait s old.core p → PolledIn s old new p q result → PollLeaves s old new p q result
+    (result : Poll (Result V Error)) → MayWait s old.core p → PolledIn s old new p q result
+    → PollLeaves s old new p q result
 poll_leaves s old new p q result may (inl h) =
     record {
       held = h.0.held;
@@ -229,12 +235,15 @@ poll_leaves s old new p q result may (inl h) =
     }
 poll_leaves s old new p q result may (inr h) =
     record {
-      held = subst (λ (x : SftpValue _). IsHeld s x.core q) (sym h.1.1.0) (subst (λ x. IsHeld s old.core x) (sym h.1.1.1) may.under_way.held);
+      held = subst (λ (x : SftpValue _). IsHeld s x.core q) (sym h.1.1.0)
+          (subst (λ x. IsHeld s old.core x) (sym h.1.1.1) may.under_way.held);
       holds = holds_nothing s new.core result h.1.0;
       grants = subst (λ (x : SftpValue _). KeepsGrants old.core x.core) (sym h.1.1.0) (keeps_same old.core).grants;
       others = subst (λ (x : SftpValue _). KeepsOtherTickets old.core x.core p.stage q.stage) (sym h.1.1.0)
-          (subst (λ x. KeepsOtherTickets old.core old.core p.stage x.stage) (sym h.1.1.1) (λ ticket kind apart here. (here, apart)));
-      spares = subst (λ (x : SftpValue _). SparesOthers old.core x.core (IsNoneOfCall p.stage) (IsNoneOfCall q.stage)) (sym h.1.1.0)
+          (subst (λ x. KeepsOtherTickets old.core old.core p.stage x.stage) (sym h.1.1.1)
+          (λ ticket kind apart here. (here, apart)));
+      spares = subst (λ (x : SftpValue _). SparesOthers old.core x.core (IsNoneOfCall p.stage) (IsNoneOfCall q.stage))
+          (sym h.1.1.0)
           (subst (λ x. SparesOthers old.core old.core (IsNoneOfCall p.stage) (IsNoneOfCall x.stage)) (sym h.1.1.1)
           (spares_kept old.core old.core (IsNoneOfCall p.stage) (keeps_same old.core)));
       opened = subst (λ (x : SftpValue _). IsSome (info_of x.core.phase)) (sym h.1.1.0) may.opened;
@@ -251,11 +260,13 @@ pending_on s old new p q (inr h) = absurd cc
 pending_awaits : {W M V L : Type 0} (s : Meaning W M V) (old new : SftpValue L) (p q : CallValue M)
     → PolledIn s old new p q poll.Pending → AwaitsOne new.core
 pending_awaits s old new p q (inl h) =
-    let held : IsHeldAt s new.core q.runner (Asked h.0.awaits.0) = subst (λ x. IsHeldAt s new.core q.runner x) h.0.awaits.1.0 h.0.held in
+    let held : IsHeldAt s new.core q.runner (Asked h.0.awaits.0) =
+    subst (λ x. IsHeldAt s new.core q.runner x) h.0.awaits.1.0 h.0.held in
     record { ticket = h.0.awaits.0; counted = held.counted; missing = h.0.awaits.1.1 }
 pending_awaits s old new p q (inr h) = absurd cc
 
-others_both : (a b c : Core) (x y z : Stage) → KeepsOtherTickets a b x y → KeepsOtherTickets b c y z → KeepsOtherTickets a c x z
+others_both : (a b c : Core) (x y z : Stage) → KeepsOtherTickets a b x y → KeepsOtherTickets b c y z
+    → KeepsOtherTickets a c x z
 others_both a b c x y z first last ticket kind apart h =
     let mid = first ticket kind apart h in last ticket kind mid.1 mid.0
 
@@ -264,7 +275,8 @@ others_kept a b c x y first k ticket kind apart h =
     let mid = first ticket kind apart h in (k.holds ticket kind mid.0, mid.1)
 
 -- a round
-pub waits_next : {W M V L S : Type 0} (s : Meaning W M V) (state : L → LinkView S) (count : ℕ) (old mid polled new : SftpValue L)
+pub waits_next : {W M V L S : Type 0} (s : Meaning W M V) (state : L → LinkView S) (count : ℕ)
+    (old mid polled new : SftpValue L)
     (p m q : CallValue M) → WaitsOn s state count old mid p m → PolledIn s mid polled m q poll.Pending
     → SendsAndTakes state polled new → WaitsOn s state (count + 1) old new p q
 waits_next s state count old mid polled new p m q w pending round =
@@ -291,11 +303,13 @@ waits_next s state count old mid polled new p m q w pending round =
         opened = stays.grants.opened left.opened;
         under_way = still_under_way s polled.core new.core q stays (pending_on s mid polled m q pending);
       };
-      grants = grants_both old.core polled.core new.core (grants_both old.core mid.core polled.core w.grants left.grants) stays.grants;
+      grants = grants_both old.core polled.core new.core (grants_both old.core mid.core polled.core w.grants
+          left.grants) stays.grants;
       others = others_kept old.core polled.core new.core p.stage q.stage
           (others_both old.core mid.core polled.core p.stage m.stage q.stage w.others left.others) stays;
       spares = spares_then old.core polled.core new.core (IsNoneOfCall p.stage) (IsNoneOfCall q.stage)
-          (spares_both old.core mid.core polled.core (IsNoneOfCall p.stage) (IsNoneOfCall m.stage) (IsNoneOfCall q.stage) w.spares left.spares)
+          (spares_both old.core mid.core polled.core (IsNoneOfCall p.stage) (IsNoneOfCall m.stage)
+          (IsNoneOfCall q.stage) w.spares left.spares)
           stays;
       unfaulted = round_unfaulted state polled new round ∙ (ap (λ l. (state l).faults) left.link ∙ w.unfaulted);
     })
@@ -305,7 +319,8 @@ where_ok (Ok value) h = h
 where_ok (Err e) h = tt
 
 -- the call answered
-pub waits_end : {W M V L S : Type 0} (s : Meaning W M V) (state : L → LinkView S) (count : ℕ) (old mid new : SftpValue L)
+pub waits_end : {W M V L S : Type 0} (s : Meaning W M V) (state : L → LinkView S) (count : ℕ)
+    (old mid new : SftpValue L)
     (p m q : CallValue M) (result : Result V Error) → WaitsOn s state count old mid p m
     → PolledIn s mid new m q (poll.Ready result) → HasWaited s state old new p q result
 waits_end s state count old mid new p m q result w polled =
@@ -320,7 +335,8 @@ waits_end s state count old mid new p m q result w polled =
       holds = left.holds;
       grants = grants_both old.core mid.core new.core w.grants left.grants;
       others = others_both old.core mid.core new.core p.stage m.stage q.stage w.others left.others;
-      spares = spares_both old.core mid.core new.core (IsNoneOfCall p.stage) (IsNoneOfCall m.stage) (IsNoneOfCall q.stage) w.spares left.spares;
+      spares = spares_both old.core mid.core new.core (IsNoneOfCall p.stage) (IsNoneOfCall m.stage)
+          (IsNoneOfCall q.stage) w.spares left.spares;
       unfaulted = where_ok result (ap (λ l. (state l).faults) left.link ∙ w.unfaulted);
     }
 
@@ -344,7 +360,8 @@ waits_out s state count old new p q w all =
     }
 
 -- or a round went wrong
-pub waits_stop : {W M V L S : Type 0} (s : Meaning W M V) (state : L → LinkView S) (count : ℕ) (old mid polled new : SftpValue L)
+pub waits_stop : {W M V L S : Type 0} (s : Meaning W M V) (state : L → LinkView S) (count : ℕ)
+    (old mid polled new : SftpValue L)
     (p m q : CallValue M) (e : Error) → WaitsOn s state count old mid p m → PolledIn s mid polled m q poll.Pending
     → RoundFails state polled new e → HasWaited s state old new p q (Err e)
 waits_stop s state count old mid polled new p m q e w pending fails =
@@ -359,16 +376,19 @@ waits_stop s state count old mid polled new p m q e w pending fails =
       ends = inl (inr (polled, (e, (pending, (fails, refl)))));
       held = on.held;
       holds = tt;
-      grants = grants_both old.core polled.core new.core (grants_both old.core mid.core polled.core w.grants left.grants) stays.grants;
+      grants = grants_both old.core polled.core new.core (grants_both old.core mid.core polled.core w.grants
+          left.grants) stays.grants;
       others = others_kept old.core polled.core new.core p.stage q.stage
           (others_both old.core mid.core polled.core p.stage m.stage q.stage w.others left.others) stays;
       spares = spares_then old.core polled.core new.core (IsNoneOfCall p.stage) (IsNoneOfCall q.stage)
-          (spares_both old.core mid.core polled.core (IsNoneOfCall p.stage) (IsNoneOfCall m.stage) (IsNoneOfCall q.stage) w.spares left.spares)
+          (spares_both old.core mid.core polled.core (IsNoneOfCall p.stage) (IsNoneOfCall m.stage)
+          (IsNoneOfCall q.stage) w.spares left.spares)
           stays;
       unfaulted = tt;
     }
 
-pub waits_count : {W M V L S : Type 0} (s : Meaning W M V) (state : L → LinkView S) (count : ℕ) (old mid polled : SftpValue L)
+pub waits_count : {W M V L S : Type 0} (s : Meaning W M V) (state : L → LinkView S) (count : ℕ)
+    (old mid polled : SftpValue L)
     (p m q : CallValue M) → (state old.link).faults < 2 ^ 64 - 1 → WaitsOn s state count old mid p m
     → PolledIn s mid polled m q poll.Pending → (state polled.link).faults < 2 ^ 64 - 1
 waits_count s state count old mid polled p m q few w pending =
@@ -385,7 +405,7 @@ ended_by s state count old new p q value (inl (inr h)) = absurd cc
 ended_by s state count old new p q value (inr h) = absurd cc
 
 -- nothing is left of a call that has answered
-nothing_left : (core : Core) (stage : Stage) → is_ended stage ≡ true → cancelled core stage ≡ core
+nothing_left : (core : Core) (stage : Stage) → is_ended stage ≡ true → core_after_cancel core stage ≡ core
 nothing_left core Ended over = refl
 nothing_left core Ready over = absurd cc
 nothing_left core (Unsent asking) over = absurd cc
@@ -393,7 +413,8 @@ nothing_left core (Asked ticket) over = absurd cc
 nothing_left core (Came t) over = absurd cc
 
 pub given_up : {W M V L S : Type 0} (s : Meaning W M V) (state : L → LinkView S) (old mid : SftpValue L) (new : Core)
-    (p last : CallValue M) (result : Result V Error) → HasWaited s state old mid p last result → CancelsAwaited mid.core new last.stage
+    (p last : CallValue M) (result : Result V Error) → HasWaited s state old mid p last result
+    → CancelsAwaited mid.core new last.stage
     → HoldsReady s new (poll.Ready result) × OnOk result (KeepsGrants old.core new)
 given_up s state old mid new p last (Err e) w cancels = (tt, tt)
 given_up s state old mid new p last (Ok value) w cancels =
@@ -402,14 +423,17 @@ given_up s state old mid new p last (Ok value) w cancels =
     let P : Core → Type 0 = λ (c : Core). CountsGrant c (s.grant value) × KeepsGrants old.core c in
     subst P (sym same) (w.holds, w.grants)
 
-pub finish_spares : (old mid new : Core) (before last : Stage) → SparesOthers old mid (IsNoneOfCall before) (IsNoneOfCall last)
+pub finish_spares : (old mid new : Core) (before last : Stage)
+    → SparesOthers old mid (IsNoneOfCall before) (IsNoneOfCall last)
     → CancelsAwaited mid new last → SparesOthers old new (IsNoneOfCall before) (λ id. Unit {0})
 finish_spares old mid new before last spares cancels =
-    spares_both old mid new (IsNoneOfCall before) (IsNoneOfCall last) (λ id. Unit {0}) spares (cancelled_spares mid new last cancels)
+    spares_both old mid new (IsNoneOfCall before) (IsNoneOfCall last) (λ id. Unit {0}) spares
+    (cancelled_spares mid new last cancels)
 
 pub finished : {W M V L S : Type 0} (s : Meaning W M V) (state : L → LinkView S) (old mid inside new : SftpValue L)
     (p last : CallValue M) (result : Result V Error) → HasWaited s state old mid p last result → inside ≡ mid
-    → CancelsAwaited inside.core new.core last.stage → new ≡ with_core inside new.core → HasFinished s state old new p result
+    → CancelsAwaited inside.core new.core last.stage → new ≡ with_core inside new.core
+    → HasFinished s state old new p result
 finished s state old mid inside new p last result w same cancels left =
     let waited = subst (λ (x : SftpValue _). HasWaited s state old x p last result) (sym same) w in
     let up = given_up s state old inside new.core p last result waited cancels in
@@ -421,14 +445,16 @@ finished s state old mid inside new p last result w same cancels left =
       left = left;
       holds = up.0;
       grants = up.1;
-      others = λ ticket kind apart h. let on = waited.others ticket kind apart h in cancels.others ticket kind on.1 on.0;
+      others = λ ticket kind apart h. let on = waited.others ticket kind apart h in
+          cancels.others ticket kind on.1 on.0;
       spares = finish_spares old.core inside.core new.core p.stage last.stage waited.spares cancels;
     }
 
 -- ---- the grants of others
 
 -- a call that no HANDLE answers leaves every grant, whatever it answered
-pub finish_keeps : {W M V L S : Type 0} (s : Meaning W M V) (state : L → LinkView S) (old new : SftpValue L) (p : CallValue M)
+pub finish_keeps : {W M V L S : Type 0} (s : Meaning W M V) (state : L → LinkView S) (old new : SftpValue L)
+    (p : CallValue M)
     (result : Result V Error) → ((m : M) → asks_handle (s.expected m) ≡ false) → HasFinished s state old new p result
     → KeepsGrants old.core new.core
 finish_keeps s state old new p result none h =

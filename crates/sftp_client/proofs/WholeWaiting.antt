@@ -7,19 +7,19 @@ use Rattle.sftp_model.specs.declared.error.Error.TheVariants as error
 use Rattle.sftp_core.specs.Core.{Core, kept_of}
 use Rattle.sftp_core.specs.Info.{info_of}
 use Rattle.sftp_link.specs.Views.{LinkView}
-use Rattle.call_state.specs.Keeping.{SparesOthers}
-use Rattle.call_state.proofs.Keeping.{keeps_same}
-use Rattle.call_state.proofs.Sparing.{spares_both, spares_kept, spares_then}
-use Rattle.call_state.specs.declared.poll.Poll.{Poll}
-use Rattle.call_state.specs.declared.poll.Poll.TheVariants as poll
-use Rattle.call_state.specs.Calls.{CallValue, CancelsAwaited}
-use Rattle.call_state.specs.Runners.{Meaning}
-use Rattle.sftp_file.specs.Copies.{CopyValue, StandsAt, copying}
+use Rattle.plan_state.specs.Keeping.{SparesOthers}
+use Rattle.plan_state.proofs.Keeping.{keeps_same}
+use Rattle.plan_state.proofs.Sparing.{spares_both, spares_kept, spares_then}
+use Rattle.plan_state.specs.declared.poll.Poll.{Poll}
+use Rattle.plan_state.specs.declared.poll.Poll.TheVariants as poll
+use Rattle.plan_state.specs.Calls.{CallValue, CancelsAwaited}
+use Rattle.plan_state.specs.Runners.{Meaning}
+use Rattle.sftp_file.specs.Copies.{CopyValue, StandsAt, copy_meaning}
 use Rattle.sftp_file.specs.Files.{FileValue, IsMoved}
 use Rattle.sftp_file.specs.Gathers.{GivesBytes, ReadAllValue, reading_all}
 use Rattle.sftp_file.specs.declared.gathering.ReadAllError.{ReadAllError}
-use Rattle.sftp_whole.specs.WholeReads.{CancelsRead, FsReadValue, IsNoneOfRead, IsReadHeld, ReadAnswer, is_over}
-use Rattle.sftp_whole.proofs.FsReadLaws.{read_still}
+use Rattle.sftp_fs_read.specs.WholeReads.{CancelsRead, FsReadValue, IsNoneOfRead, IsReadHeld, ReadAnswer, is_over}
+use Rattle.sftp_fs_read.proofs.FsReadLaws.{read_still}
 use Rattle.sftp_client.specs.Sessions.{SftpValue, with_core}
 use Rattle.sftp_client.specs.Waits.{HasFinished, HasWaited, RoundFails, SendsAndTakes}
 use Rattle.sftp_client.specs.WholeWaits.{
@@ -54,25 +54,30 @@ read_leaves old new p q result may (inr h) =
     record {
       held = subst (λ (x : SftpValue _). IsReadHeld x.core q.stage) (sym h.1.1.0)
           (subst (λ (x : FsReadValue). IsReadHeld old.core x.stage) (sym h.1.1.1) may.held);
-      spares = subst (λ (x : SftpValue _). SparesOthers old.core x.core (IsNoneOfRead p.stage) (IsNoneOfRead q.stage)) (sym h.1.1.0)
-          (subst (λ (x : FsReadValue). SparesOthers old.core old.core (IsNoneOfRead p.stage) (IsNoneOfRead x.stage)) (sym h.1.1.1)
+      spares = subst (λ (x : SftpValue _). SparesOthers old.core x.core (IsNoneOfRead p.stage) (IsNoneOfRead q.stage))
+          (sym h.1.1.0)
+          (subst (λ (x : FsReadValue). SparesOthers old.core old.core (IsNoneOfRead p.stage) (IsNoneOfRead x.stage))
+          (sym h.1.1.1)
           (spares_kept old.core old.core (IsNoneOfRead p.stage) (keeps_same old.core)));
       link = ap (λ (x : SftpValue _). x.link) h.1.1.0;
     }
 
 -- without an answer it is under way still
-pending_reads : {L : Type 0} (old new : SftpValue L) (p q : FsReadValue) → ReadIn old new p q poll.Pending → is_over q.stage ≡ false
+pending_reads : {L : Type 0} (old new : SftpValue L) (p q : FsReadValue) → ReadIn old new p q poll.Pending
+    → is_over q.stage ≡ false
 pending_reads old new p q (inl h) = h.0.over
 pending_reads old new p q (inr h) = absurd cc
 
 -- and the session open
-pending_open : {L : Type 0} (old new : SftpValue L) (p q : FsReadValue) → MayWaitRead old.core p → ReadIn old new p q poll.Pending
+pending_open : {L : Type 0} (old new : SftpValue L) (p q : FsReadValue) → MayWaitRead old.core p
+    → ReadIn old new p q poll.Pending
     → IsSome (info_of new.core.phase)
 pending_open old new p q may (inl h) = h.0.spares.opened may.opened
 pending_open old new p q may (inr h) = absurd cc
 
 -- what holds between two rounds
-pub record ReadsOn {L S : Type 0} (state : L → LinkView S) (count : ℕ) (old new : SftpValue L) (p q : FsReadValue) : Type 0 where
+pub record ReadsOn {L S : Type 0} (state : L → LinkView S) (count : ℕ) (old new : SftpValue L) (p q : FsReadValue) :
+    Type 0 where
   pub rounds : AreReadRounds state count old new p q
   pub may : MayWaitRead new.core q
   pub spares : SparesOthers old.core new.core (IsNoneOfRead p.stage) (IsNoneOfRead q.stage)
@@ -88,14 +93,18 @@ reads_first state old p may =
       unfaulted = refl;
     }
 
-reads_spare : (old mid new : Core) (p m q : FsReadValue) → SparesOthers old mid (IsNoneOfRead p.stage) (IsNoneOfRead m.stage)
-    → SparesOthers mid new (IsNoneOfRead m.stage) (IsNoneOfRead q.stage) → SparesOthers old new (IsNoneOfRead p.stage) (IsNoneOfRead q.stage)
+reads_spare : (old mid new : Core) (p m q : FsReadValue) → SparesOthers old mid (IsNoneOfRead p.stage)
+    (IsNoneOfRead m.stage)
+    → SparesOthers mid new (IsNoneOfRead m.stage) (IsNoneOfRead q.stage)
+    → SparesOthers old new (IsNoneOfRead p.stage) (IsNoneOfRead q.stage)
 reads_spare old mid new p m q first last =
     spares_both old mid new (IsNoneOfRead p.stage) (IsNoneOfRead m.stage) (IsNoneOfRead q.stage) first last
 
 -- a round, or none
-pub reads_next : {L S : Type 0} (state : L → LinkView S) (count : ℕ) (old mid polled new : SftpValue L) (p m q : FsReadValue)
-    → ReadsOn state count old mid p m → ReadIn mid polled m q poll.Pending → MayRound state (kept_of mid.core) polled new (Ok tt)
+pub reads_next : {L S : Type 0} (state : L → LinkView S) (count : ℕ) (old mid polled new : SftpValue L)
+    (p m q : FsReadValue)
+    → ReadsOn state count old mid p m → ReadIn mid polled m q poll.Pending
+    → MayRound state (kept_of mid.core) polled new (Ok tt)
     → ReadsOn state (count + 1) old new p q
 reads_next state count old mid polled new p m q w waits (inl same) =
     let next : suc count ≡ count + 1 = omega arith in
@@ -105,9 +114,11 @@ reads_next state count old mid polled new p m q w waits (inl same) =
       rounds = (mid, (m, (w.rounds, record { mid = polled; reads = waits; round = inl same })));
       may = subst (λ (x : SftpValue _). MayWaitRead x.core q) (sym same.0)
           (record { opened = opened; over = pending_reads mid polled m q waits; held = left.held });
-      spares = subst (λ (x : SftpValue _). SparesOthers old.core x.core (IsNoneOfRead p.stage) (IsNoneOfRead q.stage)) (sym same.0)
+      spares = subst (λ (x : SftpValue _). SparesOthers old.core x.core (IsNoneOfRead p.stage) (IsNoneOfRead q.stage))
+          (sym same.0)
           (reads_spare old.core mid.core polled.core p m q w.spares left.spares);
-      unfaulted = ap (λ (x : SftpValue _). (state x.link).faults) same.0 ∙ (ap (λ l. (state l).faults) left.link ∙ w.unfaulted);
+      unfaulted = ap (λ (x : SftpValue _). (state x.link).faults) same.0
+          ∙ (ap (λ l. (state l).faults) left.link ∙ w.unfaulted);
     })
 reads_next state count old mid polled new p m q w waits (inr round) =
     let next : suc count ≡ count + 1 = omega arith in
@@ -159,7 +170,8 @@ reads_out state count old new p q w all =
     }
 
 -- or a round went wrong
-pub reads_stop : {L S : Type 0} (state : L → LinkView S) (count : ℕ) (old mid polled new : SftpValue L) (p m q : FsReadValue)
+pub reads_stop : {L S : Type 0} (state : L → LinkView S) (count : ℕ) (old mid polled new : SftpValue L)
+    (p m q : FsReadValue)
     (e : Error) → ReadsOn state count old mid p m → ReadIn mid polled m q poll.Pending → RoundFails state polled new e
     → HasWaitedRead state old new p q (Err e)
 reads_stop state count old mid polled new p m q e w waits fails =
@@ -177,7 +189,8 @@ reads_stop state count old mid polled new p m q e w waits fails =
       unfaulted = tt;
     }
 
-pub reads_count : {L S : Type 0} (state : L → LinkView S) (count : ℕ) (old mid polled : SftpValue L) (p m q : FsReadValue)
+pub reads_count : {L S : Type 0} (state : L → LinkView S) (count : ℕ) (old mid polled : SftpValue L)
+    (p m q : FsReadValue)
     → (state old.link).faults < 2 ^ 64 - 1 → ReadsOn state count old mid p m → ReadIn mid polled m q poll.Pending
     → (state polled.link).faults < 2 ^ 64 - 1
 reads_count state count old mid polled p m q few w waits =
@@ -188,7 +201,8 @@ reads_count state count old mid polled p m q few w waits =
 
 pub finished_read : {L S : Type 0} (state : L → LinkView S) (old mid inside new : SftpValue L) (p last : FsReadValue)
     (result : Result Filled Error) → HasWaitedRead state old mid p last result → inside ≡ mid
-    → CancelsRead inside.core new.core last.stage → new ≡ with_core inside new.core → HasFinishedRead state old new p result
+    → CancelsRead inside.core new.core last.stage → new ≡ with_core inside new.core
+    → HasFinishedRead state old new p result
 finished_read state old mid inside new p last result w same cancels left =
     let waited = subst (λ (x : SftpValue _). HasWaitedRead state old x p last result) (sym same) w in
     record {
@@ -197,7 +211,8 @@ finished_read state old mid inside new p last result w same cancels left =
       waited = waited;
       given_up = cancels;
       left = left;
-      spares = spares_both old.core inside.core new.core (IsNoneOfRead p.stage) (IsNoneOfRead last.stage) (λ id. Unit {0}) waited.spares
+      spares = spares_both old.core inside.core new.core (IsNoneOfRead p.stage) (IsNoneOfRead last.stage)
+          (λ id. Unit {0}) waited.spares
           cancels.spares;
     }
 
@@ -222,18 +237,22 @@ finished_last s state old mid inside new p last result w same cancels left =
       refl,
     )
 
-pub finished_copy : {L S : Type 0} (state : L → LinkView S) (old mid inside new : SftpValue L) (p last : CallValue CopyValue)
-    (f f' g g' : FileValue) (result : Result (Unit {0}) Error) → HasWaitedCopy state old mid p last f f' g g' result → inside ≡ mid
-    → CancelsAwaited inside.core new.core last.stage → new ≡ with_core inside new.core → HasCopied state old new p f f' g g' result
+pub finished_copy : {L S : Type 0} (state : L → LinkView S) (old mid inside new : SftpValue L)
+    (p last : CallValue CopyValue)
+    (f f' g g' : FileValue) (result : Result (Unit {0}) Error) → HasWaitedCopy state old mid p last f f' g g' result
+    → inside ≡ mid
+    → CancelsAwaited inside.core new.core last.stage → new ≡ with_core inside new.core
+    → HasCopied state old new p f f' g g' result
 finished_copy state old mid inside new p last f f' g g' result w same cancels left =
-    let h = finished_last copying state old mid inside new p last result w.waited same cancels left in
+    let h = finished_last copy_meaning state old mid inside new p last result w.waited same cancels left in
     record {
       finished = h.0;
       source = subst (λ (x : CallValue CopyValue). StandsAt 0 f f' x.runner.source) (sym h.1) w.source;
       target = subst (λ (x : CallValue CopyValue). StandsAt 1 g g' x.runner.target) (sym h.1) w.target;
     }
 
-pub finished_bytes : {L S : Type 0} (state : L → LinkView S) (old mid inside new : SftpValue L) (p last : CallValue ReadAllValue)
+pub finished_bytes : {L S : Type 0} (state : L → LinkView S) (old mid inside new : SftpValue L)
+    (p last : CallValue ReadAllValue)
     (before after : FileValue) (answer : Result (Unit {0}) Error) (result : Result Filled ReadAllError) (got : List ℕ)
     → HasWaited reading_all state old mid p last answer → inside ≡ mid → CancelsAwaited inside.core new.core last.stage
     → new ≡ with_core inside new.core → got ≡ last.runner.before ++ last.runner.got → GivesBytes got answer result
@@ -243,7 +262,8 @@ finished_bytes state old mid inside new p last before after answer result got w 
     record {
       answer = answer;
       finished = h.0;
-      gives = subst (λ (x : CallValue ReadAllValue). GivesBytes (x.runner.before ++ x.runner.got) answer result) (sym h.1)
+      gives = subst (λ (x : CallValue ReadAllValue). GivesBytes (x.runner.before ++ x.runner.got) answer result)
+          (sym h.1)
           (subst (λ (l : List ℕ). GivesBytes l answer result) bytes gives);
       moved = subst (λ (x : CallValue ReadAllValue). IsMoved before after x.runner.file) (sym h.1) moved;
     }

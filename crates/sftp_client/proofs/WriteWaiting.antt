@@ -6,10 +6,10 @@ use Rattle.sftp_model.specs.declared.error.Error.TheVariants as error
 use Rattle.sftp_core.specs.Core.{Core}
 use Rattle.sftp_core.specs.Info.{info_of}
 use Rattle.sftp_link.specs.Views.{LinkView}
-use Rattle.call_state.specs.Keeping.{SparesOthers}
-use Rattle.call_state.specs.declared.poll.Poll.TheVariants as poll
-use Rattle.call_state.proofs.Keeping.{keeps_same}
-use Rattle.call_state.proofs.Sparing.{spares_both, spares_kept, spares_then}
+use Rattle.plan_state.specs.Keeping.{SparesOthers}
+use Rattle.plan_state.specs.declared.poll.Poll.TheVariants as poll
+use Rattle.plan_state.proofs.Keeping.{keeps_same}
+use Rattle.plan_state.proofs.Sparing.{spares_both, spares_kept, spares_then}
 use Rattle.sftp_fs.specs.WholeWrites.{CancelsWrite, FsWriteValue, IsNoneOfWrite, IsWriteHeld, WriteAnswer, is_over}
 use Rattle.sftp_fs.proofs.WriteOpens.{write_still}
 use Rattle.sftp_client.specs.Sessions.{SftpValue, with_core}
@@ -23,7 +23,8 @@ record WriteLeaves {L : Type 0} (old new : SftpValue L) (p q : FsWriteValue) : T
   spares : SparesOthers old.core new.core (IsNoneOfWrite p.stage) (IsNoneOfWrite q.stage)
   link : new.link ≡ old.link
 
-write_leaves : {L : Type 0} (old new : SftpValue L) (p q : FsWriteValue) (result : WriteAnswer) → MayWaitWrite old.core p
+write_leaves : {L : Type 0} (old new : SftpValue L) (p q : FsWriteValue) (result : WriteAnswer)
+    → MayWaitWrite old.core p
     → WriteIn old new p q result → WriteLeaves old new p q
 write_leaves old new p q result may (inl h) =
     record {
@@ -35,30 +36,37 @@ write_leaves old new p q result may (inr h) =
     record {
       held = subst (λ (x : SftpValue _). IsWriteHeld x.core q.stage) (sym h.1.1.0)
           (subst (λ (x : FsWriteValue). IsWriteHeld old.core x.stage) (sym h.1.1.1) may.held);
-      spares = subst (λ (x : SftpValue _). SparesOthers old.core x.core (IsNoneOfWrite p.stage) (IsNoneOfWrite q.stage)) (sym h.1.1.0)
-          (subst (λ (x : FsWriteValue). SparesOthers old.core old.core (IsNoneOfWrite p.stage) (IsNoneOfWrite x.stage)) (sym h.1.1.1)
+      spares = subst (λ (x : SftpValue _). SparesOthers old.core x.core (IsNoneOfWrite p.stage) (IsNoneOfWrite q.stage))
+          (sym h.1.1.0)
+          (subst (λ (x : FsWriteValue). SparesOthers old.core old.core (IsNoneOfWrite p.stage) (IsNoneOfWrite x.stage))
+          (sym h.1.1.1)
           (spares_kept old.core old.core (IsNoneOfWrite p.stage) (keeps_same old.core)));
       link = ap (λ (x : SftpValue _). x.link) h.1.1.0;
     }
 
 -- without an answer it is under way still
-pending_writes : {L : Type 0} (old new : SftpValue L) (p q : FsWriteValue) → WriteIn old new p q poll.Pending → is_over q.stage ≡ false
+pending_writes : {L : Type 0} (old new : SftpValue L) (p q : FsWriteValue) → WriteIn old new p q poll.Pending
+    → is_over q.stage ≡ false
 pending_writes old new p q (inl h) = h.0.wrote.over
 pending_writes old new p q (inr h) = absurd cc
 
-writes_spare : (old mid new : Core) (p m q : FsWriteValue) → SparesOthers old mid (IsNoneOfWrite p.stage) (IsNoneOfWrite m.stage)
-    → SparesOthers mid new (IsNoneOfWrite m.stage) (IsNoneOfWrite q.stage) → SparesOthers old new (IsNoneOfWrite p.stage) (IsNoneOfWrite q.stage)
+writes_spare : (old mid new : Core) (p m q : FsWriteValue) →
+    SparesOthers old mid (IsNoneOfWrite p.stage) (IsNoneOfWrite m.stage)
+    → SparesOthers mid new (IsNoneOfWrite m.stage) (IsNoneOfWrite q.stage)
+    → SparesOthers old new (IsNoneOfWrite p.stage) (IsNoneOfWrite q.stage)
 writes_spare old mid new p m q first last =
     spares_both old mid new (IsNoneOfWrite p.stage) (IsNoneOfWrite m.stage) (IsNoneOfWrite q.stage) first last
 
 -- what holds between two rounds
-pub record WritesOn {L S : Type 0} (state : L → LinkView S) (count : ℕ) (old new : SftpValue L) (p q : FsWriteValue) : Type 0 where
+pub record WritesOn {L S : Type 0} (state : L → LinkView S) (count : ℕ) (old new : SftpValue L) (p q : FsWriteValue) :
+    Type 0 where
   pub rounds : AreWriteRounds state count old new p q
   pub may : MayWaitWrite new.core q
   pub spares : SparesOthers old.core new.core (IsNoneOfWrite p.stage) (IsNoneOfWrite q.stage)
   pub unfaulted : (state new.link).faults ≡ (state old.link).faults
 
-pub writes_first : {L S : Type 0} (state : L → LinkView S) (old : SftpValue L) (p : FsWriteValue) → MayWaitWrite old.core p
+pub writes_first : {L S : Type 0} (state : L → LinkView S) (old : SftpValue L) (p : FsWriteValue)
+    → MayWaitWrite old.core p
     → WritesOn state 0 old old p p
 writes_first state old p may =
     record {
@@ -69,7 +77,8 @@ writes_first state old p may =
     }
 
 -- a round
-pub writes_next : {L S : Type 0} (state : L → LinkView S) (count : ℕ) (old mid polled new : SftpValue L) (p m q : FsWriteValue)
+pub writes_next : {L S : Type 0} (state : L → LinkView S) (count : ℕ) (old mid polled new : SftpValue L)
+    (p m q : FsWriteValue)
     → WritesOn state count old mid p m → WriteIn mid polled m q poll.Pending → SendsAndTakes state polled new
     → WritesOn state (count + 1) old new p q
 writes_next state count old mid polled new p m q w waits round =
@@ -122,7 +131,8 @@ writes_out state count old new p q w all =
     }
 
 -- or a round went wrong
-pub writes_stop : {L S : Type 0} (state : L → LinkView S) (count : ℕ) (old mid polled new : SftpValue L) (p m q : FsWriteValue)
+pub writes_stop : {L S : Type 0} (state : L → LinkView S) (count : ℕ) (old mid polled new : SftpValue L)
+    (p m q : FsWriteValue)
     (e : Error) → WritesOn state count old mid p m → WriteIn mid polled m q poll.Pending → RoundFails state polled new e
     → HasWaitedWrite state old new p q (Err e)
 writes_stop state count old mid polled new p m q e w waits fails =
@@ -140,7 +150,8 @@ writes_stop state count old mid polled new p m q e w waits fails =
       unfaulted = tt;
     }
 
-pub writes_count : {L S : Type 0} (state : L → LinkView S) (count : ℕ) (old mid polled : SftpValue L) (p m q : FsWriteValue)
+pub writes_count : {L S : Type 0} (state : L → LinkView S) (count : ℕ) (old mid polled : SftpValue L)
+    (p m q : FsWriteValue)
     → (state old.link).faults < 2 ^ 64 - 1 → WritesOn state count old mid p m → WriteIn mid polled m q poll.Pending
     → (state polled.link).faults < 2 ^ 64 - 1
 writes_count state count old mid polled p m q few w waits =
@@ -151,7 +162,8 @@ writes_count state count old mid polled p m q few w waits =
 
 pub finished_write : {L S : Type 0} (state : L → LinkView S) (old mid inside new : SftpValue L) (p last : FsWriteValue)
     (result : Result (Unit {0}) Error) → HasWaitedWrite state old mid p last result → inside ≡ mid
-    → CancelsWrite inside.core new.core last.stage → new ≡ with_core inside new.core → HasFinishedWrite state old new p result
+    → CancelsWrite inside.core new.core last.stage → new ≡ with_core inside new.core
+    → HasFinishedWrite state old new p result
 finished_write state old mid inside new p last result w same cancels left =
     let waited = subst (λ (x : SftpValue _). HasWaitedWrite state old x p last result) (sym same) w in
     record {
@@ -160,6 +172,7 @@ finished_write state old mid inside new p last result w same cancels left =
       waited = waited;
       given_up = cancels;
       left = left;
-      spares = spares_both old.core inside.core new.core (IsNoneOfWrite p.stage) (IsNoneOfWrite last.stage) (λ id. Unit {0}) waited.spares
+      spares = spares_both old.core inside.core new.core (IsNoneOfWrite p.stage) (IsNoneOfWrite last.stage)
+          (λ id. Unit {0}) waited.spares
           cancels.spares;
     }

@@ -6,34 +6,33 @@ use Rattle.sftp_model.specs.declared.reply.NameEntry.{NameEntry}
 use Rattle.sftp_core.specs.Core.{Core, kept_of}
 use Rattle.sftp_core.specs.Info.{MAX_IDS, info_of}
 use Rattle.sftp_link.specs.Views.{LinkView}
-use Rattle.call_state.specs.Keeping.{KeepsGrants, SparesOthers}
-use Rattle.call_state.specs.declared.poll.Poll.TheVariants.{Pending, Ready}
-use Rattle.sftp_fs.specs.Listings.{Given, IsListing, IsNoneAsked, ListingValue, PollsEntries}
+use Rattle.plan_state.specs.Keeping.{KeepsGrants, SparesOthers}
+use Rattle.plan_state.specs.declared.poll.Poll.TheVariants.{Pending, Ready}
+use Rattle.sftp_fs.specs.Listings.{ListingAnswer, IsListing, IsNoneAsked, ListingValue, PollsEntries}
 use Rattle.sftp_client.specs.Sessions.{SftpValue, with_core}
 use Rattle.sftp_client.specs.Waits.{ArePollRounds, RoundFails}
 
--- a listing may be waited for: the session is open, and counts what is the listing's
+-- A listing may be waited for: the session is open, and counts what the listing holds.
 pub record MayWaitFor (core : Core) (p : ListingValue) : Type 0 where
   pub opened : IsSome (info_of core.phase)
   pub listing : IsListing core p
 
 -- A poll of a listing changed nothing of the session but its core; or all ids were in use, and nothing changed.
-abbrev pub ListedIn : {L : Type 0} → SftpValue L → SftpValue L → ListingValue → ListingValue → Given → Type 0
+abbrev pub ListedIn : {L : Type 0} → SftpValue L → SftpValue L → ListingValue → ListingValue → ListingAnswer → Type 0
 ListedIn old new p q given = (PollsEntries old.core new.core p q given × (new ≡ with_core old new.core))
     ⊎ ((MAX_IDS ≤ kept_of old.core) × ((given ≡ Ready (Some (Err error.OutOfMemory))) × ((new ≡ old) × (q ≡ p))))
 
--- nothing was given yet
+-- The listing has returned no entry yet.
 abbrev pub AwaitsEntry : {L : Type 0} → SftpValue L → SftpValue L → ListingValue → ListingValue → Type 0
 AwaitsEntry old new p q = ListedIn old new p q Pending
 
--- what is answered of what a listing gives: the next entry, None at the end, or an error
-abbrev pub given_by : Result (Option NameEntry) Error → Given
+-- The result of the listing that corresponds to a result of the wait: the next entry, None at the end, or an error.
+abbrev pub given_by : Result (Option NameEntry) Error → ListingAnswer
 given_by (Ok None) = Ready None
 given_by (Ok (Some entry)) = Ready (Some (Ok entry))
 given_by (Err e) = Ready (Some (Err e))
 
--- how the wait came to its end: the listing gave something; a round went wrong; or no round is left of as many as can
--- be counted
+-- The end of the wait: the listing returned a result; a round failed; or the greatest count of rounds is reached.
 abbrev pub ListingStops : {L S : Type 0} → (L → LinkView S) → ℕ → SftpValue L → SftpValue L → ListingValue
     → ListingValue
     → Result (Option NameEntry) Error → Type 0
@@ -42,8 +41,8 @@ ListingStops {L = L} state count old new p q result = ListedIn old new p q (give
     × (RoundFails state mid new e × (result ≡ Err e)))))
     ⊎ ((count ≡ 2 ^ 64 - 1) × ((result ≡ Err error.OutOfMemory) × ((new ≡ old) × (q ≡ p)))))
 
--- A listing was polled, and round after round what was queued was sent and a frame taken, until it gave something or a
--- round went wrong. It may be waited for on, or closed; each grant stays, what others await is theirs still, and the
+-- A listing was polled, and round after round the queue was sent and a frame taken, until it returned a result or a
+-- round failed. It may be waited for again, or closed. Each grant stays, what others await is still theirs, and the
 -- session stays open.
 pub record HasListed {L S : Type 0} (state : L → LinkView S) (old new : SftpValue L) (p q : ListingValue)
     (result : Result (Option NameEntry) Error) : Type 0 where

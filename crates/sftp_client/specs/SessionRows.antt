@@ -6,11 +6,11 @@ use Rattle.sftp_client.specs.Incoming.{bytes_of, nothing_came}
 use Rattle.sftp_client.specs.Outgoing.{unsent_from}
 use Rattle.sftp_client.specs.Sessions.{fault_by}
 
--- a chunk of two pieces
+-- A chunk of two pieces.
 abbrev pub two : Option (List (List ℕ))
 two = Some ((1 ∷ 2 ∷ 3 ∷ []) ∷ (4 ∷ 5 ∷ []) ∷ [])
 
--- nothing of it was sent; a part of its first piece; the whole first piece; all
+-- Nothing of the chunk was sent; a part of its first piece; the whole first piece; all of it.
 pub all_unsent : unsent_from two 0 0 ≡ 1 ∷ 2 ∷ 3 ∷ 4 ∷ 5 ∷ []
 all_unsent = refl
 
@@ -26,14 +26,14 @@ all_sent = refl
 pub no_chunk : unsent_from None 0 0 ≡ []
 no_chunk = refl
 
--- what came of a frame: a part of its length
+-- Bytes of a frame that came: a part of its length.
 pub length_begun : bytes_of (record { whole = []; part = 0 ∷ 0 ∷ [] }) ≡ 0 ∷ 0 ∷ []
 length_begun = refl
 
 pub none_came : bytes_of nothing_came ≡ []
 none_came = refl
 
--- a fault of the link is kept, and its end; want of memory is not, nor what a frame was refused by
+-- A fault of the link is kept, and so is its end. Running out of memory is not, nor is the refusal of a frame.
 pub link_kept : fault_by error.LinkFault ≡ Some fault.Link
 link_kept = refl
 

@@ -7,8 +7,8 @@ use Rattle.sftp_model.specs.declared.slot.FileAt.{FileAt}
 use Rattle.sftp_core.specs.Core.{Core, kept_of}
 use Rattle.sftp_core.specs.Info.{MAX_IDS, info_of}
 use Rattle.sftp_link.specs.Views.{LinkView}
-use Rattle.call_state.specs.Asked.{HoldsTicket, IsReady}
-use Rattle.call_state.specs.Calls.{
+use Rattle.plan_state.specs.Asked.{HoldsTicket, IsReady}
+use Rattle.plan_state.specs.Calls.{
   CallValue,
   CancelsAwaited,
   HoldsReady,
@@ -17,35 +17,35 @@ use Rattle.call_state.specs.Calls.{
   IsNotOf,
   IsUnderWay,
   KeepsOtherTickets,
-  Stepped,
+  StepsByPlan,
 }
-use Rattle.call_state.specs.Keeping.{KeepsGrants, SparesOthers}
-use Rattle.call_state.specs.Runners.{Meaning}
-use Rattle.call_state.specs.declared.poll.Poll.{Poll}
-use Rattle.call_state.specs.declared.poll.Poll.TheVariants as poll
+use Rattle.plan_state.specs.Keeping.{KeepsGrants, SparesOthers}
+use Rattle.plan_state.specs.Runners.{Meaning}
+use Rattle.plan_state.specs.declared.poll.Poll.{Poll}
+use Rattle.plan_state.specs.declared.poll.Poll.TheVariants as poll
 use Rattle.sftp_file.specs.Files.{FileValue, IsMoved, file_at}
 use Rattle.sftp_client.specs.Sessions.{FlushesQueue, SftpValue, TakesOrKept, with_core}
 
--- a further request may be submitted, or all ids are in use
+-- Another request may be submitted, or all ids are in use.
 abbrev pub IsReadyOr : Core → Result (Unit {0}) Error → Type 0
 IsReadyOr core (Ok u) = IsReady core
 IsReadyOr core (Err e) = (e ≡ error.OutOfMemory) × (MAX_IDS ≤ kept_of core)
 
--- a call can be run to its end: it has not answered, and the session is open
+-- A call can be run to its end: it has not returned its result, and the session is open.
 pub record MayWait {W M V : Type 0} (s : Meaning W M V) (core : Core) (call : CallValue M) : Type 0 where
   pub opened : IsSome (info_of core.phase)
   pub under_way : IsUnderWay s core call
 
--- ---- a round
+-- ---- Rounds
 
--- what was queued was sent, and then a frame was taken, or none was awaited
+-- The queue was sent, and then a frame was taken, or none was awaited.
 pub record SendsAndTakes {L S : Type 0} (state : L → LinkView S) (old new : SftpValue L) : Type 0 where
   pub mid : SftpValue L
   pub took : Bool
   pub sends : FlushesQueue state old mid (Ok tt)
   pub takes : TakesOrKept state mid new (Ok took)
 
--- not all that was queued was sent, or no frame was taken
+-- Not all of the queue was sent, or no frame was taken.
 abbrev pub RoundFails : {L S : Type 0} → (L → LinkView S) → SftpValue L → SftpValue L → Error → Type 0
 RoundFails {L = L} state old new e = FlushesQueue state old new (Err e)
     ⊎ ((mid : SftpValue L) × (FlushesQueue state old mid (Ok tt) × TakesOrKept state mid new (Err e)))
@@ -54,15 +54,15 @@ abbrev pub RoundEnds : {L S : Type 0} → (L → LinkView S) → SftpValue L →
 RoundEnds state old new (Ok u) = SendsAndTakes state old new
 RoundEnds state old new (Err e) = RoundFails state old new e
 
--- ---- a call
+-- ---- Calls
 
 -- A poll of a call changed nothing of the session but its core; or all ids were in use, and nothing changed.
 abbrev pub PolledIn : {W M V L : Type 0} → Meaning W M V → SftpValue L → SftpValue L → CallValue M → CallValue M
     → Poll (Result V Error) → Type 0
-PolledIn s old new p q result = (Stepped s old.core new.core p q result × (new ≡ with_core old new.core))
+PolledIn s old new p q result = (StepsByPlan s old.core new.core p q result × (new ≡ with_core old new.core))
     ⊎ ((MAX_IDS ≤ kept_of old.core) × ((result ≡ poll.Ready (Err error.OutOfMemory)) × ((new ≡ old) × (q ≡ p))))
 
--- Something that is polled had no answer yet, and then a round went well, in which a frame was taken.
+-- A poll had no answer yet, and then a round succeeded in which a frame was taken.
 pub record IsPollRound {C L S : Type 0} (Waits : SftpValue L → SftpValue L → C → C → Type 0) (state : L → LinkView S)
     (old new : SftpValue L) (p q : C) : Type 0 where
   pub mid : SftpValue L
@@ -70,33 +70,33 @@ pub record IsPollRound {C L S : Type 0} (Waits : SftpValue L → SftpValue L →
   pub round : SendsAndTakes state mid new
   pub took : round.took ≡ true
 
--- so many rounds, one after another
+-- This many rounds, one after another.
 abbrev pub ArePollRounds : {C L S : Type 0} → (SftpValue L → SftpValue L → C → C → Type 0) → (L → LinkView S) → ℕ
     → SftpValue L → SftpValue L → C → C → Type 0
 ArePollRounds Waits state zero old new p q = (new ≡ old) × (q ≡ p)
 ArePollRounds {C = C} {L = L} Waits state (suc n) old new p q = (mid : SftpValue L) × ((m : C)
     × (ArePollRounds Waits state n old mid p m × IsPollRound Waits state mid new m q))
 
--- the call had no answer yet
+-- The call had no answer yet.
 abbrev pub WaitsIn : {W M V L : Type 0} → Meaning W M V → SftpValue L → SftpValue L → CallValue M → CallValue M → Type 0
 WaitsIn s old new p q = PolledIn s old new p q poll.Pending
 
--- how it came to its end: the call answered, or a round went wrong
+-- The end of the wait: the call returned its result, or a round failed.
 abbrev pub WaitEnds : {W M V L S : Type 0} → Meaning W M V → (L → LinkView S) → SftpValue L → SftpValue L → CallValue M
     → CallValue M → Result V Error → Type 0
 WaitEnds {L = L} s state old new p q result = PolledIn s old new p q (poll.Ready result)
     ⊎ ((mid : SftpValue L) × ((e : Error) × (PolledIn s old mid p q poll.Pending
     × (RoundFails state mid new e × (result ≡ Err e)))))
 
--- or no round is left of as many as can be counted
+-- The same, or the greatest count of rounds is reached.
 abbrev pub WaitStops : {W M V L S : Type 0} → Meaning W M V → (L → LinkView S) → ℕ → SftpValue L → SftpValue L
     → CallValue M → CallValue M → Result V Error → Type 0
 WaitStops s state count old new p q result = WaitEnds s state old new p q result
     ⊎ ((count ≡ 2 ^ 64 - 1) × ((result ≡ Err error.OutOfMemory) × ((new ≡ old) × (q ≡ p))))
 
--- A call was polled, and round after round what was queued was sent and a frame taken, until it answered or a round
--- went wrong. It may be run on or given up then; the core holds what belongs to its value, each grant stays, what
--- others have is theirs still, and the session open. The link did not fail where the call gave a value.
+-- A call was polled, and round after round the queue was sent and a frame taken, until it returned its result or a
+-- round failed. Then it may be run further or given up. The core holds what belongs to its value, each grant stays,
+-- what others have is still theirs, and the session is open. The link did not fail if the call returned a value.
 pub record HasWaited {W M V L S : Type 0} (s : Meaning W M V) (state : L → LinkView S) (old new : SftpValue L)
     (p q : CallValue M) (result : Result V Error) : Type 0 where
   pub count : ℕ
@@ -111,8 +111,8 @@ pub record HasWaited {W M V L S : Type 0} (s : Meaning W M V) (state : L → Lin
   pub spares : SparesOthers old.core new.core (IsNoneOfCall p.stage) (IsNoneOfCall q.stage)
   pub unfaulted : OnOk result ((state new.link).faults ≡ (state old.link).faults)
 
--- A call was run to its end and given up there, so that nothing is left of it. Where it gave a value the core holds
--- what belongs to that, and each grant stays. What others have stays whatever it answered, and the session open.
+-- A call was run to its end and given up there, so that nothing is left of it. If it returned a value the core holds
+-- what belongs to that, and each grant stays. What others have stays in any case, and the session is open.
 pub record HasFinished {W M V L S : Type 0} (s : Meaning W M V) (state : L → LinkView S) (old new : SftpValue L)
     (p : CallValue M) (result : Result V Error) : Type 0 where
   pub mid : SftpValue L
@@ -126,21 +126,21 @@ pub record HasFinished {W M V L S : Type 0} (s : Meaning W M V) (state : L → L
       → HoldsTicket new.core ticket kind
   pub spares : SparesOthers old.core new.core (IsNoneOfCall p.stage) (λ id. Unit {0})
 
--- ---- a call that moves a file
+-- ---- Calls that move a file
 
--- it can be run to its end on the file where it stands
+-- The call can be run to its end on the file at its offset.
 pub record MayWaitOn {W M V : Type 0} (s : Meaning W M V) (at : M → FileAt) (core : Core) (call : CallValue M)
     (file : FileValue) : Type 0 where
   pub may : MayWait s core call
   pub stands : at call.runner ≡ file_at file
 
--- and the file stands where the call has come
+-- The call was run, and the file is at the offset that the call has reached.
 pub record HasWaitedOn {W M V L S : Type 0} (s : Meaning W M V) (at : M → FileAt) (state : L → LinkView S)
     (old new : SftpValue L) (p q : CallValue M) (before after : FileValue) (result : Result V Error) : Type 0 where
   pub waited : HasWaited s state old new p q result
   pub moved : IsMoved before after (at q.runner)
 
--- it was run to its end and given up there, and the file stands where the call has come
+-- The call was run to its end and given up there, and the file is at the offset that the call has reached.
 pub record HasFinishedOn {W M V L S : Type 0} (s : Meaning W M V) (at : M → FileAt) (state : L → LinkView S)
     (old new : SftpValue L) (p : CallValue M) (before after : FileValue) (result : Result V Error) : Type 0 where
   pub finished : HasFinished s state old new p result

@@ -1,4 +1,4 @@
--- Copies, reads of so many bytes and whole reads that are run to their end over a session's link.
+-- Copies, reads of `n` bytes and whole reads that are run to their end over a session's link.
 use Rattle.std.specs.Prelude.{
   ◌≡◌,
   ◌≢◌,
@@ -24,47 +24,55 @@ use Rattle.sftp_model.specs.declared.error.Error.TheVariants as error
 use Rattle.sftp_core.specs.Core.{Core, kept_of}
 use Rattle.sftp_core.specs.Info.{MAX_IDS, info_of}
 use Rattle.sftp_link.specs.Views.{LinkView}
-use Rattle.call_state.specs.Calls.{CallValue}
-use Rattle.call_state.specs.Keeping.{SparesOthers}
-use Rattle.call_state.specs.declared.poll.Poll.TheVariants as poll
-use Rattle.sftp_file.specs.Copies.{CopyValue, StandsAt, copying}
+use Rattle.plan_state.specs.Calls.{CallValue}
+use Rattle.plan_state.specs.Keeping.{SparesOthers}
+use Rattle.plan_state.specs.declared.poll.Poll.TheVariants as poll
+use Rattle.sftp_file.specs.Copies.{CopyValue, StandsAt, copy_meaning}
 use Rattle.sftp_file.specs.Files.{FileValue, IsMoved, file_at, file_in}
 use Rattle.sftp_file.specs.Gathers.{GivesBytes, ReadAllValue, bytes_out, reading_all, without_bytes}
 use Rattle.sftp_file.specs.declared.gathering.ReadAllError.{ReadAllError}
-use Rattle.sftp_whole.specs.WholeReads.{CancelsRead, FsReadValue, IsNoneOfRead, IsReadHeld, ReadAnswer, ReadOn, is_over}
+use Rattle.sftp_fs_read.specs.WholeReads.{
+  CancelsRead,
+  FsReadValue,
+  IsNoneOfRead,
+  IsReadHeld,
+  ReadAnswer,
+  ReadOn,
+  is_over,
+}
 use Rattle.sftp_client.specs.Sessions.{SftpValue, with_core}
 use Rattle.sftp_client.specs.Waits.{HasFinished, HasWaited, MayWait, RoundFails, SendsAndTakes}
 
--- ---- a copy
+-- ---- Copies
 
--- it can be run to its end on the files where they stand
+-- The copy can be run to its end on the files at their offsets.
 pub record MayWaitCopy (core : Core) (call : CallValue CopyValue) (f g : FileValue) : Type 0 where
-  pub may : MayWait copying core call
+  pub may : MayWait copy_meaning core call
   pub source : call.runner.source ≡ file_in 0 f
   pub target : call.runner.target ≡ file_in 1 g
 
--- and both stand where it has come
+-- The copy was run, and both files are at the offsets that it has reached.
 pub record HasWaitedCopy {L S : Type 0} (state : L → LinkView S) (old new : SftpValue L) (p q : CallValue CopyValue)
     (f f' g g' : FileValue) (result : Result (Unit {0}) Error) : Type 0 where
-  pub waited : HasWaited copying state old new p q result
+  pub waited : HasWaited copy_meaning state old new p q result
   pub source : StandsAt 0 f f' q.runner.source
   pub target : StandsAt 1 g g' q.runner.target
 
--- it was run to its end and given up there
+-- The copy was run to its end and given up there.
 pub record HasCopied {L S : Type 0} (state : L → LinkView S) (old new : SftpValue L) (p : CallValue CopyValue)
     (f f' g g' : FileValue) (result : Result (Unit {0}) Error) : Type 0 where
-  pub finished : HasFinished copying state old new p result
+  pub finished : HasFinished copy_meaning state old new p result
   pub source : StandsAt 0 f f' finished.last.runner.source
   pub target : StandsAt 1 g g' finished.last.runner.target
 
--- ---- so many bytes
+-- ---- Reads of `n` bytes
 
--- the read can be run to its end on the file where it stands
+-- The read can be run to its end on the file at its offset.
 pub record MayWaitBytes (core : Core) (call : CallValue ReadAllValue) (file : FileValue) : Type 0 where
   pub may : MayWait reading_all core call
   pub stands : call.runner.file ≡ file_at file
 
--- it was run to its end; where it has ended its bytes were handed out, and else it keeps them
+-- The read was run. If it has ended, its bytes were returned; otherwise it keeps them.
 pub record HasWaitedBytes {L S : Type 0} (state : L → LinkView S) (old new : SftpValue L) (p q : CallValue ReadAllValue)
     (before after : FileValue) (result : Result Filled ReadAllError) : Type 0 where
   pub last : CallValue ReadAllValue
@@ -74,7 +82,7 @@ pub record HasWaitedBytes {L S : Type 0} (state : L → LinkView S) (old new : S
   pub left : q ≡ without_bytes last
   pub moved : IsMoved before after last.runner.file
 
--- it was run to its end and given up there; all bytes were handed out, whatever it answered
+-- The read was run to its end and given up there; all bytes were returned, with any result.
 pub record HasReadBytes {L S : Type 0} (state : L → LinkView S) (old new : SftpValue L) (p : CallValue ReadAllValue)
     (before after : FileValue) (result : Result Filled ReadAllError) : Type 0 where
   pub answer : Result (Unit {0}) Error
@@ -82,28 +90,28 @@ pub record HasReadBytes {L S : Type 0} (state : L → LinkView S) (old new : Sft
   pub gives : GivesBytes (finished.last.runner.before ++ finished.last.runner.got) answer result
   pub moved : IsMoved before after finished.last.runner.file
 
--- ---- a whole read
+-- ---- Whole reads
 
--- it can be run to its end: it has not answered, and the session is open
+-- The read can be run to its end: it has not returned its result, and the session is open.
 pub record MayWaitRead (core : Core) (p : FsReadValue) : Type 0 where
   pub opened : IsSome (info_of core.phase)
   pub over : is_over p.stage ≡ false
   pub held : IsReadHeld core p.stage
 
--- A poll of it changed nothing of the session but its core; or all ids were in use, and nothing changed.
+-- A poll of the read changed nothing of the session but its core; or all ids were in use, and nothing changed.
 abbrev pub ReadIn : {L : Type 0} → SftpValue L → SftpValue L → FsReadValue → FsReadValue → ReadAnswer → Type 0
 ReadIn old new p q result = (ReadOn old.core new.core p.stage q.stage result × (new ≡ with_core old new.core))
     ⊎ ((MAX_IDS ≤ kept_of old.core) × ((result ≡ poll.Ready (Err error.OutOfMemory)) × ((new ≡ old) × (q ≡ p))))
 
--- it was polled without an answer, and then what was queued was sent and a frame taken, where one was awaited; or it
--- was polled on
+-- The read was polled without an answer. Then the queue was sent and a frame taken, if one was awaited; or it was
+-- polled again.
 pub record IsReadRound {L S : Type 0} (state : L → LinkView S) (old new : SftpValue L) (p q : FsReadValue) : Type 0
   where
     pub mid : SftpValue L
     pub reads : ReadIn old mid p q poll.Pending
     pub round : ((new ≡ mid) × (kept_of mid.core ≢ kept_of old.core)) ⊎ SendsAndTakes state mid new
 
--- there was such a round, or none where other than so many ids are in use; or it went wrong
+-- There was such a round, or none if another number of ids is in use; or it failed.
 abbrev pub MayRound : {L S : Type 0} → (L → LinkView S) → ℕ → SftpValue L → SftpValue L → Result (Unit {0}) Error
     → Type 0
 MayRound state kept old new (Ok u) = ((new ≡ old) × (kept_of old.core ≢ kept)) ⊎ SendsAndTakes state old new
@@ -115,7 +123,7 @@ AreReadRounds state zero old new p q = (new ≡ old) × (q ≡ p)
 AreReadRounds {L = L} state (suc n) old new p q = (mid : SftpValue L) × ((m : FsReadValue)
     × (AreReadRounds state n old mid p m × IsReadRound state mid new m q))
 
--- how it came to its end: it answered; a round went wrong; or no round is left of as many as can be counted
+-- The end of the wait: the read returned its result; a round failed; or the greatest count of rounds is reached.
 abbrev pub ReadStops : {L S : Type 0} → (L → LinkView S) → ℕ → SftpValue L → SftpValue L → FsReadValue → FsReadValue
     → Result Filled Error → Type 0
 ReadStops {L = L} state count old new p q result = ReadIn old new p q (poll.Ready result)
@@ -123,8 +131,8 @@ ReadStops {L = L} state count old new p q result = ReadIn old new p q (poll.Read
     × (RoundFails state mid new e × (result ≡ Err e)))))
     ⊎ ((count ≡ 2 ^ 64 - 1) × ((result ≡ Err error.OutOfMemory) × ((new ≡ old) × (q ≡ p)))))
 
--- It was polled, and round after round what was queued was sent and a frame taken, until it answered or a round went
--- wrong. It may be run on or given up then; what others have is theirs still, and the session open.
+-- The read was polled, and round after round the queue was sent and a frame taken, until it returned its result or a
+-- round failed. Then it may be run further or given up. What others have is still theirs, and the session is open.
 pub record HasWaitedRead {L S : Type 0} (state : L → LinkView S) (old new : SftpValue L) (p q : FsReadValue)
     (result : Result Filled Error) : Type 0 where
   pub count : ℕ
@@ -136,8 +144,8 @@ pub record HasWaitedRead {L S : Type 0} (state : L → LinkView S) (old new : Sf
   pub spares : SparesOthers old.core new.core (IsNoneOfRead p.stage) (IsNoneOfRead q.stage)
   pub unfaulted : OnOk result ((state new.link).faults ≡ (state old.link).faults)
 
--- It was run to its end and given up there, so that nothing is left of it. What others have stays whatever it answered,
--- and the session open.
+-- The read was run to its end and given up there, so that nothing is left of it. What others have stays in any case,
+-- and the session is open.
 pub record HasFinishedRead {L S : Type 0} (state : L → LinkView S) (old new : SftpValue L) (p : FsReadValue)
     (result : Result Filled Error) : Type 0 where
   pub mid : SftpValue L

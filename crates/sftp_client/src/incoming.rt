@@ -1,18 +1,18 @@
-// The bytes of one frame, as they come.
+//! Bytes of one frame, as they come.
 ghost use Rattle.std.specs.Prelude.{◌≡◌, ◌<◌, ◌≤◌, ◌-◌, ◌^◌, length, take, MatchOption};
 ghost use Rattle.ssh_encoding.specs.Writing.{string};
-ghost use Rattle.sftp_wire.specs.FrameReader.{missing};
-ghost use Rattle.sftp_client.specs.Incoming.{Coming, FillsPart, IsRoomFor, Pulls, PullsPart, TellsWhole, nothing_came};
+ghost use Rattle.sftp_wire.specs.FrameReader.{missing_bytes};
+ghost use Rattle.sftp_client.specs.Incoming.{Coming, FillsPart, IsRoomFor, ReadsFrame, PullsPart, TellsWhole, nothing_came};
 
-use session_exchange::fault;
+use link_frames::fault;
 use sftp_link::LinkIn;
 use sftp_model::{Error, FrameError};
 use sftp_wire::FrameReader;
 use std::alloc::Global;
 use std::marker::Model;
 
-/// The bytes of a frame that came, and room for the part that comes next: the length, or the body. A contract sees
-/// the parts that came whole, and what came of the next.
+/// The bytes of a frame that came, and room for the part that comes next: the length, or the body. A contract sees the
+/// parts that came whole, and the bytes that came of the next.
 #[derive(Drop)]
 pub(crate) struct Incoming {
     reader: FrameReader,
@@ -32,7 +32,7 @@ impl Model for Incoming {
 }
 
 impl Incoming {
-    /// Nothing of a frame has come. Takes no memory.
+    /// Returns a reader to which nothing of a frame has come. No memory is allocated.
     pub(crate) fn new(alloc: Global) -> Incoming
         ensures { result ≡ nothing_came }
     {
@@ -43,7 +43,7 @@ impl Incoming {
         }
     }
 
-    /// Ready for the next frame.
+    /// Clears the reader for the next frame.
     pub(crate) fn clear(&mut self)
         ensures { self.new ≡ nothing_came }
     {
@@ -52,25 +52,26 @@ impl Incoming {
         self.filled = 0;
     }
 
-    /// The body of the frame, once the frame is whole.
+    /// Returns the body of the frame, once the frame is whole.
     pub(crate) fn frame(&self) -> Option<&[u8]>
-        ensures { MatchOption result (0 < missing self.now.whole) (λ body. self.now.whole ≡ string body.now) }
+        ensures { MatchOption result (0 < missing_bytes self.now.whole) (λ body. self.now.whole ≡ string body.now) }
     {
         self.reader.frame()
     }
 
-    /// Whether the frame is whole.
+    /// Returns true if the frame is whole.
     fn is_whole(&self) -> bool
         ensures { TellsWhole result self.now }
     {
         self.reader.need() == 0
     }
 
-    /// Takes what is missing of the frame, and no byte past it. After want of memory, a fault of the link or its end,
-    /// what came is kept, and the next call goes on with it; after a length that no frame may have, nothing is.
+    /// Takes the missing bytes of the frame, and no byte past it. If an allocation fails, the link faults or it ends,
+    /// the bytes that came are kept, and the next call continues with them. After a length that no frame may have, none
+    /// are kept.
     pub(crate) fn pull<L: LinkIn>(&mut self, alloc: Global, link: &mut L) -> Result<(), Error>
         requires { (L.LinkState.state link.old).faults < 2 ^ 64 - 1 }
-        ensures { Pulls self.old self.new (L.LinkState.state link.old) (L.LinkState.state link.new) result }
+        ensures { ReadsFrame self.old self.new (L.LinkState.state link.old) (L.LinkState.state link.new) result }
     {
         while !self.is_whole() {
             self.pull_part(alloc, link)?;
@@ -78,9 +79,9 @@ impl Incoming {
         Ok(())
     }
 
-    /// Takes what is missing of the length, or of the body.
+    /// Takes the missing bytes of the length, or of the body.
     fn pull_part<L: LinkIn>(&mut self, alloc: Global, link: &mut L) -> Result<(), Error>
-        requires missing { 0 < missing self.old.whole }
+        requires missing { 0 < missing_bytes self.old.whole }
         requires count { (L.LinkState.state link.old).faults < 2 ^ 64 - 1 }
         ensures { PullsPart self.old self.new (L.LinkState.state link.old) (L.LinkState.state link.new) result }
     {
@@ -104,8 +105,8 @@ impl Incoming {
     }
 }
 
-/// Takes a part of so many bytes into a room, which is made where there is none yet. After an error those that came
-/// are counted.
+/// Takes a part of `need` bytes into a room, which is allocated if there is none yet. After an error the bytes that
+/// came are counted.
 fn fill_part<L: LinkIn>(
     alloc: Global,
     link: &mut L,
@@ -129,7 +130,7 @@ fn fill_part<L: LinkIn>(
     fill(link, room.as_mut_slice(), filled)
 }
 
-/// Takes bytes into the rest of a room until it is full. After an error those that came are counted.
+/// Takes bytes into the rest of a room until it is full. After an error the bytes that came are counted.
 fn fill<L: LinkIn>(link: &mut L, room: &mut [u8], filled: &mut usize) -> Result<(), Error>
     requires within { filled.old ≤ length room.old }
     requires count { (L.LinkState.state link.old).faults < 2 ^ 64 - 1 }

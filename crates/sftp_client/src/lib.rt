@@ -5,7 +5,7 @@ mod incoming;
 mod outgoing;
 mod sftp;
 
-pub use call_state::Poll;
+pub use plan_state::Poll;
 pub use sftp::Sftp;
 pub use sftp_core::{Core, Ended};
 pub use sftp_file::{
@@ -14,12 +14,12 @@ pub use sftp_file::{
     cancel_read_all, close_call, status_call, take_bytes, take_io_slices,
 };
 pub use sftp_fs::{Dir, DirBuilder, DirCall, DirEntry, Fs, FsWriteCall, PathCall, ReadDir};
+pub use sftp_fs_read::{FsReadCall, StartRead};
 pub use sftp_link::Link;
 pub use sftp_meta::{FileType, MetaData, MetaDataBuilder, Permissions, UnixTimeStamp};
 pub use sftp_model::{
     Error, Extensions, Fault, FormatKind, IoKind, OpenOptions, RemotePath, SftpOptions,
 };
-pub use sftp_whole::{FsReadCall, StartRead};
 pub use ssh_encoding::OutOfMemory;
 
 #[cfg(test)]

@@ -1,13 +1,13 @@
-// The bytes that were handed out and are not sent yet.
+//! Bytes that were handed out and are not sent yet.
 ghost use Rattle.std.specs.Prelude.{◌≡◌, ◌<◌, ◌≤◌, ◌-◌, ◌^◌, [], ◌++◌, length, drop, Some};
 ghost use Rattle.sftp_core.specs.Frames.{AreFilled};
-ghost use Rattle.sftp_model.specs.Pieces.{joined};
+ghost use Rattle.sftp_model.specs.Pieces.{joined_pieces};
 ghost use Rattle.sftp_link.specs.Moves.{HasSent};
 ghost use Rattle.sftp_client.specs.Outgoing.{IsPrefixOf, IsAt, IsWithin, SendsOn, unsent_from};
 
 use arrayvec::ArrayVec;
 use bytes::Bytes;
-use session_exchange::fault;
+use link_frames::fault;
 use sftp_core::Chunk;
 use sftp_link::{DeviceError, LinkOut};
 use sftp_model::Error;
@@ -16,10 +16,10 @@ use std::marker::Model;
 /// The most bytes that are gathered into one send.
 const MAX_GATHERED: usize = 65536;
 
-/// A piece of which so many bytes are unsent goes by itself, and is not copied.
+/// The number of unsent bytes from which a piece is sent by itself, and is not copied.
 const MIN_ALONE: usize = 16384;
 
-/// What is unsent of a chunk: its pieces from one on, and of that one the bytes from an offset on. A contract sees
+/// The unsent part of a chunk: its pieces from one on, and of that one the bytes from an offset on. A contract sees
 /// these bytes.
 #[derive(Drop)]
 pub(crate) struct Outgoing {
@@ -40,7 +40,7 @@ impl Model for Outgoing {
 }
 
 impl Outgoing {
-    /// Nothing is unsent.
+    /// Returns a chunk of which nothing is unsent.
     pub(crate) fn new() -> Outgoing
         ensures { result ≡ [] }
     {
@@ -51,10 +51,10 @@ impl Outgoing {
         }
     }
 
-    /// All of a chunk is unsent.
+    /// Returns a chunk of which everything is unsent.
     pub(crate) fn of(chunk: Chunk) -> Outgoing
         requires { AreFilled chunk }
-        ensures { result ≡ joined chunk }
+        ensures { result ≡ joined_pieces chunk }
     {
         Outgoing {
             chunk: Some(chunk),
@@ -63,8 +63,8 @@ impl Outgoing {
         }
     }
 
-    /// Sends what is unsent, small neighbours gathered into one send. After an error the rest stays unsent, and the
-    /// next call goes on with it.
+    /// Sends the unsent bytes; small neighbouring pieces are gathered into one send. After an error the rest stays
+    /// unsent, and the next call continues with it.
     pub(crate) fn send<L: LinkOut>(&mut self, link: &mut L) -> Result<(), Error>
         requires { (L.LinkState.state link.old).faults < 2 ^ 64 - 1 }
         ensures { SendsOn self.old self.new (L.LinkState.state link.old) (L.LinkState.state link.new) result }
@@ -75,14 +75,14 @@ impl Outgoing {
         }
     }
 
-    /// The chunk of which all was sent, so that its list may be used again.
+    /// Returns the chunk, if all of it was sent, so that its list may be used again.
     pub(crate) fn into_chunk(self) -> Option<Chunk> {
         let Outgoing { chunk, .. } = self;
         chunk
     }
 }
 
-/// Sends pieces from a place on, and moves the place past what was sent.
+/// Sends pieces from a position on, and moves the position past the bytes that were sent.
 fn send_from<L: LinkOut>(
     link: &mut L,
     pieces: &[Bytes],
@@ -104,7 +104,7 @@ fn send_from<L: LinkOut>(
     Ok(())
 }
 
-/// One send of the first unsent bytes: a large piece by itself, or small ones as one.
+/// Does one send of the first unsent bytes: a large piece by itself, or small ones as one.
 fn send_some<L: LinkOut>(
     link: &mut L,
     pieces: &[Bytes],
@@ -125,11 +125,11 @@ fn send_some<L: LinkOut>(
     link.send(gathered.as_slice())
 }
 
-/// Gathers bytes, and as many whole pieces after them as there is room for.
+/// Gathers bytes, and the whole pieces after them that there is room for.
 fn gather(first: &[u8], later: &[Bytes], gathered: &mut ArrayVec<u8, MAX_GATHERED>)
     requires empty { gathered.old.items ≡ [] }
     requires fits { length first.now ≤ MAX_GATHERED }
-    ensures begins { IsPrefixOf gathered.new.items (first.now ++ joined later.now) }
+    ensures begins { IsPrefixOf gathered.new.items (first.now ++ joined_pieces later.now) }
     ensures first { length first.now ≤ length gathered.new.items }
 {
     gathered.try_extend_from_slice(first).unwrap();
@@ -141,7 +141,7 @@ fn gather(first: &[u8], later: &[Bytes], gathered: &mut ArrayVec<u8, MAX_GATHERE
     }
 }
 
-/// Moves a place past bytes that were sent.
+/// Moves a position past bytes that were sent.
 fn pass(pieces: &[Bytes], sent: usize, piece: &mut usize, offset: &mut usize)
     requires at { IsAt (Some pieces.now) piece.old offset.old }
     requires within { sent ≤ length (unsent_from (Some pieces.now) piece.old offset.old) }

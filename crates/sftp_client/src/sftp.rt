@@ -1,10 +1,10 @@
-// A session over a link.
+//! A session over a link.
 ghost use Rattle.std.specs.Prelude.{◌≡◌, ◌<◌, ◌-◌, ◌^◌, [], None};
 ghost use Rattle.std.specs.Borrow.{Lends, sem};
 ghost use Rattle.sftp_client.specs.contracts.sftp.Sftp.{the_row};
 ghost use Rattle.sftp_core.specs.contracts.pipeline.Core.{the_row as core_row};
 ghost use Rattle.sftp_core.specs.Frames.{AreFilled};
-ghost use Rattle.sftp_model.specs.Pieces.{joined};
+ghost use Rattle.sftp_model.specs.Pieces.{joined_pieces};
 ghost use Rattle.sftp_client.specs.Sessions.{FlushesQueue, FlushesUnfailed, IsWholeFrame, PullsFrame, SendsRest, TakesOrKept, TakesPulled, TakesUnfailed, TakesWhole, fault_by, kept_after, with_core};
 
 mod list;
@@ -17,7 +17,7 @@ mod write;
 
 use crate::incoming::Incoming;
 use crate::outgoing::Outgoing;
-use session_exchange::refused;
+use link_frames::refused;
 use sftp_core::{Chunk, Core};
 use sftp_link::Link;
 use sftp_model::{Error, Fault};
@@ -26,8 +26,10 @@ use std::marker::Model;
 use std::mem;
 
 /// A session over a link. A call of it sends what is queued, or takes one frame; between its calls nothing is sent or
-/// read, and what is dropped with it is sent no more. A contract sees its core, the bytes that were handed out and
-/// not sent, what came of the next frame, and the link.
+/// read. Bytes that are unsent when it is dropped are never sent. A contract sees its core, the bytes that were handed
+/// out and not sent, the bytes that came of the next frame, and the link.
+///
+/// Example: `crates/example_client/src/directories.rt`.
 #[derive(Drop)]
 pub struct Sftp<L> {
     alloc: Global,
@@ -49,7 +51,8 @@ impl<L> Model for Sftp<L> {
     ghost view = { λ s. record { core = s.core; unsent = s.outgoing; coming = s.incoming; link = s.link } };
 }
 
-/// The fault that a core keeps after an error of its link or of a frame's length. Want of memory keeps none.
+/// Returns the fault that a core keeps after an error of its link or of a frame's length. Running out of memory keeps
+/// none.
 fn fault_after(e: &Error) -> Option<Fault>
     ensures { result ≡ fault_by e.now }
 {
@@ -62,8 +65,8 @@ fn fault_after(e: &Error) -> Option<Fault>
 }
 
 impl<L: Link> Sftp<L> {
-    /// The core, to submit requests and to poll them. What its caller makes of it is the session's core then, and
-    /// nothing else changes.
+    /// Returns the core, to submit requests and to poll them. The session then has the core as the caller leaves it,
+    /// and nothing else changes.
     pub fn core(&mut self) -> &mut Core
         ensures value { result.now ≡ self.old.core }
         ensures* writes_back { sem 𝓛 (Lends (the_row L.row) core_row self.entry result (with_core self.old)) }
@@ -71,9 +74,13 @@ impl<L: Link> Sftp<L> {
         &mut self.core
     }
 
-    /// Sends all that is queued, in order, after what an earlier call left unsent. A kept fault is answered before all
-    /// else, and nothing is sent then. `OutOfMemory`: what was not sent is kept, and the next `flush`, `take` or
-    /// `close` sends it first. `LinkFault`: the fault is kept, and each later call answers it.
+    /// Sends all that is queued, in order, after the bytes that an earlier call left unsent.
+    ///
+    /// # Errors
+    ///
+    /// A recorded fault is reported first, and nothing is sent then. `OutOfMemory` if an allocation fails: the unsent
+    /// bytes are kept, and the next `flush`, `take` or `close` sends them first. `LinkFault` if the link fails: the
+    /// fault is recorded, and each later call reports it.
     pub fn flush(&mut self) -> Result<(), Error>
         requires { (L.LinkState.state self.old.link).faults < 2 ^ 64 - 1 }
         ensures { FlushesQueue L.LinkState.state self.old self.new result }
@@ -84,7 +91,11 @@ impl<L: Link> Sftp<L> {
         self.flush_unfailed()
     }
 
-    /// `flush`, by the name that `openssh-sftp-client` has for it.
+    /// Does the same as `flush`, by the name that `openssh-sftp-client` has for it.
+    ///
+    /// # Errors
+    ///
+    /// Those of `flush`.
     pub fn manual_flush(&mut self) -> Result<(), Error>
         requires { (L.LinkState.state self.old.link).faults < 2 ^ 64 - 1 }
         ensures { FlushesQueue L.LinkState.state self.old self.new result }
@@ -92,10 +103,13 @@ impl<L: Link> Sftp<L> {
         self.flush()
     }
 
-    /// Takes one frame, and no byte past it: false exactly where no sent request is unanswered, and nothing is read
-    /// then. What an earlier call left unsent is sent first. A kept fault is answered before all else.
-    /// `OutOfMemory`: what came of the frame is kept, and the call may be made again. After any other error its fault
-    /// is kept, and each later call answers it.
+    /// Takes one frame, and no byte past it. Returns false exactly if no sent request is unanswered; nothing is read
+    /// then. The bytes that an earlier call left unsent are sent first.
+    ///
+    /// # Errors
+    ///
+    /// A recorded fault is reported first. `OutOfMemory` if an allocation fails: the bytes that came of the frame are
+    /// kept, and the call may be repeated. After any other error its fault is recorded, and each later call reports it.
     pub fn take(&mut self) -> Result<bool, Error>
         requires { (L.LinkState.state self.old.link).faults < 2 ^ 64 - 1 }
         ensures { TakesOrKept L.LinkState.state self.old self.new result }
@@ -106,7 +120,7 @@ impl<L: Link> Sftp<L> {
         self.take_unfailed()
     }
 
-    /// `flush` where no fault is kept.
+    /// Does a `flush` if the core has recorded no fault.
     fn flush_unfailed(&mut self) -> Result<(), Error>
         requires unfailed { self.old.core.fault ≡ None }
         requires count { (L.LinkState.state self.old.link).faults < 2 ^ 64 - 1 }
@@ -120,7 +134,7 @@ impl<L: Link> Sftp<L> {
         self.send_rest()
     }
 
-    /// `take` where no fault is kept.
+    /// Does a `take` if the core has recorded no fault.
     fn take_unfailed(&mut self) -> Result<bool, Error>
         requires unfailed { self.old.core.fault ≡ None }
         requires count { (L.LinkState.state self.old.link).faults < 2 ^ 64 - 1 }
@@ -134,7 +148,7 @@ impl<L: Link> Sftp<L> {
         Ok(true)
     }
 
-    /// Sends what was handed out. A fault of the link is kept.
+    /// Sends the bytes that were handed out. A fault of the link is recorded.
     fn send_rest(&mut self) -> Result<(), Error>
         requires { (L.LinkState.state self.old.link).faults < 2 ^ 64 - 1 }
         ensures { SendsRest L.LinkState.state self.old self.new result }
@@ -148,7 +162,7 @@ impl<L: Link> Sftp<L> {
         }
     }
 
-    /// Takes one frame. A fault of the link, and the first thing that is wrong with the frame, is kept.
+    /// Takes one frame. A fault of the link, and the first thing that is wrong with the frame, is recorded.
     fn take_frame(&mut self) -> Result<(), Error>
         requires unfailed { self.old.core.fault ≡ None }
         requires sent { self.old.unsent ≡ [] }
@@ -159,7 +173,7 @@ impl<L: Link> Sftp<L> {
         self.take_pulled()
     }
 
-    /// Takes what is missing of a frame. A fault of the link, and a length that no frame may have, is kept.
+    /// Takes the missing bytes of a frame. A fault of the link, and a length that no frame may have, is recorded.
     fn pull(&mut self) -> Result<(), Error>
         requires { (L.LinkState.state self.old.link).faults < 2 ^ 64 - 1 }
         ensures { PullsFrame L.LinkState.state self.old self.new result }
@@ -173,7 +187,8 @@ impl<L: Link> Sftp<L> {
         }
     }
 
-    /// Takes the frame that is whole. The first thing that is wrong with it is kept; for want of memory it stays.
+    /// Takes the frame that is whole. The first thing that is wrong with it is recorded; if an allocation fails the
+    /// frame stays.
     fn take_pulled(&mut self) -> Result<(), Error>
         requires unfailed { self.old.core.fault ≡ None }
         requires whole { IsWholeFrame self.old.coming }
@@ -196,7 +211,7 @@ impl<L: Link> Sftp<L> {
         }
     }
 
-    /// Keeps the fault of an error, where it has one.
+    /// Records the fault of an error, if it has one.
     fn keep(&mut self, e: &Error)
         ensures { self.new ≡ record self.old { core = kept_after e.now self.old.core } }
     {
@@ -205,10 +220,10 @@ impl<L: Link> Sftp<L> {
         }
     }
 
-    /// Puts a chunk in the place of one that was sent, whose list the core uses again.
+    /// Puts a chunk in the place of one that was sent; the core uses the list of that one again.
     fn put_out(&mut self, chunk: Chunk)
         requires { AreFilled chunk }
-        ensures { self.new ≡ record self.old { unsent = joined chunk } }
+        ensures { self.new ≡ record self.old { unsent = joined_pieces chunk } }
     {
         let sent = mem::replace(&mut self.outgoing, Outgoing::of(chunk));
         if let Some(list) = sent.into_chunk() {

@@ -1,4 +1,4 @@
-// A session over a scripted link, whose peer says VERSION 3 and no more.
+//! Tests of a session over a scripted link whose peer sends only VERSION 3.
 
 use crate::Sftp;
 use sftp_link::{Scripted, ScriptedLink};

@@ -14,7 +14,8 @@ pub len_more : (t : IdRecords) (id : ℕ) (v : IdRecord) → fin.len (fin.insert
 len_more t id v = rw (fin.len-insert nat_cmp_total t id v) (elim (fin.contains_key t id) as
     (λ b. cond b (fin.len t) (fin.len t + 1) ≤ fin.len t + 1) [ true ↦ omega arith | false ↦ omega arith ])
 
-pub len_same : (t : IdRecords) (id : ℕ) (v w : IdRecord) → fin.get t id ≡ Some w → fin.len (fin.insert t id v) ≡ fin.len t
+pub len_same : (t : IdRecords) (id : ℕ) (v w : IdRecord) → fin.get t id ≡ Some w → fin.len (fin.insert t id v)
+    ≡ fin.len t
 len_same t id v w some = rw (fin.len-insert nat_cmp_total t id v, some) refl
 
 pub len_less : (t : IdRecords) (id : ℕ) → fin.len (fin.remove t id) ≤ fin.len t
@@ -27,9 +28,11 @@ length_sent [] = refl
 length_sent (e ∷ es) = ap suc (length_sent es)
 
 -- each record weighs, after, what it weighed by g before
-sums_sent : (f g : IdRecord → ℕ) → ((x : IdRecord) → f (sent_record x) ≡ g x) → (xs : List IdRecord) → sum_by f (map sent_record xs) ≡ sum_by g xs
+sums_sent : (f g : IdRecord → ℕ) → ((x : IdRecord) → f (sent_record x) ≡ g x) → (xs : List IdRecord)
+    → sum_by f (map sent_record xs) ≡ sum_by g xs
 sums_sent f g h [] = refl
-sums_sent f g h (x ∷ xs) = sum_by-cons f (sent_record x) (map sent_record xs) ∙ (λ i. h x i + sums_sent f g h xs i) ∙ sym (sum_by-cons g x xs)
+sums_sent f g h (x ∷ xs) = sum_by-cons f (sent_record x) (map sent_record xs) ∙ (λ i. h x i + sums_sent f g h xs i)
+    ∙ sym (sum_by-cons g x xs)
 
 sums_none : (xs : List IdRecord) → sum_by (λ x. 0) xs ≡ 0
 sums_none [] = refl
@@ -49,7 +52,8 @@ sums_few (x ∷ xs) =
     at_most (Answered expected r) = omega arith
     at_most (Granted handle users) = omega arith
 
-sums_split : (xs : List IdRecord) → sum_by (tally is_waiting) xs ≡ sum_by (tally is_unsent) xs + sum_by (tally is_sent) xs
+sums_split : (xs : List IdRecord) → sum_by (tally is_waiting) xs
+    ≡ sum_by (tally is_unsent) xs + sum_by (tally is_sent) xs
 sums_split [] = refl
 sums_split (x ∷ xs) =
     let a = sum_by-cons (tally is_sent) x xs in
@@ -82,7 +86,8 @@ length-values (e ∷ es) = ap suc (length-values es)
 
 pub count_len : (p : IdRecord → Bool) (t : IdRecords) → count p t ≤ fin.len t
 unfolding count
-count_len p t = let few = sums_len p (fin.values t) in let l = fin.len-entries t in let m = length-values (fin.entries t) in omega arith
+count_len p t = let few = sums_len p (fin.values t) in let l = fin.len-entries t in let m =
+    length-values (fin.entries t) in omega arith
 
 pub count_unsent_sent : (t : IdRecords) → count is_unsent (all_sent t) ≡ 0
 unfolding count
@@ -121,7 +126,8 @@ count_owing_sent t =
     each (Granted handle users) = refl
 
 pub len_sent : (t : IdRecords) → fin.len (all_sent t) ≡ fin.len t
-len_sent t = fin.len-entries (all_sent t) ∙ ap length (entries_sent t) ∙ length_sent (fin.entries t) ∙ sym (fin.len-entries t)
+len_sent t = fin.len-entries (all_sent t) ∙ ap length (entries_sent t) ∙ length_sent (fin.entries t)
+    ∙ sym (fin.len-entries t)
 
 pub count-empty : (p : IdRecord → Bool) → count p fin.empty ≡ 0
 count-empty p = let few = count_len p fin.empty in let none = fin.len-empty nat_cmp IdRecord in omega (arith, few, none)

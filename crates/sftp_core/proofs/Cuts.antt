@@ -29,7 +29,7 @@ use Rattle.std.proofs.lemmas.Grind.{flat_map-append}
 use Rattle.std.proofs.lemmas.List.{map_push, length-map, get_or-map}
 use Rattle.std.proofs.lemmas.List.Elements.{All-append, All-cons, All-nil}
 use Rattle.ssh_encoding.specs.Writing.{uint32, uint64, string}
-use Rattle.sftp_model.specs.Pieces.{joined}
+use Rattle.sftp_model.specs.Pieces.{joined_pieces}
 use Rattle.sftp_model.specs.Numbers.{SSH_FXP_WRITE}
 use Rattle.sftp_model.specs.Frames.{of_type, request_body, frame_of, frames_of}
 use Rattle.sftp_model.specs.declared.request.Request.{Request}
@@ -41,21 +41,27 @@ use Rattle.sftp_core.specs.Frames.{AreFilled, IsShort}
 use Rattle.sftp_core.specs.Pieces.{Frame, asked_of, pieces_in, pieces_of, one_filled, filled_of, IsCut, IsShortFrame, IsWhole}
 
 -- ---- lists
-pub taken : {X : Type 0} (xs : List X) (i : ℕ) (x : X) → i < length xs → x ≡ get_or xs i x → take (i + 1) xs ≡ take i xs ++ x ∷ []
+pub taken : {X : Type 0} (xs : List X) (i : ℕ) (x : X) → i < length xs → x ≡ get_or xs i x → take (i + 1) xs ≡ take i xs
+    ++ x ∷ []
 taken xs i x h e = ap (λ n. take n xs) (add-one i) ∙ take-suc xs i x h ∙ ap (λ y. take i xs ++ y ∷ []) (sym e)
 
-joined-append : (xs ys : List (List ℕ)) → joined (xs ++ ys) ≡ joined xs ++ joined ys
+joined-append : (xs ys : List (List ℕ)) → joined_pieces (xs ++ ys) ≡ joined_pieces xs ++ joined_pieces ys
 joined-append [] ys = refl
-joined-append (x ∷ xs) ys = ap (λ l. x ++ l) (joined-append xs ys) ∙ sym (append_assoc x (joined xs) (joined ys))
+joined-append (x ∷ xs) ys = ap (λ l. x ++ l) (joined-append xs ys)
+    ∙ sym (append_assoc x (joined_pieces xs) (joined_pieces ys))
 
-pub asked-push : (queue : List Frame) (f : Frame) → map asked_of (queue ++ f ∷ []) ≡ map asked_of queue ++ asked_of f ∷ []
+pub asked-push : (queue : List Frame) (f : Frame) → map asked_of (queue ++ f ∷ []) ≡ map asked_of queue
+    ++ asked_of f ∷ []
 asked-push queue f = map_push asked_of queue f
 
 pub pieces-push : (queue : List Frame) (f : Frame) → pieces_of (queue ++ f ∷ []) ≡ pieces_of queue ++ pieces_in f
-pieces-push queue f = flat_map-append pieces_in queue (f ∷ []) ∙ ap (λ l. pieces_of queue ++ l) (append-nil (pieces_in f))
+pieces-push queue f = flat_map-append pieces_in queue (f ∷ [])
+    ∙ ap (λ l. pieces_of queue ++ l) (append-nil (pieces_in f))
 
-frames-push : (queue : List (ℕ × Request)) (one : ℕ × Request) → frames_of (queue ++ one ∷ []) ≡ frames_of queue ++ frame_of one
-frames-push queue one = flat_map-append frame_of queue (one ∷ []) ∙ ap (λ l. frames_of queue ++ l) (append-nil (frame_of one))
+frames-push : (queue : List (ℕ × Request)) (one : ℕ × Request) → frames_of (queue ++ one ∷ []) ≡ frames_of queue
+    ++ frame_of one
+frames-push queue one = flat_map-append frame_of queue (one ∷ [])
+    ∙ ap (λ l. frames_of queue ++ l) (append-nil (frame_of one))
 
 -- ---- a frame
 head_filled : (r : Request) (id : ℕ) → 0 < length (request_head r id)
@@ -66,15 +72,17 @@ head_filled (request.Write handle offset content) id =
     omega (arith, a, b)
 head_filled other id = let a = length-string (request_body other id) in omega (arith, a)
 
-pub one-joins : (xs : List ℕ) → joined (one_filled xs) ≡ xs
+pub one-joins : (xs : List ℕ) → joined_pieces (one_filled xs) ≡ xs
 one-joins [] = refl
 one-joins (x ∷ xs) = append-nil (x ∷ xs)
 
 one-filled : (xs : List ℕ) → AreFilled (one_filled xs)
 one-filled [] = All-nil (λ piece. 0 < length piece)
-one-filled (x ∷ xs) = All-cons (λ piece. 0 < length piece) (x ∷ xs) [] (omega arith) (All-nil (λ piece. 0 < length piece))
+one-filled (x ∷ xs) = All-cons (λ piece. 0 < length piece) (x ∷ xs) [] (omega arith)
+    (All-nil (λ piece. 0 < length piece))
 
-pub cut-one : (asked copy : Request) (parts : List (List ℕ)) → copy ≡ asked → parts ≡ one_filled (content_of asked) → IsCut copy parts
+pub cut-one : (asked copy : Request) (parts : List (List ℕ)) → copy ≡ asked → parts ≡ one_filled (content_of asked)
+    → IsCut copy parts
 cut-one asked copy parts same is =
     rw (same, is) (record { joins = one-joins (content_of asked); filled = one-filled (content_of asked) })
 
@@ -82,7 +90,8 @@ pub cut-none : (asked : Request) (parts : List (List ℕ)) → content_of asked 
 cut-none asked parts none is = rw is (record { joins = sym none; filled = All-nil (λ piece. 0 < length piece) })
 
 -- ---- parts
-filled-push : (parts : List (List ℕ)) (part : List ℕ) → filled_of (parts ++ part ∷ []) ≡ filled_of parts ++ one_filled part
+filled-push : (parts : List (List ℕ)) (part : List ℕ) → filled_of (parts ++ part ∷ []) ≡ filled_of parts
+    ++ one_filled part
 filled-push [] [] = refl
 filled-push [] (x ∷ xs) = refl
 filled-push ([] ∷ parts) part = filled-push parts part
@@ -92,9 +101,10 @@ pub filled-more : (parts : List (List ℕ)) (i : ℕ) (part : List ℕ) (out nex
     ≡ get_or parts i part → out ≡ filled_of (take i parts) → next ≡ out ++ one_filled part → next
     ≡ filled_of (take (i + 1) parts)
 filled-more parts i part out next h e is more =
-    more ∙ ap (λ l. l ++ one_filled part) is ∙ sym (ap filled_of (taken parts i part h e) ∙ filled-push (take i parts) part)
+    more ∙ ap (λ l. l ++ one_filled part) is ∙ sym (ap filled_of (taken parts i part h e)
+    ∙ filled-push (take i parts) part)
 
-filled-joins : (parts : List (List ℕ)) → joined (filled_of parts) ≡ joined parts
+filled-joins : (parts : List (List ℕ)) → joined_pieces (filled_of parts) ≡ joined_pieces parts
 filled-joins [] = refl
 filled-joins ([] ∷ parts) = filled-joins parts
 filled-joins ((x ∷ xs) ∷ parts) = ap (λ l. (x ∷ xs) ++ l) (filled-joins parts)
@@ -102,10 +112,16 @@ filled-joins ((x ∷ xs) ∷ parts) = ap (λ l. (x ∷ xs) ++ l) (filled-joins p
 filled-filled : (parts : List (List ℕ)) → AreFilled (filled_of parts)
 filled-filled [] = All-nil (λ piece. 0 < length piece)
 filled-filled ([] ∷ parts) = filled-filled parts
-filled-filled ((x ∷ xs) ∷ parts) = All-cons (λ piece. 0 < length piece) (x ∷ xs) (filled_of parts) (omega arith) (filled-filled parts)
+filled-filled ((x ∷ xs) ∷ parts) = All-cons (λ piece. 0 < length piece) (x ∷ xs) (filled_of parts) (omega arith)
+    (filled-filled parts)
 
-pub cut-parts : (asked : Request) (parts filled : List (List ℕ)) → content_of asked ≡ joined parts → filled ≡ filled_of parts → IsCut asked filled
-cut-parts asked parts filled content is = rw is (record { joins = filled-joins parts ∙ sym content; filled = filled-filled parts })
+pub cut-parts : (asked : Request) (parts filled : List (List ℕ)) → content_of asked ≡ joined_pieces parts → filled
+    ≡ filled_of parts → IsCut asked filled
+cut-parts asked parts filled content is = rw is (record {
+  joins = filled-joins parts ∙ sym content;
+  filled =
+      filled-filled parts;
+})
 
 -- ---- a queue
 pub whole-none : IsWhole []
@@ -115,14 +131,15 @@ pub whole-push : (queue : List Frame) (f : Frame) → IsWhole queue → IsCut f.
 whole-push queue f w cut =
     record {
       joins =
-          ap joined (pieces-push queue f) ∙ joined-append (pieces_of queue) (pieces_in f)
+          ap joined_pieces (pieces-push queue f) ∙ joined-append (pieces_of queue) (pieces_in f)
           ∙ (λ i. w.joins i ++ (request_head f.request f.id ++ cut.joins i))
           ∙ ap (λ l. frames_of (map asked_of queue) ++ l) (head_and_content f.request f.id)
           ∙ sym (ap frames_of (asked-push queue f) ∙ frames-push (map asked_of queue) (asked_of f));
       filled =
           subst AreFilled (sym (pieces-push queue f))
           (All-append (λ piece. 0 < length piece) (pieces_of queue) (pieces_in f) w.filled
-          (All-cons (λ piece. 0 < length piece) (request_head f.request f.id) f.parts (head_filled f.request f.id) cut.filled));
+          (All-cons (λ piece. 0 < length piece) (request_head f.request f.id) f.parts (head_filled f.request f.id)
+          cut.filled));
     }
 
 pub whole-more : (queue : List Frame) (i : ℕ) (f : Frame) → i < length queue → f ≡ get_or queue i f
@@ -138,4 +155,5 @@ pieces-more queue i f first out next h e is more =
 
 pub short-frames : (queue : List Frame) → All IsShort (map asked_of queue) → All IsShortFrame queue
 short-frames queue all i d h =
-    subst IsShort (get_or-map asked_of queue i d (asked_of d) h) (all i (asked_of d) (omega (arith, h, length-map queue asked_of)))
+    subst IsShort (get_or-map asked_of queue i d (asked_of d) h)
+    (all i (asked_of d) (omega (arith, h, length-map queue asked_of)))

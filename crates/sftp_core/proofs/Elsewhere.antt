@@ -13,9 +13,9 @@ use Rattle.sftp_model.specs.declared.reply.Reply.{Reply}
 use Rattle.sftp_core.specs.declared.id_record.IdRecord.{IdRecord}
 use Rattle.sftp_core.specs.declared.id_record.IdRecord.TheVariants.{Waiting, Answered, Granted}
 use Rattle.sftp_core.specs.Grant.{GrantValue}
-use Rattle.sftp_core.specs.Table.{IdRecords, brings, sent_record}
+use Rattle.sftp_core.specs.Table.{IdRecords, handle_in_reply, sent_record}
 use Rattle.sftp_core.proofs.Sent.{get_sent}
-use Rattle.sftp_core.specs.Core.{Core, at, poll_leaves, given_leaves, abandon_leaves, dropped, release_leaves, retained, queued_last, with_record, handed_out}
+use Rattle.sftp_core.specs.Core.{Core, record_at, poll_leaves, given_leaves, abandon_leaves, core_after_drop, release_leaves, core_after_retain, queued_last, with_record, handed_out}
 use Rattle.sftp_core.specs.Take.{take_leaves}
 
 apart : (q k : ℕ) → q ≢ k → eq_by_cmp nat_cmp q k ≡ false
@@ -40,61 +40,71 @@ gone_elsewhere t k q h = fin.get-remove nat_cmp_total t k q ∙ ap (λ b. cond b
 
 -- ---- each call
 
-pub submit_elsewhere : (core : Core) (k : ℕ) (request : Request) (wanted : Bool) (q : ℕ) → q ≢ k → at (queued_last core k request wanted) q ≡ at core q
+pub submit_elsewhere : (core : Core) (k : ℕ) (request : Request) (wanted : Bool) (q : ℕ) → q ≢ k
+    → record_at (queued_last core k request wanted) q ≡ record_at core q
 submit_elsewhere core k request wanted q h = put_elsewhere core.table k _ q h
 
 -- under a free id, a request changes no record that is there
-pub other_place : (core : Core) (k : ℕ) (request : Request) (wanted : Bool) (other : ℕ) (here : IdRecord) → at core k ≡ None → at core other ≡ Some here
-    → at (queued_last core k request wanted) other ≡ Some here
+pub other_place : (core : Core) (k : ℕ) (request : Request) (wanted : Bool) (other : ℕ) (here : IdRecord)
+    → record_at core k ≡ None → record_at core other ≡ Some here
+    → record_at (queued_last core k request wanted) other ≡ Some here
 other_place core k request wanted other here free there =
-    submit_elsewhere core k request wanted other (λ same. let clash : Some here ≡ None = sym there ∙ ap (at core) same ∙ free in cc) ∙ there
+    submit_elsewhere core k request wanted other (λ same. let clash : Some here ≡ None = sym there
+    ∙ ap (record_at core) same ∙ free in cc) ∙ there
 
-drop_elsewhere : (core : Core) (k : ℕ) (brought : Option (List ℕ)) (q : ℕ) → q ≢ k → at (dropped core k brought) q ≡ at core q
+drop_elsewhere : (core : Core) (k : ℕ) (brought : Option (List ℕ)) (q : ℕ) → q ≢ k
+    → record_at (core_after_drop core k brought) q ≡ record_at core q
 drop_elsewhere core k (Some handle) q h = put_elsewhere core.table k _ q h
 drop_elsewhere core k None q h = gone_elsewhere core.table k q h
 
-give_elsewhere : (core : Core) (k : ℕ) (brought : Option (List ℕ)) (q : ℕ) → q ≢ k → at (given_leaves core k brought) q ≡ at core q
+give_elsewhere : (core : Core) (k : ℕ) (brought : Option (List ℕ)) (q : ℕ) → q ≢ k
+    → record_at (given_leaves core k brought) q ≡ record_at core q
 give_elsewhere core k (Some handle) q h = put_elsewhere core.table k _ q h
 give_elsewhere core k None q h = gone_elsewhere core.table k q h
 
-pub poll_elsewhere : (core : Core) (k : ℕ) (f : Option Fault) (p : Option IdRecord) (q : ℕ) → q ≢ k → at (poll_leaves core k f p) q ≡ at core q
-poll_elsewhere core k f (Some (Answered e r)) q h = give_elsewhere core k (brings r) q h
+pub poll_elsewhere : (core : Core) (k : ℕ) (f : Option Fault) (p : Option IdRecord) (q : ℕ) → q ≢ k
+    → record_at (poll_leaves core k f p) q ≡ record_at core q
+poll_elsewhere core k f (Some (Answered e r)) q h = give_elsewhere core k (handle_in_reply r) q h
 poll_elsewhere core k (Some f) (Some (Waiting e s w)) q h = put_elsewhere core.table k _ q h
 poll_elsewhere core k None (Some (Waiting e s w)) q h = refl
 poll_elsewhere core k f (Some (Granted handle users)) q h = refl
 poll_elsewhere core k f None q h = refl
 
-pub abandon_elsewhere : (core : Core) (k : ℕ) (p : Option IdRecord) (q : ℕ) → q ≢ k → at (abandon_leaves core k p) q ≡ at core q
+pub abandon_elsewhere : (core : Core) (k : ℕ) (p : Option IdRecord) (q : ℕ) → q ≢ k
+    → record_at (abandon_leaves core k p) q ≡ record_at core q
 abandon_elsewhere core k (Some (Waiting e s w)) q h = put_elsewhere core.table k _ q h
-abandon_elsewhere core k (Some (Answered e r)) q h = drop_elsewhere core k (brings r) q h
+abandon_elsewhere core k (Some (Answered e r)) q h = drop_elsewhere core k (handle_in_reply r) q h
 abandon_elsewhere core k (Some (Granted handle users)) q h = refl
 abandon_elsewhere core k None q h = refl
 
-pub take_elsewhere : (core : Core) (k : ℕ) (r : Reply) (p : Option IdRecord) (q : ℕ) → q ≢ k → at (take_leaves core k r p) q ≡ at core q
+pub take_elsewhere : (core : Core) (k : ℕ) (r : Reply) (p : Option IdRecord) (q : ℕ) → q ≢ k
+    → record_at (take_leaves core k r p) q ≡ record_at core q
 take_elsewhere core k r (Some (Waiting e s true)) q h = put_elsewhere core.table k _ q h
-take_elsewhere core k r (Some (Waiting e s false)) q h = drop_elsewhere core k (brings r) q h
+take_elsewhere core k r (Some (Waiting e s false)) q h = drop_elsewhere core k (handle_in_reply r) q h
 take_elsewhere core k r (Some (Answered e other)) q h = refl
 take_elsewhere core k r (Some (Granted handle users)) q h = refl
 take_elsewhere core k r None q h = refl
 
-pub retain_elsewhere : (core : Core) (grant : GrantValue) (q : ℕ) → q ≢ grant.id → at (retained core grant) q ≡ at core q
+pub retain_elsewhere : (core : Core) (grant : GrantValue) (q : ℕ) → q ≢ grant.id
+    → record_at (core_after_retain core grant) q ≡ record_at core q
 retain_elsewhere core grant q h = put_elsewhere core.table grant.id _ q h
 
-pub release_elsewhere : (core : Core) (grant : GrantValue) (users q : ℕ) → q ≢ grant.id → at (release_leaves core grant users) q ≡ at core q
+pub release_elsewhere : (core : Core) (grant : GrantValue) (users q : ℕ) → q ≢ grant.id
+    → record_at (release_leaves core grant users) q ≡ record_at core q
 release_elsewhere core grant users q h = by_test (users == 1)
   where
-    by_test : (b : Bool) → at (cond b (queued_last core grant.id (Close grant.handle) true)
-        (with_record core grant.id (Granted grant.handle (users - 1)))) q ≡ at core q
+    by_test : (b : Bool) → record_at (cond b (queued_last core grant.id (Close grant.handle) true)
+        (with_record core grant.id (Granted grant.handle (users - 1)))) q ≡ record_at core q
     by_test true = put_elsewhere core.table grant.id _ q h
     by_test false = put_elsewhere core.table grant.id _ q h
 
 -- a hand-out changes no record but that its request counts as sent
-pub hand_out_each : (core : Core) (q : ℕ) → at (handed_out core) q ≡ option_map sent_record (at core q)
+pub hand_out_each : (core : Core) (q : ℕ) → record_at (handed_out core) q ≡ option_map sent_record (record_at core q)
 hand_out_each core q = get_sent core.table q
 
 -- ---- only a frame that is taken changes how far the greeting has come
 
-drop_phase : (core : Core) (k : ℕ) (brought : Option (List ℕ)) → (dropped core k brought).phase ≡ core.phase
+drop_phase : (core : Core) (k : ℕ) (brought : Option (List ℕ)) → (core_after_drop core k brought).phase ≡ core.phase
 drop_phase core k (Some handle) = refl
 drop_phase core k None = refl
 
@@ -102,8 +112,9 @@ give_phase : (core : Core) (k : ℕ) (brought : Option (List ℕ)) → (given_le
 give_phase core k (Some handle) = refl
 give_phase core k None = refl
 
-pub poll_phase : (core : Core) (k : ℕ) (f : Option Fault) (p : Option IdRecord) → (poll_leaves core k f p).phase ≡ core.phase
-poll_phase core k f (Some (Answered e r)) = give_phase core k (brings r)
+pub poll_phase : (core : Core) (k : ℕ) (f : Option Fault) (p : Option IdRecord) → (poll_leaves core k f p).phase
+    ≡ core.phase
+poll_phase core k f (Some (Answered e r)) = give_phase core k (handle_in_reply r)
 poll_phase core k (Some f) (Some (Waiting e s w)) = refl
 poll_phase core k None (Some (Waiting e s w)) = refl
 poll_phase core k f (Some (Granted handle users)) = refl
@@ -111,18 +122,19 @@ poll_phase core k f None = refl
 
 pub abandon_phase : (core : Core) (k : ℕ) (p : Option IdRecord) → (abandon_leaves core k p).phase ≡ core.phase
 abandon_phase core k (Some (Waiting e s w)) = refl
-abandon_phase core k (Some (Answered e r)) = drop_phase core k (brings r)
+abandon_phase core k (Some (Answered e r)) = drop_phase core k (handle_in_reply r)
 abandon_phase core k (Some (Granted handle users)) = refl
 abandon_phase core k None = refl
 
 pub take_phase : (core : Core) (k : ℕ) (r : Reply) (p : Option IdRecord) → (take_leaves core k r p).phase ≡ core.phase
 take_phase core k r (Some (Waiting e s true)) = refl
-take_phase core k r (Some (Waiting e s false)) = drop_phase core k (brings r)
+take_phase core k r (Some (Waiting e s false)) = drop_phase core k (handle_in_reply r)
 take_phase core k r (Some (Answered e other)) = refl
 take_phase core k r (Some (Granted handle users)) = refl
 take_phase core k r None = refl
 
-pub release_phase : (core : Core) (grant : GrantValue) (users : ℕ) → (release_leaves core grant users).phase ≡ core.phase
+pub release_phase : (core : Core) (grant : GrantValue) (users : ℕ) → (release_leaves core grant users).phase
+    ≡ core.phase
 release_phase core grant users = by_test (users == 1)
   where
     by_test : (b : Bool) → (cond b (queued_last core grant.id (Close grant.handle) true)

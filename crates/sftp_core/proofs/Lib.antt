@@ -1,12 +1,12 @@
 pub mod Tables
-pub mod Slots
-pub mod Marks
+mod Slots
+mod Marks
 pub mod Cuts
 pub mod Counts
 pub mod Tallies
-pub mod Sounds
-pub mod Records
-pub mod Turning
+mod Sounds
+mod Records
+mod Turning
 pub mod Elsewhere
 pub mod Sent
-pub mod Refusals
+mod Refusals

@@ -1,7 +1,7 @@
 -- What the conditions of the calls tell of the record under an id.
 use Rattle.std.proofs.Common.{◌≡◌, ℕ, Bool, true, false, cond, refl, sym, subst, Option, Some, None}
 use Rattle.std.specs.Prelude.{IsSome}
-use Rattle.sftp_model.specs.Answers.{allows}
+use Rattle.sftp_model.specs.Answers.{allows_reply}
 use Rattle.sftp_model.specs.declared.answers.Expected.{Expected}
 use Rattle.sftp_model.specs.declared.reply.Reply.{Reply}
 use Rattle.sftp_core.specs.declared.errors.TakeError.{TakeError}
@@ -14,13 +14,14 @@ use Rattle.sftp_core.specs.Take.{wrong_at}
 -- a reply that nothing is wrong with answers a request that was handed out and allows it
 pub record IsDue (e : Expected) (sent : Bool) (r : Reply) : Type 0 where
   pub handed : sent ≡ true
-  pub allowed : allows e r ≡ true
+  pub allowed : allows_reply e r ≡ true
 
 allowed_of : (e : TakeError) (b : Bool) → cond b None (Some e) ≡ None → b ≡ true
 allowed_of e true h = refl
 allowed_of e false h = absurd cc
 
-pub due : (id : ℕ) (r : Reply) (e : Expected) (sent wanted : Bool) → wrong_at id r (Some (Waiting e sent wanted)) ≡ None → IsDue e sent r
+pub due : (id : ℕ) (r : Reply) (e : Expected) (sent wanted : Bool) → wrong_at id r (Some (Waiting e sent wanted)) ≡ None
+    → IsDue e sent r
 due id r e true wanted h = record { handed = refl; allowed = allowed_of _ _ h }
 due id r e false wanted h = absurd cc
 
@@ -34,7 +35,8 @@ there None may = absurd may
 there (Some w) may = refl
 
 -- what is accepted is one that the kind of its request allows
-pub accepted : (id : ℕ) (r : Reply) (e : Expected) (p : Option IdRecord) → expected_at p ≡ Some e → wrong_at id r p ≡ None → allows e r ≡ true
+pub accepted : (id : ℕ) (r : Reply) (e : Expected) (p : Option IdRecord) → expected_at p ≡ Some e → wrong_at id r p
+    ≡ None → allows_reply e r ≡ true
 accepted id r e None is h = absurd cc
 accepted id r e (Some (Waiting kind true wanted)) is h =
     let same : kind ≡ e = cc in rw (sym same) (allowed_of _ _ h)

@@ -9,11 +9,13 @@ use Rattle.std.specs.FinMap.Entries.{below_all, find}
 use Rattle.sftp_core.specs.declared.id_record.IdRecord.{IdRecord}
 use Rattle.sftp_core.specs.Table.{IdRecords, sent_record, all_sent}
 
-below_sent : (k : ℕ) (es : List (ℕ × IdRecord)) → below_all nat_cmp k (map (λ e. (e.0, sent_record e.1)) es) ≡ below_all nat_cmp k es
+below_sent : (k : ℕ) (es : List (ℕ × IdRecord)) → below_all nat_cmp k (map (λ e. (e.0, sent_record e.1)) es)
+    ≡ below_all nat_cmp k es
 below_sent k [] = refl
 below_sent k (e ∷ es) = ap (λ b. is_lt (nat_cmp k e.0) && b) (below_sent k es)
 
-sorted_sent : (es : List (ℕ × IdRecord)) → is_sorted nat_cmp (map (λ e. (e.0, sent_record e.1)) es) ≡ is_sorted nat_cmp es
+sorted_sent : (es : List (ℕ × IdRecord)) → is_sorted nat_cmp (map (λ e. (e.0, sent_record e.1)) es)
+    ≡ is_sorted nat_cmp es
 sorted_sent [] = refl
 sorted_sent (e ∷ es) = (λ i. below_sent e.0 es i && sorted_sent es i)
 
@@ -26,7 +28,8 @@ pub entries_sent : (t : IdRecords) → fin.entries (all_sent t) ≡ map (λ e. (
 unfolding all_sent
 entries_sent t = fin.entries-from_sorted nat_cmp _ (subst T (sym (sorted_sent (fin.entries t))) (fin.entries_sorted t))
 
-find_sent : (id : ℕ) (es : List (ℕ × IdRecord)) → find nat_cmp id (map (λ e. (e.0, sent_record e.1)) es) ≡ option_map sent_record (find nat_cmp id es)
+find_sent : (id : ℕ) (es : List (ℕ × IdRecord)) → find nat_cmp id (map (λ e. (e.0, sent_record e.1)) es)
+    ≡ option_map sent_record (find nat_cmp id es)
 find_sent id [] = refl
 find_sent id (e ∷ es) =
     elim (eq_by_cmp nat_cmp id e.0) as (λ b. cond b (Some (sent_record e.1))

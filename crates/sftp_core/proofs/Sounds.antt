@@ -42,7 +42,7 @@ use Rattle.sftp_core.specs.declared.id_record.IdRecord.{IdRecord}
 use Rattle.sftp_core.specs.declared.id_record.IdRecord.TheVariants.{Waiting, Answered, Granted}
 use Rattle.sftp_core.specs.Info.{most_ids, hello_of, info_of, IsRanged}
 use Rattle.sftp_core.specs.Core.{MayFree}
-use Rattle.sftp_wire.specs.Body.{Measures}
+use Rattle.sftp_wire.specs.Body.{IsLengthWithin}
 use Rattle.std.specs.Prelude.{IsSome, is_some}
 use Rattle.sftp_core.specs.Frames.{IsShort}
 use Rattle.sftp_core.specs.Table.{
@@ -57,7 +57,7 @@ use Rattle.sftp_core.specs.Table.{
   sent_record,
   IsAllowed,
   is_unsent_at,
-  stands,
+  is_queued,
   marked_all,
 }
 use Rattle.sftp_core.proofs.Sent.{get_sent}
@@ -70,20 +70,24 @@ use Rattle.sftp_core.proofs.Counts.{len_more, len_same, len_less, len_sent, coun
 
 pub allowed-insert : (t : IdRecords) (k : ℕ) (v : IdRecord) → ((id : ℕ) → IsAllowed (fin.get t id)) → IsAllowed (Some v)
     → (id : ℕ) → IsAllowed (fin.get (fin.insert t k v) id)
-allowed-insert t k v all one id = subst IsAllowed (sym (fin.get-insert nat_cmp_total t k v id)) (by_test (eq_by_cmp nat_cmp id k))
+allowed-insert t k v all one id = subst IsAllowed (sym (fin.get-insert nat_cmp_total t k v id))
+    (by_test (eq_by_cmp nat_cmp id k))
   where
     by_test : (b : Bool) → IsAllowed (cond b (Some v) (fin.get t id))
     by_test true = one
     by_test false = all id
 
-pub allowed-remove : (t : IdRecords) (k : ℕ) → ((id : ℕ) → IsAllowed (fin.get t id)) → (id : ℕ) → IsAllowed (fin.get (fin.remove t k) id)
-allowed-remove t k all id = subst IsAllowed (sym (fin.get-remove nat_cmp_total t k id)) (by_test (eq_by_cmp nat_cmp id k))
+pub allowed-remove : (t : IdRecords) (k : ℕ) → ((id : ℕ) → IsAllowed (fin.get t id)) → (id : ℕ)
+    → IsAllowed (fin.get (fin.remove t k) id)
+allowed-remove t k all id = subst IsAllowed (sym (fin.get-remove nat_cmp_total t k id))
+    (by_test (eq_by_cmp nat_cmp id k))
   where
     by_test : (b : Bool) → IsAllowed (cond b None (fin.get t id))
     by_test true = tt
     by_test false = all id
 
-pub allowed-sent : (t : IdRecords) → ((id : ℕ) → IsAllowed (fin.get t id)) → (id : ℕ) → IsAllowed (fin.get (all_sent t) id)
+pub allowed-sent : (t : IdRecords) → ((id : ℕ) → IsAllowed (fin.get t id)) → (id : ℕ)
+    → IsAllowed (fin.get (all_sent t) id)
 allowed-sent t all id = subst IsAllowed (sym (get_sent t id)) (each (fin.get t id) (all id))
   where
     each : (p : Option IdRecord) → IsAllowed p → IsAllowed (option_map sent_record p)
@@ -106,12 +110,14 @@ pub short-close : (handle : List ℕ) (id : ℕ) → length handle ≤ 256 → I
 unfolding request_body uint32 string
 short-close handle id h = omega arith
 
-pub short-last : (queue : List (ℕ × Request)) (one : ℕ × Request) → All IsShort queue → IsShort one → All IsShort (queue ++ one ∷ [])
+pub short-last : (queue : List (ℕ × Request)) (one : ℕ × Request) → All IsShort queue → IsShort one
+    → All IsShort (queue ++ one ∷ [])
 short-last queue one all h = All-append IsShort queue (one ∷ []) all (All-cons IsShort one [] h (All-nil IsShort))
 
 -- a request that was measured
 pub short-measured : (len : Option ℕ) (asked copy : Request) (id : ℕ)
-    → ((i : ℕ) → Measures len (length (request_body asked i))) → is_some len ≡ true → copy ≡ asked → IsShort (id, copy)
+    → ((i : ℕ) → IsLengthWithin len (length (request_body asked i))) → is_some len ≡ true → copy ≡ asked
+    → IsShort (id, copy)
 short-measured (Some n) asked copy id measures some same = rw same (measures id).1
 short-measured None asked copy id measures some same = absurd cc
 
@@ -134,8 +140,10 @@ most_open (Open info) h = refl
 -- another in the place of what stood there
 pub sound-replace : (h : Bool) (p : Handshake) (qs qs' : List (ℕ × Request)) (q r q' r' : ℕ) (t : IdRecords) (id : ℕ)
     (v w : IdRecord) → IsSound h p qs q r t → Some w ≡ fin.get t id
-    → q' + tally is_unsent w ≡ q + tally is_unsent v → q' + tally is_owing v ≤ q + tally is_owing w → r ≤ r' → All IsShort qs' → IsAllowed (Some v)
-    → ((k : ℕ) → stands k qs' ≡ false → stands k qs ≡ false) → (stands id qs' ≡ false → is_unsent v ≡ false) → IsSound h p qs' q' r' (fin.insert t id v)
+    → q' + tally is_unsent w ≡ q + tally is_unsent v → q' + tally is_owing v ≤ q + tally is_owing w → r ≤ r'
+    → All IsShort qs' → IsAllowed (Some v)
+    → ((k : ℕ) → is_queued k qs' ≡ false → is_queued k qs ≡ false) → (is_queued id qs' ≡ false → is_unsent v ≡ false)
+    → IsSound h p qs' q' r' (fin.insert t id v)
 sound-replace h p qs qs' q r q' r' t id v w s some eq eo room short one less here =
     let x = count-insert_old is_unsent t id v w (sym some) in
     let z = count-insert_old is_owing t id v w (sym some) in
@@ -153,10 +161,12 @@ sound-replace h p qs qs' q r q' r' t id v w s some eq eo room short one less her
     }
 
 -- of the same kinds
-pub sound-same : (h : Bool) (p : Handshake) (qs : List (ℕ × Request)) (q r : ℕ) (t : IdRecords) (id : ℕ) (v w : IdRecord) → IsSound h p qs q r t → Some w ≡ fin.get t id
+pub sound-same : (h : Bool) (p : Handshake) (qs : List (ℕ × Request)) (q r : ℕ) (t : IdRecords) (id : ℕ)
+    (v w : IdRecord) → IsSound h p qs q r t → Some w ≡ fin.get t id
     → is_unsent v ≡ is_unsent w → is_owing v ≡ is_owing w → IsAllowed (Some v) → IsSound h p qs q r (fin.insert t id v)
 sound-same h p qs q r t id v w s some eq eo one =
-    sound-replace h p qs qs q r q r t id v w s some (ap (λ b. q + cond b 1 0) (sym eq)) (rw eo (omega arith)) (omega arith) s.short one (λ k out. out)
+    sound-replace h p qs qs q r q r t id v w s some (ap (λ b. q + cond b 1 0) (sym eq)) (rw eo (omega arith))
+    (omega arith) s.short one (λ k out. out)
     (λ out. eq ∙ ap is_unsent_at some ∙ s.listed id out)
 
 -- nothing in the place of what is not queued
@@ -188,7 +198,8 @@ sound-freed h p qs q r t id s may = by_place (fin.get t id) refl may
     by_place (Some w) is free = sound-gone h p qs q r t id w s (sym is) free
 
 -- there is room for a CLOSE that is owed
-pub room_for_close : (h : Bool) (p : Handshake) (qs : List (ℕ × Request)) (q r : ℕ) (t : IdRecords) (id : ℕ) (w : IdRecord)
+pub room_for_close : (h : Bool) (p : Handshake) (qs : List (ℕ × Request)) (q r : ℕ) (t : IdRecords) (id : ℕ)
+    (w : IdRecord)
     → IsSound h p qs q r t → Some w ≡ fin.get t id → is_owing w ≡ true → q < r
 room_for_close h p qs q r t id w s some owes =
     let z = count-remove is_owing t id w (sym some) in
@@ -205,7 +216,8 @@ sound-close h p qs qs' q r q' r' t id handle wanted w s some owes unsent small i
     sound-replace h p qs qs' q r q' r' t id (Waiting (expected_of (request.Close handle)) false wanted) w s some
     (rw unsent (omega (arith, eq))) (rw owes (omega (arith, eq))) room
     (rw is (short-last qs (id, request.Close handle) s.short (short-close handle id small))) tt
-    (λ k out. not_before k id (request.Close handle) qs qs' is out) (λ out. is_last id (request.Close handle) qs qs' is out)
+    (λ k out. not_before k id (request.Close handle) qs qs' is out)
+    (λ out. is_last id (request.Close handle) qs qs' is out)
 
 -- a new request stands last in the queue
 pub sound-last : (h : Bool) (p p' : Handshake) (qs qs' : List (ℕ × Request)) (q r q' r' : ℕ) (t t' : IdRecords) (id : ℕ)
@@ -220,7 +232,8 @@ sound-last h p p' qs qs' q r q' r' t t' id asked wanted s none few range one is 
     let su = s.unsent in
     record {
       unsent = rw put (omega (arith, u, su, eq));
-      listed = rw put (listed-insert qs qs' t id v s.listed (λ k out. not_before k id asked qs qs' is out) (λ out. is_last id asked qs qs' is out));
+      listed = rw put (listed-insert qs qs' t id v s.listed (λ k out. not_before k id asked qs qs' is out)
+          (λ out. is_last id asked qs qs' is out));
       reserved = room;
       few = rw put (omega (arith, l, few));
       allowed = rw put (allowed-insert t id v s.allowed tt);
@@ -229,7 +242,8 @@ sound-last h p p' qs qs' q r q' r' t t' id asked wanted s none few range one is 
     }
 
 -- more room, and a later phase
-pub sound-later : (h : Bool) (p p' : Handshake) (qs : List (ℕ × Request)) (q r r' : ℕ) (t : IdRecords) → IsSound h p qs q r t
+pub sound-later : (h : Bool) (p p' : Handshake) (qs : List (ℕ × Request)) (q r r' : ℕ) (t : IdRecords)
+    → IsSound h p qs q r t
     → most_ids p ≤ most_ids p' → IsRanged p' → r ≤ r' → IsSound h p' qs q r' t
 sound-later h p p' qs q r r' t s most range room =
     let so = s.reserved in let sf = s.few in
@@ -263,7 +277,8 @@ sound-sent h p qs qs' q r q' r' t t' s is none room marks =
     }
 
 -- the hello alone
-pub sound-fresh : (qs : List (ℕ × Request)) (q r : ℕ) (t : IdRecords) → t ≡ fin.empty → qs ≡ (0, request.Init 3) ∷ [] → q
+pub sound-fresh : (qs : List (ℕ × Request)) (q r : ℕ) (t : IdRecords) → t ≡ fin.empty → qs ≡ (0, request.Init 3) ∷ []
+    → q
     ≡ 1 → 1 ≤ r → IsSound false Greeting qs q r t
 sound-fresh qs q r t e is one room =
     let l : fin.len t ≡ 0 = ap fin.len e ∙ fin.len-empty nat_cmp IdRecord in
@@ -288,7 +303,12 @@ pub record AreFew (h : Bool) (queued : ℕ) (table : IdRecords) : Type 0 where
   pub all : fin.len table ≤ 2147483648
 
 most_few : (p : Handshake) → most_ids p ≤ 2147483648
-most_few p = elim p as (λ x. most_ids x ≤ 2147483648) [ Greeting ↦ lit≤ tt | Asking extensions ↦ lit≤ tt | Open info ↦ lit≤ tt ]
+most_few p = elim p as (λ x. most_ids x ≤ 2147483648) [
+  | Greeting ↦ lit≤ tt
+  | Asking extensions ↦ lit≤ tt
+  | Open info ↦
+      lit≤ tt
+]
 
 queued_small : (h : Bool) → hello_queued h ≤ 1
 queued_small true = lit≤ tt
@@ -296,11 +316,18 @@ queued_small false = lit≤ tt
 
 -- the hello counts once
 pub hello_small : (p : Handshake) → hello_of p ≤ 1
-hello_small p = elim p as (λ x. hello_of x ≤ 1) [ Greeting ↦ lit≤ tt | Asking extensions ↦ lit≤ tt | Open info ↦ lit≤ tt ]
+hello_small p = elim p as (λ x. hello_of x ≤ 1) [
+  | Greeting ↦ lit≤ tt
+  | Asking extensions ↦ lit≤ tt
+  | Open info ↦
+      lit≤ tt
+]
 
-pub few : (h : Bool) (p : Handshake) (qs : List (ℕ × Request)) (q r : ℕ) (t : IdRecords) → IsSound h p qs q r t → AreFew h q t
+pub few : (h : Bool) (p : Handshake) (qs : List (ℕ × Request)) (q r : ℕ) (t : IdRecords) → IsSound h p qs q r t
+    → AreFew h q t
 few h p qs q r t s =
-    let x = unsent_waiting t in let w = waiting_split t in let y = count_len is_waiting t in let z = count_len is_owing t in
+    let x = unsent_waiting t in let w = waiting_split t in let y = count_len is_waiting t in let z =
+    count_len is_owing t in
     let m = most_few p in let one = queued_small h in
     let su = s.unsent in let sf = s.few in
     record {

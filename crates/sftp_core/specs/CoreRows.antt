@@ -1,4 +1,4 @@
--- Worked examples of what a core makes of replies and tickets, and beside each what nearly is one.
+-- Worked examples of the effect of replies and tickets on a core, each beside a case that nearly is one.
 use Rattle.std.specs.Prelude.{◌≡◌, refl, true, false, ℕ, [], ◌∷◌, ◌++◌, codes, None, Some, Ok, Err}
 use Rattle.sftp_model.specs.Frames.{request_body, frames_of}
 use Rattle.sftp_model.specs.Hex.{hex}
@@ -20,19 +20,19 @@ use Rattle.sftp_core.specs.Take.{wrong_version, wrong_at, wrong_limits, fault_of
 abbrev with_bits : ℕ → Extensions
 with_bits bits = record { 0 = bits }
 
--- the hello is the first frame
+-- The hello is the first frame.
 pub hello_first : frames_of (fresh default_options).queue ≡ 0 ∷ 0 ∷ 0 ∷ 5 ∷ 1 ∷ 0 ∷ 0 ∷ 0 ∷ 3 ∷ []
 unfolding request_body uint32 string
 hello_first = refl
 
--- the head of a WRITE is a piece, and so is each part that isn't empty
+-- The head of a WRITE is a piece, and so is each part that is not empty.
 pub write_pieces : (queued_parts (handed_out (fresh default_options)) 5 (97 ∷ []) 0
     ((1 ∷ []) ∷ [] ∷ (2 ∷ 3 ∷ []) ∷ [])).pieces ≡ hex (codes "0000001906000000050000000161"
     ++ codes "000000000000000000000003") ∷ (1 ∷ []) ∷ (2 ∷ 3 ∷ []) ∷ []
 unfolding request_body uint32 uint64 string
 write_pieces = refl
 
--- version 3 alone, and nothing but VERSION
+-- Only version 3, and no reply except VERSION.
 pub version_three : wrong_version (reply.Version 3 (with_bits 0)) ≡ None
 version_three = refl
 
@@ -45,14 +45,14 @@ version_four = refl
 pub no_version : wrong_version (reply.Handle []) ≡ Some (take.InvalidResponse None)
 no_version = refl
 
--- the bit of the limits
+-- The bit of the limits.
 pub limits_offered : offers_limits (with_bits 33) ≡ true
 limits_offered = refl
 
 pub limits_unoffered : offers_limits (with_bits 31) ≡ false
 limits_unoffered = refl
 
--- the id is looked at before the kind
+-- The id is checked before the kind.
 pub id_first : wrong_at 5 (reply.Handle []) (Some (Waiting expected.Status false true))
     ≡ Some (take.InvalidResponseId 5)
 id_first = refl
@@ -79,7 +79,7 @@ pub long_content : wrong_at 5 (reply.Content (1 ∷ 2 ∷ 3 ∷ [])) (Some (Wait
     ≡ Some (take.InvalidResponse (Some 5))
 long_content = refl
 
--- the limits are looked at last
+-- The limits are checked last.
 pub status_for_limits : or_else (wrong_at 0 (reply.Status 4 [] []) (Some (Waiting expected.Limits true false)))
     (wrong_limits (reply.Status 4 [] [])) ≡ Some (take.LimitsRefused 4 [] [])
 status_for_limits = refl
@@ -91,7 +91,7 @@ good_status_for_limits = refl
 pub refused_limits_kept : fault_of (take.LimitsRefused 4 [] []) ≡ Some (fault.Limits 4)
 refused_limits_kept = refl
 
--- a kept fault comes before the length, and a taken reply before a fault
+-- A kept fault comes before the length, and a taken reply before a fault.
 pub fault_before_length : refusal_of (Some fault.Link) true ≡ Some (submit.Failed fault.Link)
 fault_before_length = refl
 
@@ -110,18 +110,18 @@ fault_for_unanswered = refl
 pub ticket_back : poll_gives 5 None (Some (Waiting expected.Status true true)) ≡ Err 5
 ticket_back = refl
 
--- an abandoned request's ticket is no longer counted
+-- An abandoned request's ticket is no longer counted.
 pub no_ticket_left : is_ticket (Some (Waiting expected.Handle true false)) ≡ false
 no_ticket_left = refl
 
--- the CLOSE comes with the last user
+-- The CLOSE comes with the last user.
 pub last_user : release_gives (record { id = 5; handle = [] }) 1 ≡ Some 5
 last_user = refl
 
 pub two_users : release_gives (record { id = 5; handle = [] }) 2 ≡ None
 two_users = refl
 
--- the read length and the write length in their places
+-- The read length and the write length in their places.
 pub own_lengths : lengths_of (Some (record { packet_len = 0; read_len = 9; write_len = 5; open_handles = 0 }))
     (record default_options { max_write_len = Some 4 }) ≡ (9, 4)
 own_lengths = refl

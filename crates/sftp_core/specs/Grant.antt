@@ -1,7 +1,7 @@
 -- A grant as its callers see it.
 use Rattle.std.specs.Prelude.{ℕ, List}
 
--- the id of the request that brought it, and the handle
+-- The id of the request that brought it, and the handle.
 pub record GrantValue : Type 0 where
   pub id : ℕ
   pub handle : List ℕ

@@ -1,4 +1,4 @@
--- What a session knows of its server, and how far the greeting has come.
+-- The facts that a session knows about its server, and how far the greeting has come.
 use Rattle.std.specs.Prelude.{ℕ, ◌≤◌, Option, Some, None}
 use Rattle.sftp_model.specs.Lengths.{session_lengths}
 use Rattle.sftp_model.specs.Numbers.{MAX_TRANSFER_LEN}
@@ -9,11 +9,11 @@ use Rattle.sftp_core.specs.declared.info.Info.{Info}
 use Rattle.sftp_core.specs.declared.handshake.Handshake.{Handshake}
 use Rattle.sftp_core.specs.declared.handshake.Handshake.TheVariants.{Greeting, Asking, Open}
 
--- the read length and the write length of a session with these limits and options
+-- The read length and the write length of a session with these limits and options.
 abbrev pub lengths_of : Option Limits → SftpOptions → ℕ × ℕ
 lengths_of limits options = session_lengths limits options.max_read_len options.max_write_len
 
--- what a session knows of a server with these extensions and limits
+-- The facts that a session knows about a server with these extensions and limits.
 abbrev pub info_with : Extensions → Option Limits → SftpOptions → Info
 info_with extensions limits options =
     record {
@@ -22,34 +22,34 @@ info_with extensions limits options =
       write_len = (lengths_of limits options).1;
     }
 
--- what is known of the server, once the greeting is over
+-- The facts known about the server, once the greeting is over.
 abbrev pub info_of : Handshake → Option Info
 info_of Greeting = None
 info_of (Asking extensions) = None
 info_of (Open info) = Some info
 
--- both lengths are at least one byte, and at most what one READ or WRITE may move
+-- Both lengths are at least one byte, and at most what one READ or WRITE may move.
 pub record HasLengths (info : Info) : Type 0 where
   pub read : (1 ≤ info.read_len) × (info.read_len ≤ MAX_TRANSFER_LEN)
   pub write : (1 ≤ info.write_len) × (info.write_len ≤ MAX_TRANSFER_LEN)
 
--- an open session has such lengths
+-- An open session has such lengths.
 abbrev pub IsRanged : Handshake → Type 0
 IsRanged Greeting = Unit {0}
 IsRanged (Asking extensions) = Unit {0}
 IsRanged (Open info) = HasLengths info
 
--- 1 for the hello while its VERSION was not taken
+-- 1 for the hello while its VERSION was not taken.
 abbrev pub hello_of : Handshake → ℕ
 hello_of Greeting = 1
 hello_of (Asking extensions) = 0
 hello_of (Open info) = 0
 
--- the most ids that are in use at one time
+-- The most ids that are in use at one time.
 abbrev pub MAX_IDS : ℕ
 MAX_IDS = 2147483648
 
--- the most ids that may be in use
+-- The most ids that may be in use.
 abbrev pub most_ids : Handshake → ℕ
 most_ids Greeting = 0
 most_ids (Asking extensions) = MAX_IDS

@@ -5,6 +5,7 @@ pub mod Table
 pub mod Grant
 pub mod Core
 pub mod Take
+pub mod Errors
 pub mod CoreRows
 pub mod Entries
 pub mod Sound

@@ -24,8 +24,8 @@ use Rattle.sftp_core.specs.Pieces.{Frame, asked_of, pieces_of}
 use Rattle.sftp_core.specs.Table.{IdRecords, count, is_owing}
 use Rattle.sftp_core.specs.declared.id_record.IdRecord.TheVariants.{Waiting}
 
--- The request stands last in the queue, with the pieces of its content, and waits in the table under an id that was
--- free, which is 0 where none was in use. The queue has capacity for each CLOSE that may come.
+-- The request is last in the queue, with the pieces of its content. It waits in the table under an id that was free,
+-- which is 0 if none was in use. The queue has capacity for each CLOSE that may come.
 pub record IsPutLast {Z : Type 0} (request : Request) (parts : List (List ℕ)) (wanted : Bool) (id : ℕ)
     (before now : Vec Frame Z) (was is : IdRecords) : Type 0 where
   pub free : fin.get was id ≡ None
@@ -36,7 +36,7 @@ pub record IsPutLast {Z : Type 0} (request : Request) (parts : List (List ℕ)) 
   pub kept : is ≡ fin.insert was id (Waiting (expected_of request) false wanted)
   pub capacity : vec_len now + count is_owing is ≤ vec_capacity now
 
--- nothing has changed but the capacity
+-- Only the capacity has changed.
 pub record IsUnput {Z : Type 0} (before now : Vec Frame Z) (was is : IdRecords) : Type 0 where
   pub items : now.items ≡ before.items
   pub len : vec_len now ≡ vec_len before

@@ -1,28 +1,32 @@
-// What is left of a core that was given up, and how what it handed out goes then.
+//! The end of a core, and the release of the tickets and grants that it handed out.
 use crate::pipeline::Core;
 use crate::tokens::{Grant, Ticket};
 
-/// Says that a core was given up. What it handed out counts for nothing any more, and may be let go. Two cores
-/// can't be told apart by it: that it is the core of what is let go is the caller's to see to.
+/// The proof that a core was ended. The tickets and grants that it handed out have no use any more, and may be
+/// released.
+///
+/// It does not distinguish two cores: the caller must pass the `Ended` of the core that the ticket or grant came from.
+///
+/// Example: `crates/test_client/src/copies.rt`.
 #[derive(Clone, Copy, Debug)]
 pub struct Ended(());
 
 impl Core {
-    /// Gives the core up; nothing is sent. What it handed out can be let go with the answer.
+    /// Ends the core. No bytes are sent. The returned value allows the release of its tickets and grants.
     pub fn end(self) -> Ended {
         Ended(())
     }
 }
 
 impl Ticket {
-    /// Lets the ticket of a core go that was given up.
+    /// Releases a ticket of a core that was ended.
     pub fn let_go(self, _core: Ended) {
         let Ticket { id: _ } = self;
     }
 }
 
 impl Grant {
-    /// Lets the grant of a core go that was given up.
+    /// Releases a grant of a core that was ended.
     pub fn let_go(self, _core: Ended) {
         let Grant { id: _, handle: _ } = self;
     }

@@ -1,6 +1,8 @@
+//! The errors of a core.
 ghost use Rattle.std.specs.Prelude.{◌≡◌};
 ghost use Rattle.sftp_core.specs.declared.errors.SubmitError.TheVariants as submit;
 ghost use Rattle.sftp_core.specs.declared.errors.TakeError.TheVariants as take;
+ghost use Rattle.sftp_core.specs.Errors.{error_of};
 ghost use Rattle.sftp_core.specs.Take.{unread, fault_of};
 
 use sftp_model::{Fault, FormatKind, FrameError};
@@ -8,17 +10,19 @@ use sftp_values::ByteText;
 use ssh_encoding::OutOfMemory;
 use thiserror::Error;
 
-/// Why a request was not submitted. The core is as before.
+/// The reason why a request was not submitted. The core is unchanged.
+///
+/// Example: `crates/sftp_core/src/tests/seats.rt`.
 #[derive(Clone, Copy, Debug, PartialEq, Eq, Error)]
 pub enum SubmitError {
-    /// There was no memory.
+    /// An allocation failed.
     #[error("out of memory")]
     OutOfMemory,
     /// No fault is kept, and the request's body is over 1048575 bytes.
     #[error("the request is too long for a frame")]
     TooLong,
-    /// A fault is kept: the session can't be used any more.
-    #[error("the session had failed before: {0}")]
+    /// A fault is kept: the session cannot be used any more.
+    #[error("the session failed earlier: {0}")]
     Failed(Fault),
 }
 
@@ -30,27 +34,31 @@ impl From<OutOfMemory> for SubmitError {
     }
 }
 
-/// Why a frame was not taken. After `OutOfMemory` the core is as before and the frame may be taken again; each
-/// other refusal is kept as the session's fault (draft-ietf-secsh-filexfer-02, sections 3 to 7).
+/// The reason why a frame was not taken.
+///
+/// After `OutOfMemory` the core is unchanged and the frame may be taken again. Each other error is kept as the
+/// session's fault (draft-ietf-secsh-filexfer-02, sections 3 to 7).
+///
+/// Used in `crates/sftp_lanes/src/greeting.rt`.
 #[derive(Debug, Drop, PartialEq, Eq, Error)]
 pub enum TakeError {
-    /// There was no memory.
+    /// An allocation failed.
     #[error("out of memory")]
     OutOfMemory,
-    /// The frame, or the content of the limits, breaks its form.
+    /// The frame, or the content of the limits, does not have its form.
     #[error("{0}")]
     Format(FormatKind),
-    /// All fields read, and the handle is longer than 256 bytes.
+    /// All fields could be read, and the handle is longer than 256 bytes.
     #[error("a handle has {len} bytes, and at most 256 are allowed")]
     HandleTooLong {
         len: u32,
     },
-    /// No request that was handed out and has no reply bears the id.
-    #[error("a reply bears the id {id}, which no unanswered request has")]
+    /// No request that was handed out and has no reply has the id.
+    #[error("a reply has the id {id}, which no unanswered request has")]
     InvalidResponseId {
         id: u32,
     },
-    /// The reply may not answer its request, or is no VERSION where only that may come, or a second VERSION.
+    /// The reply may not answer its request, or is no VERSION when only that may come, or is a second VERSION.
     #[error("a reply may not answer its request")]
     InvalidResponse {
         id: Option<u32>,
@@ -62,7 +70,7 @@ pub enum TakeError {
         message: ByteText,
         language: ByteText,
     },
-    /// The server speaks another version of the protocol than 3.
+    /// The server uses a version of the protocol other than 3.
     #[error("the server speaks version {version} of the protocol, and only 3 is supported")]
     Protocol {
         version: u32,
@@ -70,7 +78,7 @@ pub enum TakeError {
 }
 
 impl TakeError {
-    /// The fault that is kept after this error; want of memory keeps none.
+    /// Returns the fault that is kept after this error; running out of memory keeps none.
     pub fn fault(&self) -> Option<Fault>
         ensures { result ≡ fault_of self.now }
     {
@@ -102,6 +110,32 @@ impl From<FrameError> for TakeError {
             FrameError::OutOfMemory => TakeError::OutOfMemory,
             FrameError::Format(kind) => TakeError::Format(kind),
             FrameError::HandleTooLong { len } => TakeError::HandleTooLong { len },
+        }
+    }
+}
+
+impl From<TakeError> for sftp_model::Error {
+    ghost from_gives = { λ e r. r ≡ error_of e };
+
+    fn from(e: TakeError) -> sftp_model::Error {
+        match e {
+            TakeError::OutOfMemory => sftp_model::Error::OutOfMemory,
+            TakeError::Format(kind) => sftp_model::Error::FormatError(kind),
+            TakeError::HandleTooLong { len } => sftp_model::Error::HandleTooLong { len },
+            TakeError::InvalidResponseId { id } => sftp_model::Error::InvalidResponseId { id },
+            TakeError::InvalidResponse { id } => sftp_model::Error::InvalidResponse { id },
+            TakeError::LimitsRefused {
+                code,
+                message,
+                language,
+            } => sftp_model::Error::SftpError {
+                code,
+                message,
+                language,
+            },
+            TakeError::Protocol { version } => {
+                sftp_model::Error::UnsupportedSftpProtocol { version }
+            }
         }
     }
 }

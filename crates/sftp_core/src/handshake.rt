@@ -1,10 +1,13 @@
+//! The greeting of a session.
 ghost use Rattle.std.specs.Prelude.{◌≡◌};
 ghost use Rattle.sftp_core.specs.Info.{info_of, hello_of};
 
 use crate::info::Info;
 use sftp_model::Extensions;
 
-/// How far the greeting of a session has come (draft-ietf-secsh-filexfer-02, section 4).
+/// The state of a session's greeting (draft-ietf-secsh-filexfer-02, section 4).
+///
+/// Used in `crates/sftp_core/src/pipeline/replies.rt`.
 #[derive(Clone, Copy, Debug, PartialEq, Eq)]
 pub enum Handshake {
     /// VERSION was not taken.
@@ -16,7 +19,7 @@ pub enum Handshake {
 }
 
 impl Handshake {
-    /// What is known of the server, once the greeting is over.
+    /// Returns the facts known about the server, once the greeting is over.
     pub(crate) fn info(self) -> Option<Info>
         ensures { result ≡ info_of self }
     {
@@ -26,7 +29,7 @@ impl Handshake {
         }
     }
 
-    /// 1 for the hello while its VERSION was not taken.
+    /// Returns 1 for the hello while its VERSION was not taken.
     pub(crate) fn hello(self) -> u32
         ensures { result ≡ hello_of self }
     {

@@ -1,9 +1,12 @@
+//! The record that a core keeps under an id.
 ghost use Rattle.std.specs.Prelude.{◌≡◌};
-ghost use Rattle.sftp_core.specs.Table.{sent_record, tally, is_waiting, is_owing, asks_handle, brings};
+ghost use Rattle.sftp_core.specs.Table.{sent_record, tally, is_waiting, is_owing, asks_handle, handle_in_reply};
 
 use sftp_model::{Expected, Handle, Reply};
 
-/// What a core keeps under one id: a request without its reply, a reply whose ticket is out, or a grant.
+/// The record that a core keeps under one id: a request without its reply, a reply whose ticket is out, or a grant.
+///
+/// Example: `crates/test_files/src/paths/listing.rt`.
 #[derive(Debug, Drop)]
 pub enum IdRecord {
     /// A request of this kind. `sent`: it was handed out. `wanted`: its ticket is out.
@@ -17,7 +20,7 @@ pub enum IdRecord {
         expected: Expected,
         reply: Reply,
     },
-    /// The handle of a HANDLE reply, with so many users.
+    /// The handle of a HANDLE reply, with this many users.
     Granted {
         handle: Handle,
         users: u32,
@@ -25,7 +28,7 @@ pub enum IdRecord {
 }
 
 impl IdRecord {
-    /// Makes a waiting request one that was handed out.
+    /// Marks a waiting request as handed out.
     pub(crate) fn mark_sent(&mut self)
         ensures { self.new ≡ sent_record self.old }
     {
@@ -34,7 +37,7 @@ impl IdRecord {
         }
     }
 
-    /// 1 for a request without its reply.
+    /// Returns 1 for a request without its reply, otherwise 0.
     pub(crate) fn waiting(&self) -> usize
         ensures { result ≡ tally is_waiting self.now }
     {
@@ -44,7 +47,7 @@ impl IdRecord {
         }
     }
 
-    /// 1 where a CLOSE may still have to be queued.
+    /// Returns 1 if a CLOSE may still have to be queued, otherwise 0.
     pub(crate) fn owing(&self) -> usize
         ensures { result ≡ tally is_owing self.now }
     {
@@ -57,16 +60,16 @@ impl IdRecord {
     }
 }
 
-/// Whether a request of this kind is answered by a handle.
+/// Returns true if a request of this kind is answered by a handle.
 fn asks_handle(expected: Expected) -> bool
     ensures { result ≡ asks_handle expected }
 {
     matches!(expected, Expected::Handle)
 }
 
-/// The handle that a reply brings.
+/// Returns the handle that a reply brings.
 pub(crate) fn handle_in(reply: &Reply) -> Option<Handle>
-    ensures { result ≡ brings reply.now }
+    ensures { result ≡ handle_in_reply reply.now }
 {
     match reply {
         Reply::Handle(handle) => Some(handle.copied()),

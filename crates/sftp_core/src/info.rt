@@ -1,13 +1,16 @@
+//! The facts that a session knows about its server.
 ghost use Rattle.std.specs.Prelude.{◌≡◌, ◌≤◌};
 ghost use Rattle.sftp_model.specs.Numbers.{MAX_TRANSFER_LEN};
 ghost use Rattle.sftp_core.specs.Info.{lengths_of, info_with, HasLengths};
 
 use sftp_model::{Extensions, Limits, SftpOptions, session_lengths};
 
-/// The most ids that are in use at one time: a request may be submitted where fewer are kept.
+/// The most ids that are in use at one time: a request may be submitted if fewer are kept.
 pub const MAX_IDS: u32 = 2_147_483_648;
 
-/// What a session knows of its server once the greeting is over.
+/// The facts that a session knows about its server once the greeting is over.
+///
+/// Example: `crates/sftp_core/src/tests/calls.rt`.
 #[derive(Clone, Copy, Debug, PartialEq, Eq)]
 pub struct Info {
     /// The extensions that the server offers.
@@ -18,8 +21,10 @@ pub struct Info {
     pub write_len: u32,
 }
 
-/// The read length and the write length of a session, in bytes, each from 1 to 1048275: what the server's limits
-/// advertise, 32768 where they say nothing, and at most what the options say (OpenSSH's PROTOCOL, section 4.8).
+/// Returns the read length and the write length of a session, in bytes, each from 1 to 1048275.
+///
+/// They are the lengths that the server's limits advertise, or 32768 if the limits say nothing. The options can lower
+/// them (OpenSSH's PROTOCOL, section 4.8).
 pub fn lengths(limits: Option<Limits>, options: &SftpOptions) -> (u32, u32)
     ensures value { result ≡ lengths_of limits options.now }
     ensures read_range { (1 ≤ result.0) × (result.0 ≤ MAX_TRANSFER_LEN) }
@@ -33,7 +38,7 @@ pub fn lengths(limits: Option<Limits>, options: &SftpOptions) -> (u32, u32)
 }
 
 impl Info {
-    /// What is known of a server with these extensions and limits.
+    /// Returns the facts known about a server with these extensions and limits.
     pub(crate) fn with(
         extensions: Extensions,
         limits: Option<Limits>,

@@ -1,3 +1,4 @@
+//! The core of a session.
 ghost use Rattle.std.specs.Prelude.{◌≡◌, ◌+◌, ◌<◌, ◌≤◌, ◌∷◌, ◌++◌, [], map, slice_get, None, Some, false, IfOk, IfSome, OnOk, OnErr, vec_len, vec_capacity};
 ghost use Rattle.std.specs.FinMap as fin;
 ghost use Rattle.std.specs.Option.{option_map};
@@ -26,9 +27,13 @@ mod replies;
 mod seats;
 mod tickets;
 
-/// The protocol of one session without its link: it numbers requests, queues their frames, and hands each reply to
-/// the one request with its id (draft-ietf-secsh-filexfer-02, sections 3 to 7). A contract sees what stands under
-/// each id, the queue and the pieces of its frames, the kept fault and how far the greeting has come.
+/// The protocol of one session without its link: it numbers requests, queues their frames, and passes each reply to the
+/// one request with its id (draft-ietf-secsh-filexfer-02, sections 3 to 7).
+///
+/// A contract sees the record under each id, the queue and the pieces of its frames, the kept fault and how far the
+/// greeting has come.
+///
+/// Example: `crates/test_files/src/file/shared.rt`.
 #[derive(Drop)]
 pub struct Core {
     alloc: Global,
@@ -67,8 +72,11 @@ impl Model for Core {
 }
 
 impl Core {
-    /// A core whose queue holds the hello alone, with capacity for as many requests as the options say. Refused only
-    /// for want of memory.
+    /// Creates a core whose queue holds only the hello, with the capacity for requests that the options name.
+    ///
+    /// # Errors
+    ///
+    /// `OutOfMemory` if an allocation fails.
     pub fn new(alloc: Global, options: &SftpOptions) -> Result<Core, OutOfMemory>
         ensures { IfOk result (λ core. core ≡ fresh options.now) }
     {
@@ -86,8 +94,8 @@ impl Core {
         })
     }
 
-    /// What is known of the server: Some exactly once VERSION, and where the server offers it the reply to the query
-    /// for limits, were taken. Both lengths are from 1 to 1048275 bytes.
+    /// Returns the facts known about the server. It is `Some` exactly once VERSION was taken, and also the reply to the
+    /// query for limits if the server offers it. Both lengths are from 1 to 1048275 bytes.
     pub fn info(&self) -> Option<Info>
         ensures value { result ≡ info_of self.now.phase }
         ensures range { IfSome result (λ info. HasLengths info) }
@@ -95,26 +103,26 @@ impl Core {
         self.phase.info()
     }
 
-    /// The options that the core was made with.
+    /// Returns the options that the core was made with.
     pub fn options(&self) -> &SftpOptions
         ensures { result.now ≡ self.now.options }
     {
         &self.options
     }
 
-    /// The allocator that the core takes memory from. A contract sees no allocator, so none says which it is.
+    /// Returns the allocator of the core. A contract sees no allocator, so none says which it is.
     pub fn alloc(&self) -> Global {
         self.alloc
     }
 
-    /// The kept fault, which is the first one.
+    /// Returns the kept fault, which is the first one.
     pub fn fault(&self) -> Option<Fault>
         ensures { result ≡ self.now.fault }
     {
         self.fault
     }
 
-    /// Keeps a fault, where none is kept.
+    /// Keeps a fault, if none is kept.
     pub fn fail(&mut self, fault: Fault)
         ensures { self.new ≡ failed_with self.old fault }
     {
@@ -123,15 +131,15 @@ impl Core {
         }
     }
 
-    /// How many frames are queued, the hello included.
+    /// Returns the number of queued frames, including the hello.
     pub fn queued(&self) -> u32
         ensures { result ≡ queued_of self.now }
     {
         self.queue.len() as u32
     }
 
-    /// The id and the request of the k-th queued frame, counted from 0; None exactly past the end. The hello has the
-    /// id 0 here.
+    /// Returns the id and the request of the k-th queued frame, counted from 0; None exactly past the end. The hello
+    /// has the id 0 here.
     pub fn queued_request(&self, k: u32) -> Option<(u32, &Request)>
         ensures { option_map (λ p. (p.0, p.1.now)) result ≡ slice_get self.now.queue k }
     {
@@ -141,7 +149,7 @@ impl Core {
         }
     }
 
-    /// How many frames were handed out and have no reply, the hello included.
+    /// Returns the number of frames that were handed out and have no reply, including the hello.
     pub fn awaited(&self) -> u32
         ensures { result ≡ awaited_of self.now }
     {
@@ -152,15 +160,15 @@ impl Core {
         }
     }
 
-    /// How many frames have no reply, handed out or queued, the hello included.
+    /// Returns the number of frames that have no reply, handed out or queued, including the hello.
     pub fn unanswered(&self) -> u32
         ensures { result ≡ unanswered_of self.now }
     {
         self.table.waiting() as u32 + self.phase.hello()
     }
 
-    /// How many ids are in use, the hello included: the unanswered requests, the answered requests whose ticket is
-    /// out, and the grants whose CLOSE was not submitted. Only a submitted request raises it.
+    /// Returns the number of ids in use, including the hello: the unanswered requests, the answered requests whose
+    /// ticket is out, and the grants whose CLOSE was not submitted. Only a submitted request raises it.
     pub fn kept(&self) -> u32
         ensures { result ≡ kept_of self.now }
     {
@@ -168,9 +176,9 @@ impl Core {
     }
 }
 
-/// Puts a request last into the queue, with the pieces of its content, and under a free id, which is 0 where none is in
-/// use. The queue has capacity for each CLOSE that may come then. Refused for want of memory, nothing changed but that
-/// capacity.
+/// Puts a request last into the queue, with the pieces of its content, and under a free id, which is 0 if none is in
+/// use. The queue then has capacity for each CLOSE that may come. Fails only if an allocation fails; only that capacity
+/// may have changed.
 fn put_last(
     queue: &mut Vec<Queued>,
     table: &mut Table,
@@ -196,7 +204,7 @@ fn put_last(
     Ok(id)
 }
 
-/// Pushes into capacity that is there.
+/// Pushes into capacity that exists.
 fn push_reserved(queue: &mut Vec<Queued>, id: u32, request: Request, parts: Vec<Bytes>)
     requires capacity { vec_len queue.old < vec_capacity queue.old }
     requires cut { IsCut request parts.items }

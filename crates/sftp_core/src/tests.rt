@@ -1,4 +1,4 @@
-// What bytes and hand-written bodies give, by the draft and OpenSSH's PROTOCOL.
+//! Tests of the bytes of frames and of hand-written bodies, by the draft and OpenSSH's PROTOCOL.
 mod calls;
 mod frames;
 mod hostile;

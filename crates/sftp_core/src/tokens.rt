@@ -1,12 +1,15 @@
-// What a core hands out and wants back: neither a ticket nor a grant can be made or copied elsewhere, nor
-// dropped without the word that its core was given up.
+//! The tickets and grants that a core hands out and takes back. Neither can be created or copied elsewhere, nor dropped
+//! without the `Ended` of its core.
 ghost use Rattle.std.specs.Prelude.{◌≡◌};
 
 use sftp_model::{Fault, Handle, Reply};
 use std::marker::Model;
 
-/// Names one submitted request. A contract sees it as the request's id. Two cores can't be told apart by it: that
-/// it came from the core that it is handed to is the caller's to see to.
+/// The name of one submitted request. A contract sees it as the request's id.
+///
+/// It does not distinguish two cores: the caller must pass it to the core that it came from.
+///
+/// Example: `crates/test_library/src/tickets.rt`.
 #[must_use]
 pub struct Ticket {
     pub(crate) id: u32,
@@ -21,7 +24,7 @@ impl Model for Ticket {
 }
 
 impl Ticket {
-    /// The id of the request.
+    /// Returns the id of the request.
     pub fn id(&self) -> u32
         ensures { result ≡ self.now }
     {
@@ -29,7 +32,9 @@ impl Ticket {
     }
 }
 
-/// Names one HANDLE reply and stands for one user of its handle. A contract sees it as the id and the handle.
+/// The name of one HANDLE reply, and one user of its handle. A contract sees it as the id and the handle.
+///
+/// Example: `crates/sftp_core/src/tests/seats.rt`.
 #[must_use]
 pub struct Grant {
     pub(crate) id: u32,
@@ -45,14 +50,14 @@ impl Model for Grant {
 }
 
 impl Grant {
-    /// The id of the OPEN or OPENDIR, under which the grant is kept.
+    /// Returns the id of the OPEN or OPENDIR, under which the grant is kept.
     pub fn id(&self) -> u32
         ensures { result ≡ self.now.id }
     {
         self.id
     }
 
-    /// The handle, of at most 256 bytes.
+    /// Returns the handle, of at most 256 bytes.
     pub fn handle(&self) -> &Handle
         ensures { result.now ≡ self.now.handle }
     {
@@ -60,7 +65,9 @@ impl Grant {
     }
 }
 
-/// What a ticket was worth.
+/// The result of a poll.
+///
+/// Example: `crates/sftp_core/src/tests/seats.rt`.
 pub enum Polled {
     /// The reply, which was no HANDLE.
     Reply(Reply),
@@ -70,7 +77,9 @@ pub enum Polled {
     Failed(Fault),
 }
 
-/// What a frame was.
+/// The kind of frame that was taken.
+///
+/// Used in `crates/sftp_core/src/pipeline/replies.rt`.
 #[derive(Debug, Drop, PartialEq, Eq)]
 pub enum Taken {
     /// VERSION.

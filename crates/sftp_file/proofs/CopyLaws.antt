@@ -12,15 +12,15 @@ use Rattle.sftp_model.specs.declared.slot.FileAt.{FileAt}
 use Rattle.sftp_model.specs.declared.slot.Move.{Move}
 use Rattle.sftp_model.specs.declared.slot.Move.TheVariants.{Ask, Done}
 use Rattle.plan_model.specs.FilePlans.{copy_next}
-use Rattle.plan_model.specs.Moves.{Answers, handle_of, offers, overflows, refuses, refuses_extension}
+use Rattle.plan_model.specs.Moves.{Answers, handle_of, offers, overflows, refuse_locally, refuses_extension}
 use Rattle.sftp_core.specs.Core.{Core}
-use Rattle.call_state.specs.declared.asking.Asking.{Asking}
-use Rattle.call_state.specs.declared.asking.Asking.TheVariants.{Whole}
-use Rattle.call_state.specs.Calls.{BeginsCall, CallValue, IsUnderWay}
-use Rattle.call_state.specs.Keeping.{KeepsHeld}
-use Rattle.call_state.specs.Runners.{GoesBehind}
-use Rattle.call_state.proofs.Keeping.{keeps_same}
-use Rattle.sftp_file.specs.Copies.{CopyStarts, CopyValue, both, copy_left, copying}
+use Rattle.plan_state.specs.declared.asking.Asking.{Asking}
+use Rattle.plan_state.specs.declared.asking.Asking.TheVariants.{Whole}
+use Rattle.plan_state.specs.Calls.{BeginsCall, CallValue, IsUnderWay}
+use Rattle.plan_state.specs.Keeping.{KeepsHeld}
+use Rattle.plan_state.specs.Runners.{GoesBehind}
+use Rattle.plan_state.proofs.Keeping.{keeps_same}
+use Rattle.sftp_file.specs.Copies.{CopyStarts, CopyValue, both, copy_left, copy_meaning}
 use Rattle.sftp_file.specs.Files.{FileValue, facts_of, file_in}
 use Rattle.sftp_file.proofs.Starting.{StartsAny, skip}
 
@@ -39,22 +39,25 @@ copy_unoffered f g n core none =
       keeps = keeps_same core;
     }
 
-copy_behind : (f g : FileValue) (source target : FileAt) (n : ℕ) (facts : Facts) (answers : Answers) → source ≡ file_in 0 f → target ≡ file_in 1 g
-    → offers facts COPY_DATA ≡ true → g.writable ≡ true → f.readable ≡ true → overflows f.offset n ≡ false → overflows g.offset n ≡ false
+copy_behind : (f g : FileValue) (source target : FileAt) (n : ℕ) (facts : Facts) (answers : Answers) → source
+    ≡ file_in 0 f → target ≡ file_in 1 g
+    → offers facts COPY_DATA ≡ true → g.writable ≡ true → f.readable ≡ true → overflows f.offset n ≡ false
+    → overflows g.offset n ≡ false
     → handle_of (answers 0) ≡ f.grant.handle → handle_of (answers 1) ≡ g.grant.handle
-    → GoesBehind copying tt (copy_next 0 1 n (both f g) facts) answers (Whole (request.CopyData f.grant.handle f.offset n g.grant.handle g.offset))
+    → GoesBehind copy_meaning tt (copy_next 0 1 n (both f g) facts) answers
+    (Whole (request.CopyData f.grant.handle f.offset n g.grant.handle g.offset))
     (record { source = source; target = target; len = n })
 copy_behind f g source target n facts answers from to offered may reads below behind brought other =
     let go : Move = Ask (request.CopyData (handle_of (answers 0)) f.offset n (handle_of (answers 1)) g.offset) in
-    let over : Move = refuses kind.OffsetOverflow (both f g) in
+    let over : Move = refuse_locally kind.OffsetOverflow (both f g) in
     let fourth : Move = if overflows g.offset n then over else go in
     let third : Move = if overflows f.offset n then over else fourth in
-    let second : Move = if not f.readable then refuses kind.NotReadable (both f g) else third in
-    let first : Move = if not g.writable then refuses kind.NotWritable (both f g) else second in
+    let second : Move = if not f.readable then refuse_locally kind.NotReadable (both f g) else third in
+    let first : Move = if not g.writable then refuse_locally kind.NotWritable (both f g) else second in
     record {
       asks = skip (offers facts COPY_DATA) (refuses_extension COPY_DATA (both f g)) first offered
-          ∙ (skip g.writable (refuses kind.NotWritable (both f g)) second may
-          ∙ (skip f.readable (refuses kind.NotReadable (both f g)) third reads
+          ∙ (skip g.writable (refuse_locally kind.NotWritable (both f g)) second may
+          ∙ (skip f.readable (refuse_locally kind.NotReadable (both f g)) third reads
           ∙ (no (overflows f.offset n) over fourth below
           ∙ (no (overflows g.offset n) over go behind
           ∙ (λ i. Ask (request.CopyData (brought i) f.offset n (other i) g.offset))))));
@@ -63,29 +66,38 @@ copy_behind f g source target n facts answers from to offered may reads below be
     }
 
 under_way_by : (asking : Asking) (m : CopyValue) (old new : Core) (result : Result (CallValue CopyValue) Error)
-    → IfOk result (BeginsCall copying asking m old new) → IfOk result (IsUnderWay copying new)
+    → IfOk result (BeginsCall copy_meaning asking m old new) → IfOk result (IsUnderWay copy_meaning new)
 under_way_by asking m old new (Ok call) h = h.under_way
 under_way_by asking m old new (Err e) h = tt
 
 files_by : (f g : FileValue) (asking : Asking) (m : CopyValue) (old new : Core)
     (result : Result (CallValue CopyValue) Error) → m.source ≡ file_in 0 f → m.target ≡ file_in 1 g
-    → IfOk result (BeginsCall copying asking m old new)
-    → IfOk result (λ (call : CallValue CopyValue). (call.runner.source ≡ file_in 0 f) × (call.runner.target ≡ file_in 1 g))
-files_by f g asking m old new (Ok call) from to h = (ap (λ (x : CopyValue). x.source) h.runner ∙ from, ap (λ (x : CopyValue). x.target) h.runner ∙ to)
+    → IfOk result (BeginsCall copy_meaning asking m old new)
+    → IfOk result (λ (call : CallValue CopyValue). (call.runner.source ≡ file_in 0 f)
+    × (call.runner.target ≡ file_in 1 g))
+files_by f g asking m old new (Ok call) from to h = (
+  ap (λ (x : CopyValue). x.source) h.runner ∙ from,
+  ap (λ (x : CopyValue). x.target) h.runner ∙ to,
+)
 files_by f g asking m old new (Err e) from to h = tt
 
 pub copy_starts : (f g : FileValue) (source target : FileAt) (n : ℕ) (asking : Asking) (old new : Core)
     (result : Result (CallValue CopyValue) Error) → source ≡ file_in 0 f → target ≡ file_in 1 g
-    → offers (facts_of old) COPY_DATA ≡ true → g.writable ≡ true → f.readable ≡ true → overflows f.offset n ≡ false → overflows g.offset n ≡ false
+    → offers (facts_of old) COPY_DATA ≡ true → g.writable ≡ true → f.readable ≡ true → overflows f.offset n ≡ false
+    → overflows g.offset n ≡ false
     → asking ≡ Whole (request.CopyData f.grant.handle f.offset n g.grant.handle g.offset)
-    → StartsAny copying asking (record { source = source; target = target; len = n }) old new result
-    → IfOk result (BeginsCall copying asking (record { source = source; target = target; len = n }) old new) → KeepsHeld old new → CopyStarts f g n old new result
+    → StartsAny copy_meaning asking (record { source = source; target = target; len = n }) old new result
+    → IfOk result (BeginsCall copy_meaning asking (record { source = source; target = target; len = n }) old new)
+    → KeepsHeld old new → CopyStarts f g n old new result
 copy_starts f g source target n asking old new result from to offered may reads below behind is started begins keeps =
     let m : CopyValue = record { source = source; target = target; len = n } in
     record {
-      starts = λ answers brought other. started tt (λ e. Done (outcome.Refused e) (both f g)) (copy_next 0 1 n (both f g) (facts_of old)) answers
-          (subst (λ (x : Asking). GoesBehind copying tt (copy_next 0 1 n (both f g) (facts_of old)) answers x m) (sym is)
-          (copy_behind f g source target n (facts_of old) answers from to offered may reads below behind brought other));
+      starts = λ answers brought other. started tt (λ e. Done (outcome.Refused e) (both f g))
+          (copy_next 0 1 n (both f g) (facts_of old)) answers
+          (subst (λ (x : Asking). GoesBehind copy_meaning tt (copy_next 0 1 n (both f g) (facts_of old)) answers x m)
+          (sym is)
+          (copy_behind f g source target n (facts_of old) answers from to offered may reads below behind brought
+          other));
       under_way = under_way_by asking m old new result begins;
       files = files_by f g asking m old new result from to begins;
       keeps = keeps;

@@ -3,24 +3,28 @@ use Rattle.std.proofs.Common.{◌≡◌, ◌+◌, ◌-◌, ◌<◌, ◌==◌, ar
 use Rattle.std.proofs.lemmas.Bool.Decides.{nat_tests}
 use Rattle.sftp_core.specs.declared.id_record.IdRecord.{IdRecord}
 use Rattle.sftp_core.specs.declared.id_record.IdRecord.TheVariants.{Granted}
-use Rattle.sftp_core.specs.Core.{Core, at, released, retained, users_of, with_record, IsGrant}
+use Rattle.sftp_core.specs.Core.{Core, record_at, core_after_release, core_after_retain, users_of, with_record, IsGrant}
 use Rattle.sftp_core.specs.Grant.{GrantValue}
 use Rattle.sftp_core.proofs.Elsewhere.{put_here}
-use Rattle.call_state.proofs.Keeping.{grant_at}
+use Rattle.plan_state.proofs.Keeping.{grant_at}
 
 -- a grant with one user more is counted
-pub retained_grant : (core : Core) (grant : GrantValue) → IsGrant (retained core grant) grant
+pub retained_grant : (core : Core) (grant : GrantValue) → IsGrant (core_after_retain core grant) grant
 retained_grant core grant =
-    grant_at (retained core grant) grant (users_of (at core grant.id) + 1)
-    (put_here core.table grant.id (Granted grant.handle (users_of (at core grant.id) + 1))) (omega arith)
+    grant_at (core_after_retain core grant) grant (users_of (record_at core grant.id) + 1)
+    (put_here core.table grant.id (Granted grant.handle (users_of (record_at core grant.id) + 1))) (omega arith)
 
 -- with one user more
-pub retained_users : (core : Core) (grant : GrantValue) → users_of (at (retained core grant) grant.id) ≡ users_of (at core grant.id) + 1
-retained_users core grant = ap (λ (p : Option IdRecord). users_of p) (put_here core.table grant.id (Granted grant.handle (users_of (at core grant.id) + 1)))
+pub retained_users : (core : Core) (grant : GrantValue) → users_of (record_at (core_after_retain core grant) grant.id)
+    ≡ users_of (record_at core grant.id) + 1
+retained_users core grant = ap (λ (p : Option IdRecord). users_of p)
+    (put_here core.table grant.id (Granted grant.handle (users_of (record_at core grant.id) + 1)))
 
 -- a grant that has another user is counted after a release
-pub released_grant : (core : Core) (grant : GrantValue) → 1 < users_of (at core grant.id) → IsGrant (released core grant) grant
+pub released_grant : (core : Core) (grant : GrantValue) → 1 < users_of (record_at core grant.id)
+    → IsGrant (core_after_release core grant) grant
 released_grant core grant many =
-    let other : (users_of (at core grant.id) == 1) ≡ false = grind (arith, nat_tests) in
-    rw other (grant_at (with_record core grant.id (Granted grant.handle (users_of (at core grant.id) - 1))) grant (users_of (at core grant.id) - 1)
-    (put_here core.table grant.id (Granted grant.handle (users_of (at core grant.id) - 1))) (omega arith))
+    let other : (users_of (record_at core grant.id) == 1) ≡ false = grind (arith, nat_tests) in
+    rw other (grant_at (with_record core grant.id (Granted grant.handle (users_of (record_at core grant.id) - 1))) grant
+    (users_of (record_at core grant.id) - 1)
+    (put_here core.table grant.id (Granted grant.handle (users_of (record_at core grant.id) - 1))) (omega arith))

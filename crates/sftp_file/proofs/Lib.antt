@@ -1,12 +1,12 @@
-pub mod OptionLaws
+mod OptionLaws
 pub mod BodyLens
 pub mod Granting
 pub mod Starting
-pub mod OpenLaws
-pub mod CloseLaws
-pub mod Cutting
-pub mod CopyLaws
-pub mod SliceLaws
-pub mod WriteLaws
+mod OpenLaws
+mod CloseLaws
+mod Cutting
+mod CopyLaws
+mod SliceLaws
+mod WriteLaws
 pub mod Steps
 pub mod GatherLaws

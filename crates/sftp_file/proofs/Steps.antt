@@ -1,21 +1,21 @@
 -- What tests of whole calls use.
 use Rattle.std.proofs.Common.{◌≡◌, ℕ, true, false, List, sym, ◌∙◌, Result, Ok, Err, IfOk, arith}
-use Rattle.sftp_model.specs.Answers.{allows}
+use Rattle.sftp_model.specs.Answers.{allows_reply}
 use Rattle.sftp_model.specs.declared.answers.Expected.{Expected}
 use Rattle.sftp_model.specs.declared.answers.Expected.TheVariants as expected
 use Rattle.sftp_model.specs.declared.error.Error.{Error}
 use Rattle.sftp_model.specs.declared.reply.Reply.TheVariants as reply
 use Rattle.sftp_core.specs.Core.{Core, IsGrant}
 use Rattle.sftp_core.specs.Table.{asks_handle}
-use Rattle.call_state.specs.declared.poll.Poll.TheVariants as poll
-use Rattle.call_state.specs.declared.stage.Stage.{Stage}
-use Rattle.call_state.specs.declared.stage.Stage.TheVariants.{Ended, Ready, Unsent, Asked, Came}
-use Rattle.call_state.specs.declared.told.Told.TheVariants as told
-use Rattle.call_state.specs.Asked.{IsReady}
-use Rattle.call_state.specs.Calls.{CancelsAwaited, CallValue, HoldsReady, IsGrantOf, IsHeld, IsHeldAt, IsOver, IsUnderWay, MayPoll, is_ended}
-use Rattle.call_state.specs.Keeping.{KeepsGrants}
-use Rattle.call_state.specs.Runners.{Meaning}
-use Rattle.call_state.proofs.Keeping.{
+use Rattle.plan_state.specs.declared.poll.Poll.TheVariants as poll
+use Rattle.plan_state.specs.declared.stage.Stage.{Stage}
+use Rattle.plan_state.specs.declared.stage.Stage.TheVariants.{Ended, Ready, Unsent, Asked, Came}
+use Rattle.plan_state.specs.declared.told.Told.TheVariants as told
+use Rattle.plan_state.specs.Asked.{IsReady}
+use Rattle.plan_state.specs.Calls.{CancelsAwaited, CallValue, HoldsReady, IsGrantOf, IsHeld, IsHeldAt, IsOver, IsUnderWay, MayPoll, is_ended}
+use Rattle.plan_state.specs.Keeping.{KeepsGrants}
+use Rattle.plan_state.specs.Runners.{Meaning}
+use Rattle.plan_state.proofs.Keeping.{
   grant_at,
   grant_kept,
   grants_kept,
@@ -29,19 +29,26 @@ use Rattle.call_state.proofs.Keeping.{
   still_under_way,
 }
 use Rattle.sftp_file.specs.Files.{FileValue}
-use Rattle.sftp_file.specs.Opens.{opening}
+use Rattle.sftp_file.specs.Opens.{open_meaning}
 use Rattle.sftp_file.specs.declared.opening.Opening.{Opening}
 use Rattle.sftp_file.proofs.Granting.{released_grant, retained_grant, retained_users}
 
 -- a call that asks once may be polled
-pub may_poll : {W M V : Type 0} (s : Meaning W M V) (core : Core) (call : CallValue M) → s.again ≡ false → IsUnderWay s core call → MayPoll s core call
-may_poll s core call once h = record { under_way = h; ready = λ again. absurd (let clash : true ≡ false = sym again ∙ once in cc) }
+pub may_poll : {W M V : Type 0} (s : Meaning W M V) (core : Core) (call : CallValue M) → s.again ≡ false
+    → IsUnderWay s core call → MayPoll s core call
+may_poll s core call once h = record {
+  under_way = h;
+  ready =
+      λ again. absurd (let clash : true ≡ false = sym again ∙ once in cc);
+}
 
 -- and any other where a request may be submitted
-pub may_poll_on : {W M V : Type 0} (s : Meaning W M V) (core : Core) (call : CallValue M) → IsReady core → IsUnderWay s core call → MayPoll s core call
+pub may_poll_on : {W M V : Type 0} (s : Meaning W M V) (core : Core) (call : CallValue M) → IsReady core
+    → IsUnderWay s core call → MayPoll s core call
 may_poll_on s core call ready h = record { under_way = h; ready = λ again. ready }
 
-no_handle : (kind : Expected) (handle : List ℕ) → asks_handle kind ≡ false → allows kind (reply.Handle handle) ≡ true → ⊥
+no_handle : (kind : Expected) (handle : List ℕ) → asks_handle kind ≡ false → allows_reply kind (reply.Handle handle)
+    ≡ true → ⊥
 no_handle expected.Handle handle none e = absurd cc
 no_handle expected.Version handle none e = cc
 no_handle (expected.Content len) handle none e = cc
@@ -80,10 +87,12 @@ ended_owns_nothing (Came t) id over own = absurd cc
 
 -- a file that an open gave is counted once the call was spent
 pub opened_kept : (old new : Core) (call : CallValue Opening) (value : Result FileValue Error)
-    → HoldsReady opening old (poll.Ready value) → IsOver call.stage (poll.Ready value) → CancelsAwaited old new call.stage
+    → HoldsReady open_meaning old (poll.Ready value) → IsOver call.stage (poll.Ready value)
+    → CancelsAwaited old new call.stage
     → IfOk value (λ (f : FileValue). IsGrant new f.grant)
 opened_kept old new call (Ok f) holds over cancels =
-    grant_at new f.grant 1 (cancels.grants f.grant.id f.grant.handle 1 (ended_owns_nothing call.stage f.grant.id over) holds) (omega arith)
+    grant_at new f.grant 1 (cancels.grants f.grant.id f.grant.handle 1 (ended_owns_nothing call.stage f.grant.id over)
+    holds) (omega arith)
 opened_kept old new call (Err e) holds over cancels = tt
 
 -- a call that has not ended is under way

@@ -1,4 +1,4 @@
--- Worked examples of flags, answers, moves and cuts, and beside each what nearly is one.
+-- Worked examples of flags, answers, moves and cuts, each beside a near miss.
 use Rattle.std.specs.Prelude.{ℕ, ◌≡◌, true, false, List, [], ◌∷◌, codes, Some, None, Ok, Err, refl, slice_get}
 use Rattle.sftp_model.specs.declared.error.Error.TheVariants as error
 use Rattle.sftp_model.specs.declared.flags.OpenFlags.{OpenFlags}
@@ -8,14 +8,14 @@ use Rattle.sftp_model.specs.declared.slot.FileAt.{FileAt}
 use Rattle.sftp_model.specs.declared.slot.Move.TheVariants.{Wait}
 use Rattle.sftp_model.specs.OpenOptions.{nothing_chosen, flags_of}
 use Rattle.plan_model.specs.Moves.{Answers}
-use Rattle.call_state.specs.Runners.{Follows}
-use Rattle.call_state.specs.declared.runner.Then.TheVariants as then
+use Rattle.plan_state.specs.Runners.{FollowsPlan}
+use Rattle.plan_state.specs.declared.runner.Then.TheVariants as then
 use Rattle.sftp_file.specs.Outcomes.{read_answer, status_answer}
 use Rattle.sftp_file.specs.Parts.{cut_at}
-use Rattle.sftp_file.specs.Reads.{ReadValue, reading}
-use Rattle.sftp_file.specs.Writes.{writing}
+use Rattle.sftp_file.specs.Reads.{ReadValue, read_meaning}
+use Rattle.sftp_file.specs.Writes.{write_meaning}
 
--- ---- flags
+-- ---- Flags
 
 abbrev flags : ℕ → OpenFlags
 flags n = record { 0 = n }
@@ -39,11 +39,11 @@ pub flags_wtcn : flags_of (record nothing_chosen { write = true; truncate = true
     ≡ flags 42
 flags_wtcn = refl
 
--- without `create` there is nothing to truncate
+-- Without `create` there is nothing to truncate.
 pub flags_t : flags_of (record nothing_chosen { truncate = true }) ≡ flags 0
 flags_t = refl
 
--- ---- answers
+-- ---- Answers
 
 pub read_end : read_answer 1 (codes "m") (codes "l") ≡ Ok None
 read_end = refl
@@ -51,14 +51,14 @@ read_end = refl
 pub read_refused : read_answer 2 (codes "m") (codes "l") ≡ Err (error.SftpError 2 (codes "m") (codes "l"))
 read_refused = refl
 
--- a STATUS 1 is an end for a READ alone
+-- A STATUS 1 is an end for a READ alone.
 pub status_refused : status_answer 1 (codes "m") (codes "l") ≡ Err (error.SftpError 1 (codes "m") (codes "l"))
 status_refused = refl
 
 pub status_done : status_answer 0 (codes "m") (codes "l") ≡ Ok tt
 status_done = refl
 
--- ---- moves: the OPEN is the lane's request 0, and the call's own is 1
+-- ---- Moves: the OPEN is the lane's request 0, and the call's own request is 1
 
 abbrev replies : List Reply → Answers
 replies taken place = slice_get taken place
@@ -66,33 +66,34 @@ replies taken place = slice_get taken place
 abbrev after : List Reply → Answers
 after taken = replies (reply.Handle (codes "h") ∷ taken)
 
--- the file stands at 3, and may be read alone
+-- The file is at offset 3 and may only be read.
 abbrev file : FileAt
 file = record { grant = 0; readable = true; writable = false; offset = 3 }
 
 abbrev read_of_eight : ReadValue
 read_of_eight = record { file = file; len = 8 }
 
--- it moves by what came
-pub read_moves : Follows reading tt read_of_eight (record { file = record file { offset = 5 }; len = 6 })
+-- A read moves the file by the bytes that came.
+pub read_moves : FollowsPlan read_meaning tt read_of_eight (record { file = record file { offset = 5 }; len = 6 })
     (after (reply.Content (codes "ab") ∷ [])) (then.Done (Ok (Some (codes "ab"))))
 read_moves = refl
 
--- and not at the end
-pub end_stays : Follows reading tt read_of_eight read_of_eight (after (reply.Status 1 (codes "m") (codes "l") ∷ []))
+-- A read at the end doesn't move the file.
+pub end_stays : FollowsPlan read_meaning tt read_of_eight read_of_eight
+    (after (reply.Status 1 (codes "m") (codes "l") ∷ []))
     (then.Done (Ok None))
 end_stays = refl
 
-pub read_waits_on : reading.left tt read_of_eight [] (after []) ≡ Wait 1
+pub read_waits_on : read_meaning.left tt read_of_eight [] (after []) ≡ Wait 1
 read_waits_on = refl
 
--- a write moves by all that it asked
-pub write_moves : Follows writing tt (record { file = file; len = 8 })
+-- A write moves the file by all the bytes that it asked to write.
+pub write_moves : FollowsPlan write_meaning tt (record { file = file; len = 8 })
     (record { file = record file { offset = 11 }; len = 0 })
     (after (reply.Status 0 [] [] ∷ [])) (then.Done (Ok 8))
 write_moves = refl
 
--- ---- pieces
+-- ---- Pieces
 
 abbrev pieces : List (List ℕ)
 pieces = codes "ab" ∷ [] ∷ codes "cd" ∷ []

@@ -1,4 +1,4 @@
--- Opens.
+-- Opens of files.
 use Rattle.std.specs.Prelude.{◌≡◌, ℕ, Bool, false, List, Some, None, Result, Ok, Err, refl, IfOk}
 use Rattle.sftp_model.specs.declared.answers.Expected.TheVariants as expected
 use Rattle.sftp_model.specs.declared.error.Error.{Error}
@@ -16,34 +16,34 @@ use Rattle.sftp_model.specs.Slots.{with_slot}
 use Rattle.plan_model.specs.FilePlans.{open_next}
 use Rattle.plan_model.specs.Moves.{Answers, Own, Plan, on_handle, once_answered}
 use Rattle.sftp_core.specs.Core.{Core}
-use Rattle.call_state.specs.Calls.{CallValue, IsUnderWay, Started}
-use Rattle.call_state.specs.Keeping.{KeepsHeld}
-use Rattle.call_state.specs.Runners.{Meaning}
+use Rattle.plan_state.specs.Calls.{CallValue, IsUnderWay, StartsByPlan}
+use Rattle.plan_state.specs.Keeping.{KeepsHeld}
+use Rattle.plan_state.specs.Runners.{Meaning}
 use Rattle.sftp_file.specs.declared.opening.Opening.{Opening}
 use Rattle.sftp_file.specs.Files.{FileValue}
 
--- a file that was opened with these rights by the OPEN at a place
+-- A file that was opened with these rights by the OPEN at this place.
 abbrev pub opened_at : ℕ → Bool → Bool → FileAt
 opened_at place readable writable = record { grant = place; readable = readable; writable = writable; offset = 0 }
 
--- the file in a plan, whose OPEN is the call's first request
+-- The file in a plan, if its OPEN is the call's first request.
 abbrev pub given_at : FileValue → FileAt
 given_at f = record { grant = 1; readable = f.readable; writable = f.writable; offset = f.offset }
 
--- what is left of an open into a slot of a lane
+-- The plan that is left of an open into a slot of a lane.
 abbrev pub open_left : ℕ × Site → Opening → Plan
 open_left lane m later answers =
     once_answered 1 (answers 1) (λ r. on_handle r lane.1 (λ handle. Done outcome.Opened
     (with_slot lane.1 lane.0 (slots.File (opened_at 1 m.readable m.writable)))))
 
--- the slot holds the file that is given
+-- The move that ends an open: the slot holds the file that was opened, or the call is refused.
 abbrev pub open_ended : ℕ × Site → Result FileValue Error → Move
 open_ended lane (Ok f) = Done outcome.Opened (with_slot lane.1 lane.0 (slots.File (given_at f)))
 open_ended lane (Err e) = Done (outcome.Refused e) lane.1
 
--- in any lane, into any slot; the grant that came is the file's
-abbrev pub opening : Meaning (ℕ × Site) Opening FileValue
-opening =
+-- The meaning of an open, in any lane and into any slot. The grant that came is the file's.
+abbrev pub open_meaning : Meaning (ℕ × Site) Opening FileValue
+open_meaning =
     record {
       left = open_left;
       place = λ m. 1;
@@ -62,17 +62,18 @@ pub open_waits : (lane : ℕ × Site) (m : Opening) (later : Own) (answers : Ans
     → open_left lane m later answers ≡ Wait 1
 open_waits lane m later answers none = rw none refl
 
--- the rights of an open are those of its flags
+-- The rights of an open are those of its flags.
 pub record HasRights (flags : OpenFlags) (m : Opening) : Type 0 where
   pub reads : m.readable ≡ has_bit flags.0 SSH_FXF_READ
   pub writes : m.writable ≡ has_bit flags.0 SSH_FXF_WRITE
 
--- A start did the first move of the plan of an open, in any lane and into any slot, whatever the replies to come.
+-- A start made the first move of the plan of an open, in any lane and into any slot, for any replies to come.
 pub record OpenStarts (flags : OpenFlags) (path : List ℕ) (old new : Core) (result : Result (CallValue Opening) Error) :
     Type 0 where
   pub starts : (slot : ℕ) (site : Site) (facts : Facts) (answers : Answers)
-      → Started opening (slot, site) (λ e. Done (outcome.Refused e) site) (open_next slot flags path site facts) answers
+      → StartsByPlan open_meaning (slot, site) (λ e. Done (outcome.Refused e) site)
+      (open_next slot flags path site facts) answers
       old new result
-  pub under_way : IfOk result (IsUnderWay opening new)
+  pub under_way : IfOk result (IsUnderWay open_meaning new)
   pub rights : IfOk result (λ call. HasRights flags call.runner)
   pub keeps : KeepsHeld old new

@@ -6,21 +6,21 @@ use Rattle.sftp_model.specs.declared.slot.FileAt.{FileAt}
 use Rattle.sftp_model.specs.declared.slot.Move.TheVariants.{Done, Wait}
 use Rattle.plan_model.specs.Moves.{Answers, Own, Plan, once_answered}
 use Rattle.plan_model.specs.TransferPlans.{was_read}
-use Rattle.call_state.specs.Runners.{Meaning}
+use Rattle.plan_state.specs.Runners.{Meaning}
 use Rattle.sftp_file.specs.Files.{one_slot}
 use Rattle.sftp_file.specs.Outcomes.{read_outcome}
 
--- a READ of a file: where it stands, and the most bytes that were asked for
+-- A READ of a file: the file at its offset, and the most bytes that were asked for.
 pub record ReadValue : Type 0 where
   pub file : FileAt
   pub len : ℕ
 
--- what is left of a read: what its reply makes of it
+-- The plan that is left of a read, which its reply decides.
 abbrev pub read_left : ReadValue → Plan
 read_left m later answers = once_answered 1 (answers 1) (was_read 0 m.file (one_slot m.file))
 
-abbrev pub reading : Meaning (Unit {0}) ReadValue (Option (List ℕ))
-reading =
+abbrev pub read_meaning : Meaning (Unit {0}) ReadValue (Option (List ℕ))
+read_meaning =
     record {
       left = λ w. read_left;
       place = λ m. 1;

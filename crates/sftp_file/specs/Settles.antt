@@ -1,17 +1,17 @@
--- Calls of one request whose STATUS ends them.
+-- Calls of one request that its STATUS ends.
 use Rattle.std.specs.Prelude.{◌≡◌, false, None, refl}
 use Rattle.sftp_model.specs.declared.answers.Expected.TheVariants as expected
 use Rattle.sftp_model.specs.declared.outcome.Outcome.TheVariants as outcome
 use Rattle.sftp_model.specs.declared.slot.Move.TheVariants.{Done, Wait}
 use Rattle.sftp_model.specs.declared.slot.Site.{Site}
 use Rattle.plan_model.specs.Moves.{Answers, Own, done_by, once_answered}
-use Rattle.call_state.specs.Runners.{Meaning}
+use Rattle.plan_state.specs.Runners.{Meaning}
 use Rattle.sftp_file.specs.declared.settling.Settling.{Settling}
 use Rattle.sftp_file.specs.Outcomes.{done_outcome}
 
--- in any lane: the call changes nothing
-abbrev pub settling : Meaning Site Settling (Unit {0})
-settling =
+-- The meaning of such a call, in any lane: it changes nothing.
+abbrev pub settle_meaning : Meaning Site Settling (Unit {0})
+settle_meaning =
     record {
       left = λ site m later answers. once_answered 1 (answers 1) (done_by site);
       place = λ m. 1;

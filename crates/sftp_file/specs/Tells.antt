@@ -1,17 +1,17 @@
--- Calls of one request whose ATTRS end them.
+-- Calls of one request that its ATTRS end.
 use Rattle.std.specs.Prelude.{◌≡◌, false, None, refl}
 use Rattle.sftp_model.specs.declared.answers.Expected.TheVariants as expected
 use Rattle.sftp_model.specs.declared.file_attrs.FileAttrs.{FileAttrs}
 use Rattle.sftp_model.specs.declared.slot.Move.TheVariants.{Done, Wait}
 use Rattle.sftp_model.specs.declared.slot.Site.{Site}
 use Rattle.plan_model.specs.Moves.{Answers, Own, once_answered, told_by}
-use Rattle.call_state.specs.Runners.{Meaning}
+use Rattle.plan_state.specs.Runners.{Meaning}
 use Rattle.sftp_file.specs.declared.telling.Telling.{Telling}
 use Rattle.sftp_file.specs.Outcomes.{attrs_outcome}
 
--- in any lane: the call changes nothing
-abbrev pub telling : Meaning Site Telling FileAttrs
-telling =
+-- The meaning of such a call, in any lane: it changes nothing.
+abbrev pub attrs_meaning : Meaning Site Telling FileAttrs
+attrs_meaning =
     record {
       left = λ site m later answers. once_answered 1 (answers 1) (told_by site);
       place = λ m. 1;

@@ -1,7 +1,7 @@
 -- Writes of a file.
 use Rattle.std.specs.Prelude.{◌≡◌, ◌+◌, ◌<◌, ◌^◌, ℕ, List, [], false, true, drop, Result, Ok, None, refl, IfOk}
 use Rattle.sftp_model.specs.Answers.{expected_of}
-use Rattle.sftp_model.specs.Pieces.{joined}
+use Rattle.sftp_model.specs.Pieces.{joined_pieces}
 use Rattle.sftp_model.specs.declared.answers.Expected.TheVariants as expected
 use Rattle.sftp_model.specs.declared.error.Error.{Error}
 use Rattle.sftp_model.specs.declared.outcome.Outcome.TheVariants as outcome
@@ -14,31 +14,31 @@ use Rattle.plan_model.specs.Moves.{Answers, Own, Plan, further, handle_of, on_st
 use Rattle.plan_model.specs.TransferPlans.{in_slot, next_part, part_len, rest_next, was_written, write_next}
 use Rattle.sftp_model.specs.Frames.{is_too_long}
 use Rattle.sftp_core.specs.Core.{Core, is_call, queued_parts}
-use Rattle.call_state.specs.Asked.{request_of}
-use Rattle.call_state.specs.Calls.{CallValue}
-use Rattle.call_state.specs.Runners.{IsOwn, Meaning}
-use Rattle.call_state.specs.declared.asking.Asking.{Asking}
-use Rattle.call_state.specs.declared.asking.Asking.TheVariants.{Parts}
-use Rattle.call_state.specs.declared.stage.Stage.TheVariants.{Asked}
+use Rattle.plan_state.specs.Asked.{request_of}
+use Rattle.plan_state.specs.Calls.{CallValue}
+use Rattle.plan_state.specs.Runners.{IsOwn, Meaning}
+use Rattle.plan_state.specs.declared.asking.Asking.{Asking}
+use Rattle.plan_state.specs.declared.asking.Asking.TheVariants.{Parts}
+use Rattle.plan_state.specs.declared.stage.Stage.TheVariants.{Asked}
 use Rattle.sftp_file.specs.declared.writing.Part.{Part}
 use Rattle.sftp_file.specs.declared.writing.Part.TheVariants as part
-use Rattle.sftp_file.specs.Files.{FileValue, Starts, facts_of, file_at, one_slot}
+use Rattle.sftp_file.specs.Files.{FileValue, StartsOnFile, facts_of, file_at, one_slot}
 use Rattle.sftp_file.specs.Outcomes.{count_outcome, done_outcome}
 use Rattle.sftp_file.specs.Parts.{cut_at}
 
--- ---- write: the first bytes
+-- ---- `write`: the first bytes
 
--- a WRITE of a file: where it stands, and how many bytes it carries
+-- A WRITE of a file: the file at its offset, and how many bytes the WRITE carries.
 pub record WriteValue : Type 0 where
   pub file : FileAt
   pub len : ℕ
 
--- what is left of a write: its status moves the file behind the bytes
+-- The plan that is left of a write: its status moves the file past the bytes.
 abbrev pub write_left : WriteValue → Plan
 write_left m later answers = once_answered 1 (answers 1) (was_written 0 m.file m.len (one_slot m.file))
 
-abbrev pub writing : Meaning (Unit {0}) WriteValue ℕ
-writing =
+abbrev pub write_meaning : Meaning (Unit {0}) WriteValue ℕ
+write_meaning =
     record {
       left = λ w. write_left;
       place = λ m. 1;
@@ -57,21 +57,21 @@ pub write_waits : (w : Unit {0}) (m : WriteValue) (later : Own) (answers : Answe
     → write_left m later answers ≡ Wait 1
 write_waits w m later answers none = rw none refl
 
--- One WRITE of these parts was asked as the first move of the write of any bytes of which it is what one WRITE carries;
--- the parts stand in the queue as they are.
+-- One WRITE of these parts was asked. It is the first move of the write of any bytes whose first WRITE carries exactly
+-- these parts, joined. The parts are queued unchanged.
 pub record WritesParts (f : FileValue) (parts : List (List ℕ)) (old new : Core)
     (result : Result (CallValue WriteValue) Error) :
     Type 0 where
-  pub starts : (bytes : List ℕ) → joined parts ≡ next_part (facts_of old) bytes
-      → Starts writing tt (write_next 0 bytes) f old new result
+  pub starts : (bytes : List ℕ) → joined_pieces parts ≡ next_part (facts_of old) bytes
+      → StartsOnFile write_meaning tt (write_next 0 bytes) f old new result
   pub shared : IfOk result (λ call. (ticket : ℕ) → call.stage ≡ Asked ticket
       → new ≡ queued_parts old ticket f.grant.handle f.offset parts)
   pub file : IfOk result (λ call. call.runner.file ≡ file_at f)
 
--- ---- write_all: part by part
+-- ---- `write_all`: part by part
 
--- The WRITE of a part under way: the file's handle, the file where the part stands, what the session fixes, the place
--- of the WRITE, the pieces as they were handed in, and how many of their bytes stand before the part.
+-- The WRITE of a part under way: the file's handle, the file at the part's offset, the session's facts, the place of
+-- the WRITE, the pieces as they were passed in, and how many of their bytes come before the part.
 pub record WriteAllValue : Type 0 where
   pub handle : List ℕ
   pub file : FileAt
@@ -80,36 +80,36 @@ pub record WriteAllValue : Type 0 where
   pub pieces : List (List ℕ)
   pub done : ℕ
 
--- with which a whole write of a file begins
+-- The state with which a whole write of a file starts.
 abbrev pub first_part : FileValue → Facts → List (List ℕ) → WriteAllValue
 first_part f facts pieces =
     record { handle = f.grant.handle; file = file_at f; facts = facts; place = 1; pieces = pieces; done = 0 }
 
--- the bytes from the part on, and the length of the part
+-- The bytes from the part on.
 abbrev pub from_part : WriteAllValue → List ℕ
-from_part m = drop m.done (joined m.pieces)
+from_part m = drop m.done (joined_pieces m.pieces)
 
 abbrev pub this_part : WriteAllValue → ℕ
 this_part m = part_len m.facts (from_part m)
 
--- the rest of the bytes behind a part
+-- The plan that writes the bytes after a part.
 abbrev pub rest_of : FileAt → List ℕ → Facts → Plan
 rest_of file bytes facts later answers = rest_next (in_slot 0) file bytes (one_slot file) facts later answers
 
--- the file behind this part, and the bytes that are left then
+-- The file after this part.
 abbrev pub behind_part : WriteAllValue → FileAt
 behind_part m = further m.file (this_part m)
 
 abbrev pub rest_behind : WriteAllValue → List ℕ
 rest_behind m = drop (this_part m) (from_part m)
 
--- what is left of a whole write: the parts behind this one, where its status is OK
+-- The plan that is left of a whole write: the parts after this one, if its status is OK.
 abbrev pub write_all_left : WriteAllValue → Plan
 write_all_left m later answers =
     once_answered m.place (answers m.place) (λ r. on_status r (one_slot m.file)
     (rest_of (behind_part m) (rest_behind m) m.facts later answers))
 
--- a part is cut out of the pieces as they were handed in
+-- True if a part is cut out of the pieces as they were passed in.
 abbrev pub IsCutOut : Facts → List (List ℕ) → ℕ → Asking → Type 0
 IsCutOut facts pieces done (Parts handle offset parts) = parts ≡ cut_at done facts.write_len pieces
 IsCutOut facts pieces done other = ⊥
@@ -134,33 +134,34 @@ pub writes_wait : (w : Unit {0}) (m : WriteAllValue) (later : Own) (answers : An
     → write_all_left m later answers ≡ Wait m.place
 writes_wait w m later answers none = rw none refl
 
--- ---- the next part
+-- ---- The next part
 
--- what it is, by the plan's move
+-- The relation between the next part and the plan's move.
 abbrev pub IsPart : Site → Move → Part → Type 0
 IsPart site move (part.Over value) = move ≡ Done (done_outcome value) site
 IsPart site move (part.Ask asking len) = move ≡ Ask (request_of asking)
 
--- it is a WRITE that fits a frame, cut out of the pieces
+-- True if it is a WRITE that fits a frame, cut out of the pieces.
 abbrev pub IsWrite : Facts → List (List ℕ) → ℕ → Asking → Type 0
 IsWrite facts pieces done asking = (expected_of (request_of asking) ≡ expected.Status)
     × (is_call (request_of asking) ≡ true)
     × (is_too_long (request_of asking) ≡ false)
     × IsCutOut facts pieces done asking
 
--- and ends within the greatest offset; without it nothing is left, or the call has a value of its own
+-- The next part ends within the greatest offset. If there is no next part, nothing is left or the call has a value of
+-- its own.
 abbrev pub IsNext : FileAt → Facts → List (List ℕ) → ℕ → Part → Type 0
-IsNext file facts pieces done (part.Over (Ok u)) = drop done (joined pieces) ≡ []
+IsNext file facts pieces done (part.Over (Ok u)) = drop done (joined_pieces pieces) ≡ []
 IsNext file facts pieces done (part.Over value) = IsOwn value
 IsNext file facts pieces done (part.Ask asking len) = IsWrite facts pieces done asking
-    × (len ≡ part_len facts (drop done (joined pieces)))
+    × (len ≡ part_len facts (drop done (joined_pieces pieces)))
     × (file.offset + len < 2 ^ 64)
 
--- the runner behind this part
+-- The runner after this part.
 abbrev pub after_this_part : WriteAllValue → WriteAllValue
 after_this_part m = record m { file = behind_part m; place = m.place + 1; done = m.done + this_part m }
 
--- and what it does there
+-- The relation between a runner, its next state, and the part that it asks for or the value that it ends with.
 abbrev pub IsBehind : WriteAllValue → WriteAllValue → Part → Type 0
 IsBehind m next (part.Over value) = (next.file ≡ behind_part m) × IsOwn value
 IsBehind m next (part.Ask asking len) = (next ≡ after_this_part m) × IsWrite next.facts next.pieces next.done asking

@@ -1,26 +1,28 @@
-//! `copy_to`: bytes of one file to another, on the server.
+//! `copy_to`: copies bytes of one file to another, on the server.
 ghost use Rattle.std.specs.Prelude.{◌≡◌, ◌<◌, false, refl, Result as ResultValue};
 ghost use Rattle.sftp_core.specs.Core.{Core as CoreValue};
 ghost use Rattle.sftp_model.specs.declared.error.Error.{Error as ErrorValue};
-ghost use Rattle.call_state.specs.declared.poll.Poll.{Poll as PollValue};
+ghost use Rattle.plan_state.specs.declared.poll.Poll.{Poll as PollValue};
 ghost use Rattle.sftp_file.specs.Files.{FileValue};
 ghost use Rattle.sftp_model.specs.Frames.{is_too_long};
 ghost use Rattle.sftp_model.specs.declared.request.Request.TheVariants as request;
-ghost use Rattle.call_state.specs.Asked.{IsReady, request_of};
-ghost use Rattle.call_state.specs.declared.asking.Asking.TheVariants as asking;
-ghost use Rattle.sftp_file.specs.Copies.{Copied, CopyStarts, CopyValue, MayCopy, copies_wait, copying};
+ghost use Rattle.plan_state.specs.Asked.{IsReady, request_of};
+ghost use Rattle.plan_state.specs.declared.asking.Asking.TheVariants as asking;
+ghost use Rattle.sftp_file.specs.Copies.{CopiesBetween, CopyStarts, CopyValue, MayCopy, copies_wait, copy_meaning};
 
 use crate::facts::facts;
 use crate::file::File;
 use crate::looks::{offers, overflows};
 use crate::settling::settled;
-use call_state::{Asking, PendingCall, PlanRunner, Poll, Then, Told};
+use plan_state::{Asking, PendingCall, PlanRunner, Poll, Then, Told};
 use sftp_core::Core;
 use sftp_model::numbers::SSH_FX_OK;
 use sftp_model::{Error, Extensions, FileAt, IoKind, Reply, Request};
 use std::marker::Model;
 
-/// A `copy-data` under way, of so many bytes between the offsets of two files.
+/// A `copy-data` request under way, between the offsets of two files.
+///
+/// Used by the functions of this module.
 #[derive(Drop)]
 pub struct Copying {
     source: FileAt,
@@ -47,7 +49,7 @@ impl PlanRunner for Copying {
 
     ghost World = { Unit {0} };
 
-    ghost meaning = { copying };
+    ghost meaning = { copy_meaning };
 
     ghost waits = { copies_wait };
 
@@ -80,7 +82,7 @@ impl PlanRunner for Copying {
 }
 
 impl Copying {
-    /// The offsets where the call has come, in bytes: of the file that is copied, and of the other.
+    /// Returns the offsets that the call has reached, in bytes: of the source file, and of the target file.
     pub fn offsets(&self) -> (u64, u64)
         ensures { (result.0 ≡ self.now.source.offset) × (result.1 ≡ self.now.target.offset) }
     {
@@ -88,21 +90,27 @@ impl Copying {
     }
 }
 
-/// The poll of a copy.
+/// Polls of a copy.
+///
+/// Example: `crates/test_files/src/transfers/copies.rt`.
 pub trait PollCopy {
-    // What a poll needs.
+    // The precondition of a poll.
     ghost may: { CoreValue → Self → FileValue → FileValue → Type 0 };
 
-    // What it did.
+    // The effect of a poll.
     ghost did: { CoreValue → CoreValue → Self → Self → FileValue → FileValue → FileValue → FileValue
         → PollValue (ResultValue (Unit {0}) ErrorValue) → Type 0 };
 
-    /// Polls what the copy awaits. The files are those that it was started on, and stand where the start left them;
-    /// once the copy was done both stand behind the bytes that were asked. `Pending` exactly where the status was not
-    /// taken and no fault is kept.
+    /// Polls for the status of the copy.
     ///
-    /// `SftpError`, where the server refused the copy; `BackgroundTaskFailure`, where the status was not taken and the
-    /// core keeps a fault.
+    /// The files must be those that the copy was started on, at the offsets that the start left. Once the copy is done
+    /// both are after the bytes that were asked for. Returns `Pending` exactly if the status was not taken and the core
+    /// has recorded no fault.
+    ///
+    /// # Errors
+    ///
+    /// `SftpError` if the server refused the copy; `BackgroundTaskFailure` if the status was not taken and the core has
+    /// recorded a fault.
     fn poll(&mut self, core: &mut Core, from: &mut File, to: &mut File) -> Poll<Result<(), Error>>
         requires { may core.old self.old from.old to.old }
         ensures { did core.old core.new self.old self.new from.old from.new to.old to.new result };
@@ -111,7 +119,7 @@ pub trait PollCopy {
 impl PollCopy for PendingCall<Copying> {
     ghost may = { MayCopy };
 
-    ghost did = { Copied };
+    ghost did = { CopiesBetween };
 
     fn poll(&mut self, core: &mut Core, from: &mut File, to: &mut File) -> Poll<Result<(), Error>> {
         let polled = self.step(core);
@@ -123,13 +131,15 @@ impl PollCopy for PendingCall<Copying> {
 }
 
 impl File {
-    /// Has the server copy `n` bytes at the offset of this file to the offset of the other
-    /// (`copy-data`, draft-ietf-secsh-filexfer-extensions-00, section 7), where `n` is at least 1.
+    /// Asks the server to copy `n` bytes at the offset of this file to the offset of the other (`copy-data`,
+    /// draft-ietf-secsh-filexfer-extensions-00, section 7). `n` is at least 1.
     ///
-    /// Looked at in this order: `UnsupportedExtension`; `IOError(NotWritable)` of the other file;
-    /// `IOError(NotReadable)` of this; `IOError(OffsetOverflow)`, where an offset and `n` together are over
-    /// 18446744073709551615; `BackgroundTaskFailure`, where the core keeps a fault. `OutOfMemory` may come in place
-    /// of any answer. Refused, nothing was submitted, and core and files are as before.
+    /// # Errors
+    ///
+    /// Checked in this order: `UnsupportedExtension`; `IOError(NotWritable)` of the other file; `IOError(NotReadable)`
+    /// of this file; `IOError(OffsetOverflow)` if an offset and `n` together are over 18446744073709551615;
+    /// `BackgroundTaskFailure` if the core has recorded a fault. `OutOfMemory` may come in place of any result. After
+    /// an error nothing was submitted, and core and files are unchanged.
     pub fn start_copy_to(&mut self, core: &mut Core, to: &File, n: u64) -> Result<CopyCall, Error>
         requires ready { IsReady core.old }
         requires some { 0 < n }
@@ -139,8 +149,12 @@ impl File {
         self.copy(core, to, n)
     }
 
-    /// Has the server copy what this file has from its offset on to the offset of the other, as `start_copy_to`. Both
-    /// offsets stay.
+    /// Asks the server to copy this file, from its offset to its end, to the offset of the other file, as
+    /// `start_copy_to` does. Both offsets stay.
+    ///
+    /// # Errors
+    ///
+    /// Those of `start_copy_to`; nothing was submitted then, and core and files are unchanged.
     pub fn start_copy_all_to(&mut self, core: &mut Core, to: &File) -> Result<CopyCall, Error>
         requires ready { IsReady core.old }
         ensures starts { CopyStarts self.old to.now 0 core.old core.new result }
@@ -149,7 +163,7 @@ impl File {
         self.copy(core, to, 0)
     }
 
-    /// Asks for a copy; 0 bytes are all.
+    /// Asks for a copy; 0 bytes means all.
     fn copy(&self, core: &mut Core, to: &File, n: u64) -> Result<CopyCall, Error>
         requires { IsReady core.old }
         ensures { CopyStarts self.now to.now n core.old core.new result }
@@ -182,7 +196,7 @@ impl File {
         PendingCall::ask(core, self.copy_request(to, n), runner)
     }
 
-    /// The request for a copy. It fits a frame, since a handle has at most 256 bytes.
+    /// Returns the request for a copy. It fits a frame, since a handle has at most 256 bytes.
     fn copy_request(&self, to: &File, n: u64) -> Asking
         ensures is { result ≡ asking.Whole
             (request.CopyData self.now.grant.handle self.now.offset n to.now.grant.handle to.now.offset) }

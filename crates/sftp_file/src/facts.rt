@@ -1,4 +1,4 @@
-//! What plans go by, as a core tells it.
+//! Facts that plans use, as a core reports them.
 ghost use Rattle.std.specs.Prelude.{◌≡◌, ◌≤◌, IsSome};
 ghost use Rattle.sftp_core.specs.Info.{info_of};
 ghost use Rattle.sftp_model.specs.Numbers.{MAX_TRANSFER_LEN};
@@ -7,7 +7,7 @@ ghost use Rattle.sftp_file.specs.Files.{facts_of};
 use sftp_core::Core;
 use sftp_model::Facts;
 
-/// What a session fixes.
+/// Returns the facts that a session fixes.
 pub(crate) fn facts(core: &Core) -> Facts
     requires { IsSome (info_of core.now.phase) }
     ensures is { result ≡ facts_of core.now }

@@ -1,4 +1,4 @@
-//! An open file, and the calls on it that ask nothing.
+//! An open file, and the calls on it that send no request.
 ghost use Rattle.std.specs.Prelude.{◌≡◌, ◌+◌, ◌<◌, ◌^◌, ℕ, [], not, ◌==◌, IfErr, OnOk, OnErr, IsSome};
 ghost use Rattle.sftp_model.specs.declared.slot.Facts.{Facts};
 ghost use Rattle.sftp_model.specs.declared.slot.Site.{Site};
@@ -6,7 +6,7 @@ ghost use Rattle.sftp_model.specs.declared.slot.Slot.TheVariants as slots;
 ghost use Rattle.sftp_model.specs.Slots.{has_grant, slot_at, with_slot};
 ghost use Rattle.plan_model.specs.FilePlans.{close_next, seek_next};
 ghost use Rattle.plan_model.specs.Moves.{Answers, handle_of};
-ghost use Rattle.sftp_core.specs.Core.{at, released, retained, users_of, IsGrant};
+ghost use Rattle.sftp_core.specs.Core.{record_at, core_after_release, core_after_retain, users_of, IsGrant};
 ghost use Rattle.sftp_core.specs.Info.{info_of};
 ghost use Rattle.sftp_file.specs.Files.{alone, facts_of, file_at, file_in};
 ghost use Rattle.sftp_file.specs.Closes.{ReleasesFile};
@@ -20,8 +20,10 @@ use sftp_model::{Error, FileAt};
 use std::io::SeekFrom;
 use std::marker::Model;
 
-/// An open file of the server, with the offset at which the next read or write stands. It isn't droppable:
-/// `start_close` spends it, and `let_go` where its core was given up.
+/// An open file of the server, with the offset of the next read or write. It isn't droppable: `start_close` consumes
+/// it, and `let_go` does after its core was given up.
+///
+/// Example: `crates/example_client/src/files.rt`.
 #[must_use]
 pub struct File {
     grant: Grant,
@@ -39,7 +41,7 @@ impl Model for File {
 }
 
 impl File {
-    /// The file of a grant with these rights, at its start.
+    /// Returns the file of a grant with these rights, at offset 0.
     pub(crate) fn of(grant: Grant, readable: bool, writable: bool) -> File
         ensures { result ≡ record { grant = grant; readable = readable; writable = writable; offset = 0 } }
     {
@@ -51,7 +53,7 @@ impl File {
         }
     }
 
-    /// The file as plans have it, where the OPEN at place 0 brought its handle.
+    /// Returns the file as plans have it, if the OPEN at place 0 brought its handle.
     pub fn at(&self) -> FileAt
         ensures { result ≡ file_at self.now }
     {
@@ -63,42 +65,42 @@ impl File {
         }
     }
 
-    /// What the server gave for the file (draft-ietf-secsh-filexfer-02, section 6.3).
+    /// Returns the grant that the server gave for the file (draft-ietf-secsh-filexfer-02, section 6.3).
     pub fn grant(&self) -> &Grant
         ensures { result.now ≡ self.now.grant }
     {
         &self.grant
     }
 
-    /// The offset of the next read or write, in bytes.
+    /// Returns the offset of the next read or write, in bytes.
     pub fn offset(&self) -> u64
         ensures { result ≡ self.now.offset }
     {
         self.offset
     }
 
-    /// The offset of the next read or write, in bytes: no seek is ever under way.
+    /// Returns the offset of the next read or write, in bytes. No seek is ever under way.
     pub fn poll_complete(&self) -> u64
         ensures { result ≡ self.now.offset }
     {
         self.offset
     }
 
-    /// Whether the file was opened to read.
+    /// Returns true if the file was opened to read.
     pub fn is_readable(&self) -> bool
         ensures { result ≡ self.now.readable }
     {
         self.readable
     }
 
-    /// Whether the file was opened to write or append.
+    /// Returns true if the file was opened to write or append.
     pub fn is_writable(&self) -> bool
         ensures { result ≡ self.now.writable }
     {
         self.writable
     }
 
-    /// The most bytes that one WRITE of the session carries, from 1 to 1048275.
+    /// Returns the most bytes that one WRITE of the session carries, from 1 to 1048275.
     pub fn max_write_len(&self, core: &Core) -> u32
         requires { IsSome (info_of core.now.phase) }
         ensures { result ≡ (facts_of core.now).write_len }
@@ -106,7 +108,7 @@ impl File {
         facts(core).write_len
     }
 
-    /// The most bytes that one READ of the session asks for, from 1 to 1048275.
+    /// Returns the most bytes that one READ of the session asks for, from 1 to 1048275.
     pub fn max_read_len(&self, core: &Core) -> u32
         requires { IsSome (info_of core.now.phase) }
         ensures { result ≡ (facts_of core.now).read_len }
@@ -114,7 +116,7 @@ impl File {
         facts(core).read_len
     }
 
-    /// The file itself.
+    /// Returns the file itself.
     pub fn as_mut_file(&mut self) -> &mut File
         ensures same_reference { result.ghost_name ≡ self.entry.ghost_name }
         ensures value { result.now ≡ self.old }
@@ -122,14 +124,14 @@ impl File {
         self
     }
 
-    /// The file stands at this offset.
+    /// Sets the offset of the file.
     pub fn stand(&mut self, offset: u64)
         ensures { self.new ≡ record self.old { offset = offset } }
     {
         self.offset = offset;
     }
 
-    /// The file stands so many bytes further.
+    /// Moves the offset of the file by this many bytes.
     pub fn advance(&mut self, by: u64)
         requires { self.old.offset + by < 2 ^ 64 }
         ensures { self.new ≡ record self.old { offset = self.old.offset + by } }
@@ -137,15 +139,17 @@ impl File {
         self.offset += by;
     }
 
-    /// Moves the offset; no request is needed.
+    /// Moves the offset of the file; no request is needed.
     ///
-    /// `IOError`, of which `SeekFromEnd` comes for each position from the end, `SeekOverflow` where the offset would be
-    /// over 18446744073709551615, and `SeekUnderflow` where it would be below 0. Refused, the file is as before.
+    /// # Errors
+    ///
+    /// `IOError`; the file is unchanged then. `SeekFromEnd` comes for each position from the end, `SeekOverflow` if the
+    /// offset would be over 18446744073709551615, and `SeekUnderflow` if it would be below 0.
     pub fn start_seek(&mut self, position: SeekFrom) -> Result<(), Error>
         ensures seeks { (facts : Facts) (answers : Answers)
             → seek_next 0 position (alone self.old) facts [] answers ≡ seek_outcome result self.new }
         ensures rest { self.new ≡ record self.old { offset = self.new.offset } }
-        ensures err { OnErr result (self.new ≡ self.old) }
+        ensures unchanged { OnErr result (self.new ≡ self.old) }
     {
         match sought(self.offset, position) {
             Ok(offset) => {
@@ -156,12 +160,12 @@ impl File {
         }
     }
 
-    /// The same file for one user more, at the same offset. It is closed once its last user has closed it.
+    /// Returns the same file for another user, at the same offset. It is closed once its last user has closed it.
     pub fn clone_file(&self, core: &mut Core) -> File
         requires counted { IsGrant core.old self.now.grant }
-        requires few { users_of (at core.old self.now.grant.id) < 4294967295 }
+        requires few { users_of (record_at core.old self.now.grant.id) < 4294967295 }
         ensures file { result ≡ self.now }
-        ensures core { core.new ≡ retained core.old self.now.grant }
+        ensures core { core.new ≡ core_after_retain core.old self.now.grant }
         ensures granted { IsGrant core.new self.now.grant }
     {
         File {
@@ -172,7 +176,7 @@ impl File {
         }
     }
 
-    /// Lets the file go. CLOSE is sent exactly for the last user; any other's first poll gives `()`
+    /// Releases the file. CLOSE is sent exactly for the last user; the first poll of any other user's call returns `()`
     /// (draft-ietf-secsh-filexfer-02, section 6.3). It can't be refused.
     pub fn start_close(self, core: &mut Core) -> CloseCall
         requires { IsGrant core.old self.grant }
@@ -187,7 +191,7 @@ impl File {
         close_call(core.release(grant))
     }
 
-    /// Lets the file go where its core was given up. No CLOSE is sent.
+    /// Releases the file after its core was given up. No CLOSE is sent.
     pub fn let_go(self, core: Ended) {
         let File {
             grant,

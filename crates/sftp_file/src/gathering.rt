@@ -1,22 +1,22 @@
-//! `read_all`: so many bytes at the file's offset, READ after READ.
+//! `read_all`: reads `n` bytes at the file's offset, one READ after another.
 ghost use Rattle.std.specs.Prelude.{false, ◌≡◌, ◌≤◌, ◌++◌, ℕ, List, [], length, refl, OnErr, OnOk, Result as ResultValue};
 ghost use Rattle.bytes.specs.Filled.{Filled};
 ghost use Rattle.sftp_core.specs.Core.{Core as CoreValue};
-ghost use Rattle.call_state.specs.declared.poll.Poll.{Poll as PollValue};
+ghost use Rattle.plan_state.specs.declared.poll.Poll.{Poll as PollValue};
 ghost use Rattle.sftp_file.specs.declared.gathering.ReadAllError.{ReadAllError as ErrorWithBytes};
 ghost use Rattle.plan_model.specs.Moves.{Answers, handle_of};
-ghost use Rattle.call_state.specs.Asked.{IsReady};
-ghost use Rattle.call_state.specs.Calls.{CancelsAwaited, IsHeld};
+ghost use Rattle.plan_state.specs.Asked.{IsReady};
+ghost use Rattle.plan_state.specs.Calls.{CancelsAwaited, IsHeld};
 ghost use Rattle.sftp_file.specs.Files.{FileValue, facts_of};
 ghost use Rattle.sftp_file.specs.Gathers.{GivesBytes, IsNextRead, MayReadAll, ReadAllValue, ReadsAll, StartsReadAll};
-ghost use Rattle.sftp_file.specs.Gathers.{bytes_out, first_read, gathered, gathers_wait, missing_error, missing_from, next_read, reading_all, with_buffer, without_bytes};
+ghost use Rattle.sftp_file.specs.Gathers.{bytes_out, first_read, after_data, gathers_wait, missing_error, missing_from, next_read, reading_all, with_buffer, without_bytes};
 
 use crate::facts::facts;
 use crate::file::File;
 use crate::looks::may_read;
 use crate::reading::read_request;
 use bytes::BytesMut;
-use call_state::{Asking, PendingCall, PlanRunner, Poll, Then, Told};
+use plan_state::{Asking, PendingCall, PlanRunner, Poll, Then, Told};
 use sftp_core::Core;
 use sftp_model::numbers::SSH_FX_EOF;
 use sftp_model::{Error, Facts, FileAt, Handle, IoKind, Reply};
@@ -25,33 +25,37 @@ use ssh_encoding::OutOfMemory;
 use std::alloc::Global;
 use std::marker::Model;
 
-/// Why a `read_all` did not get all bytes.
+/// The error of a `read_all` that did not get all bytes.
+///
+/// Example: `crates/test_files/src/transfers/read_all.rt`.
 #[derive(Debug, Drop)]
 pub struct ReadAllError {
     /// The error.
     pub error: Error,
-    /// The bytes that were handed in, and behind them those that were read before the error. None where the call has
-    /// not ended: it keeps them.
+    /// The bytes that were passed in, followed by those that were read before the error. Empty if the call has not
+    /// ended: the call keeps them.
     pub got: BytesMut,
 }
 
-/// A READ of what is missing under way.
+/// A READ of missing bytes under way.
+///
+/// Used by the functions of this module.
 #[derive(Drop)]
 pub struct Gathering {
     alloc: Global,
     handle: Handle,
-    /// The file, where the READ stands.
+    /// The file, at the offset of the READ.
     file: FileAt,
     facts: Facts,
     /// The place of the READ.
     place: u64,
-    /// The bytes that were handed in, and behind them those that came.
+    /// The bytes that were passed in, followed by those that came.
     buffer: BytesMut,
-    /// How many were handed in.
+    /// The number of bytes that were passed in.
     handed: usize,
-    /// How many are missing.
+    /// The number of missing bytes.
     missing: usize,
-    /// How many the READ asks for.
+    /// The number of bytes that the READ asks for.
     len: u32,
 }
 
@@ -77,22 +81,22 @@ impl Model for Gathering {
         × (m.file.offset + m.len < 2 ^ 64) };
 }
 
-/// A read of so many bytes of a file under way. It gives the bytes that were handed in, and behind them those that came.
+/// A read of `n` bytes of a file under way. It returns the bytes that were passed in, followed by those that came.
 pub type ReadAllCall = PendingCall<Gathering>;
 
 impl Gathering {
-    /// The offset where the call has come, in bytes.
+    /// Returns the offset that the call has reached, in bytes.
     pub fn offset(&self) -> u64
         ensures { result ≡ self.now.file.offset }
     {
         self.file.offset
     }
 
-    /// Puts the bytes behind those that came. Refused only for want of memory, it is as before then.
+    /// Appends the bytes to those that came. Fails only if an allocation fails; the runner is unchanged then.
     fn gather(&mut self, bytes: &[u8]) -> Result<(), OutOfMemory>
         requires { length bytes.now ≤ self.old.len }
-        ensures ok { OnOk result (self.new ≡ gathered self.old bytes.now) }
-        ensures err { OnErr result (self.new ≡ self.old) }
+        ensures ok { OnOk result (self.new ≡ after_data self.old bytes.now) }
+        ensures unchanged { OnErr result (self.new ≡ self.old) }
     {
         let Some(place) = self.place.checked_add(1) else {
             return Err(OutOfMemory);
@@ -107,7 +111,7 @@ impl Gathering {
         Ok(())
     }
 
-    /// The READ of what is missing, as much as one READ may ask for; None where nothing is missing.
+    /// Returns the READ of the missing bytes, up to the limit of one READ, or `None` if nothing is missing.
     fn next(&mut self) -> Result<Option<Asking>, IoKind>
         ensures is { IsNextRead self.old self.new result }
         ensures goes { (answers : Answers) → handle_of (answers self.old.file.grant) ≡ self.old.handle
@@ -125,7 +129,7 @@ impl Gathering {
         Ok(Some(read_request(&self.handle, self.file.offset, len)))
     }
 
-    /// The bytes that were handed in, and behind them those that came.
+    /// Returns the bytes that were passed in, followed by those that came.
     fn into_bytes(self) -> BytesMut
         ensures { result.items ≡ self.before ++ self.got }
     {
@@ -133,7 +137,7 @@ impl Gathering {
         buffer
     }
 
-    /// The runner with these bytes handed in, and none that came.
+    /// Returns the runner with these bytes passed in, and none that came.
     fn with_buffer(&self, buffer: BytesMut) -> Gathering
         ensures { result ≡ with_buffer self.now buffer.items }
     {
@@ -192,7 +196,7 @@ impl PlanRunner for Gathering {
     }
 }
 
-/// What a STATUS gives in place of bytes that are missing.
+/// Returns the error of a STATUS that comes in place of missing bytes.
 fn status_missing(code: u32, message: ByteText, language: ByteText) -> Error
     ensures { result ≡ missing_error code message language }
 {
@@ -206,7 +210,11 @@ fn status_missing(code: u32, message: ByteText, language: ByteText) -> Error
     }
 }
 
-/// What a call answers with its bytes: where it has ended they are taken out of it, and else it keeps them.
+/// Adds a call's bytes to its answer. If the call has ended they are taken out of it; otherwise it keeps them.
+///
+/// # Errors
+///
+/// The error of `answer`. It has the bytes if the call has ended, and none otherwise.
 pub fn read_all_answer(
     call: &mut ReadAllCall,
     answer: Result<(), Error>,
@@ -221,7 +229,7 @@ pub fn read_all_answer(
     }
 }
 
-/// Gives a call up, as `PendingCall::cancel` does, and hands its bytes out: those that were handed in, and behind them those
+/// Gives a call up, as `PendingCall::cancel` does, and returns its bytes: those that were passed in, followed by those
 /// that came.
 pub fn cancel_read_all(call: ReadAllCall, core: &mut Core) -> BytesMut
     requires { IsHeld reading_all core.old call }
@@ -236,7 +244,7 @@ pub fn cancel_read_all(call: ReadAllCall, core: &mut Core) -> BytesMut
     bytes
 }
 
-/// Takes the bytes out of a call that has ended; none out of any other.
+/// Takes the bytes out of a call that has ended, and none out of any other.
 fn take_bytes(call: &mut ReadAllCall) -> BytesMut
     ensures bytes { result.items ≡ bytes_out call.old }
     ensures left { call.new ≡ without_bytes call.old }
@@ -249,24 +257,30 @@ fn take_bytes(call: &mut ReadAllCall) -> BytesMut
     call.replace_runner(runner).into_bytes()
 }
 
-/// The poll of a `read_all`.
+/// Polls of a `read_all`.
+///
+/// Example: `crates/test_library/src/calls.rt`.
 pub trait PollReadAll {
-    // What a poll needs.
+    // The precondition of a poll.
     ghost may: { CoreValue → Self → FileValue → Type 0 };
 
-    // What it did.
+    // The effect of a poll.
     ghost did: { CoreValue → CoreValue → Self → Self → FileValue → FileValue
         → PollValue (ResultValue Filled ErrorWithBytes) → Type 0 };
 
-    /// Polls what the call awaits, and goes on with it: the bytes of a DATA are kept, and a READ of those that are
-    /// missing is sent, until all came. The file is the one that the call was started on, and stands where the start or
-    /// the last poll left it; it stands behind the bytes that came then. `Pending` exactly where the reply was not taken
-    /// and no fault is kept, or where a further request was submitted.
+    /// Polls for the reply that the call awaits, and continues the call: the bytes of a DATA are kept, and a READ of
+    /// the missing ones is sent, until all came.
     ///
-    /// `BackgroundTaskFailure`, where the reply was not taken, or a further request is asked, and the core keeps a
-    /// fault; `IOError(UnexpectedEof)`, where the file ends before all bytes came; `SftpError`, where the server
-    /// refused; `IOError(OffsetOverflow)`, where the next READ would go past the greatest offset. Each of them hands
-    /// the bytes back. `OutOfMemory` hands none: the call keeps them, and may be polled again.
+    /// The file must be the one that the call was started on, at the offset that the start or the last poll left.
+    /// Afterwards it is after the bytes that came. Returns `Pending` exactly if the reply was not taken and the core
+    /// has recorded no fault, or if another request was submitted.
+    ///
+    /// # Errors
+    ///
+    /// `BackgroundTaskFailure` if the core has recorded a fault and the reply was not taken or another request is to be
+    /// asked; `IOError(UnexpectedEof)` if the file ends before all bytes came; `SftpError` if the server refused;
+    /// `IOError(OffsetOverflow)` if the next READ would go past the greatest offset. Each of them hands the bytes back.
+    /// `OutOfMemory` hands none back: the call keeps them, and may be polled again.
     fn poll(&mut self, core: &mut Core, file: &mut File) -> Poll<Result<BytesMut, ReadAllError>>
         requires { may core.old self.old file.old }
         ensures { did core.old core.new self.old self.new file.old file.new result };
@@ -288,14 +302,16 @@ impl PollReadAll for PendingCall<Gathering> {
 }
 
 impl File {
-    /// Reads exactly `n` bytes at the offset (draft-ietf-secsh-filexfer-02, section 6.4): each READ asks for what is
-    /// missing, as much as one READ of the session may ask for, and is sent after the reply to the one before. The
-    /// bytes are put behind those of `buffer`. For no bytes nothing is asked.
+    /// Reads exactly `n` bytes at the offset (draft-ietf-secsh-filexfer-02, section 6.4). Each READ asks for the
+    /// missing bytes, up to the limit of one READ of the session, and is sent after the reply to the one before. The
+    /// bytes are appended to `buffer`. For no bytes nothing is asked.
     ///
-    /// Looked at in this order: `IOError(NotReadable)`; `IOError(OffsetOverflow)`, where the offset and the length of
-    /// the READ together are over 18446744073709551615, as for each later READ; `BackgroundTaskFailure`, where the
-    /// core keeps a fault. `OutOfMemory` may come in place of any answer. Refused, nothing was submitted, the buffer is
-    /// handed back, and core and file are as before.
+    /// # Errors
+    ///
+    /// Checked in this order: `IOError(NotReadable)`; `IOError(OffsetOverflow)` if the offset and the length of the
+    /// READ together are over 18446744073709551615, as for each later READ; `BackgroundTaskFailure` if the core has
+    /// recorded a fault. `OutOfMemory` may come in place of any result. After an error nothing was submitted, the
+    /// buffer is handed back, and core and file are unchanged.
     pub fn start_read_all(
         &mut self,
         core: &mut Core,
@@ -323,7 +339,7 @@ impl File {
         }
     }
 
-    /// The runner of a read of so many bytes of which none came, and none were handed in.
+    /// Returns the runner of a read of `n` bytes of which none came, with no bytes passed in.
     fn gathering(&self, core: &Core, n: usize) -> Gathering
         requires { IsReady core.now }
         ensures { result ≡ first_read self.now (facts_of core.now) n }
@@ -342,7 +358,7 @@ impl File {
     }
 }
 
-/// The call with these bytes handed in.
+/// Returns the call with these bytes passed in.
 fn hand_in(call: ReadAllCall, buffer: BytesMut) -> ReadAllCall
     ensures { result ≡ record call { runner = with_buffer call.runner buffer.items } }
 {

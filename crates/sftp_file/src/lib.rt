@@ -17,7 +17,6 @@ mod slices;
 mod telling;
 mod writing;
 
-pub use call_state::Poll;
 pub use copying::{CopyCall, Copying, PollCopy};
 pub use file::File;
 pub use gathering::{
@@ -28,6 +27,7 @@ pub use looks::sought;
 pub use on_file::{OnFile, PollFile};
 pub use opening::{OpenCall, Opening, StartOpen};
 pub use parts::{cut, one_piece};
+pub use plan_state::Poll;
 pub use reading::{ReadCall, Reading};
 pub use sending::{Sending, WriteCall};
 pub use settling::{CloseCall, Settling, StatusCall, close_call, status_call};

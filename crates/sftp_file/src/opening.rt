@@ -1,35 +1,38 @@
-//! `open`: the grant of its HANDLE is the file's.
+//! `open`: opens a file, whose grant is that of the HANDLE.
 ghost use Rattle.std.specs.Prelude.{◌≡◌, ◌≤◌, ℕ, false, length, refl, IfOk};
 ghost use Rattle.sftp_model.specs.declared.flags.OpenFlags.{OpenFlags};
 ghost use Rattle.sftp_model.specs.declared.slot.Site.{Site};
 ghost use Rattle.sftp_model.specs.OpenOptions.{flags_of};
 ghost use Rattle.plan_model.specs.FilePlans.{open_request};
 ghost use Rattle.sftp_model.specs.Frames.{is_too_long};
-ghost use Rattle.call_state.specs.Asked.{IsReady, request_of};
-ghost use Rattle.call_state.specs.declared.asking.Asking.TheVariants as asking;
-ghost use Rattle.sftp_file.specs.Opens.{OpenStarts, open_waits, opening};
+ghost use Rattle.plan_state.specs.Asked.{IsReady, request_of};
+ghost use Rattle.plan_state.specs.declared.asking.Asking.TheVariants as asking;
+ghost use Rattle.sftp_file.specs.Opens.{OpenStarts, open_waits, open_meaning};
 
 use crate::file::File;
-use call_state::{Alone, Asking, PendingCall, PlanRunner, Then, Told};
+use plan_state::{Alone, Asking, PendingCall, PlanRunner, Then, Told};
 use sftp_core::Core;
 use sftp_model::{Error, FileAttrs, IoKind, OpenOptions, RemotePath, Reply, Request};
 use ssh_encoding::OutOfMemory;
 use std::alloc::Global;
 
-/// The most bytes of a path whose OPEN fits a frame. The body of an OPEN without attributes has 17 bytes more, and
-/// the body of a frame at most 1048575 (draft-ietf-secsh-filexfer-02, sections 3 and 6.3).
+/// The greatest length of a path, in bytes, whose OPEN fits a frame. The body of an OPEN without attributes has 17
+/// bytes more than its path, and the body of a frame at most 1048575 (draft-ietf-secsh-filexfer-02, sections 3 and
+/// 6.3).
 const MAX_PATH_LEN: usize = 1048558;
 
 /// An OPEN whose HANDLE gives the file.
+///
+/// Example: `crates/example_client/src/files.rt`.
 #[derive(Drop)]
 pub struct Opening {
-    /// Whether the file may be read.
+    /// True if the file may be read.
     readable: bool,
-    /// Whether the file may be written.
+    /// True if the file may be written.
     writable: bool,
 }
 
-/// An open under way. It gives the file, at its start.
+/// An open under way. It returns the file, at offset 0.
 pub type OpenCall = PendingCall<Opening>;
 
 impl Alone for Opening {}
@@ -39,7 +42,7 @@ impl PlanRunner for Opening {
 
     ghost World = { ℕ × Site };
 
-    ghost meaning = { opening };
+    ghost meaning = { open_meaning };
 
     ghost waits = { open_waits };
 
@@ -68,17 +71,21 @@ impl PlanRunner for Opening {
     }
 }
 
-/// Options by which a file can be opened.
+/// Options with which a file can be opened.
+///
+/// Example: `crates/test_library/src/paths.rt`.
 pub trait StartOpen {
     // The flags of the OPEN.
     ghost flags: { Self → OpenFlags };
 
-    /// Asks the server to open a file (draft-ietf-secsh-filexfer-02, section 6.3). The path is sent as it is, with
+    /// Asks the server to open a file (draft-ietf-secsh-filexfer-02, section 6.3). The path is sent unchanged, with
     /// attributes without fields.
     ///
-    /// Looked at in this order: `IOError(PathTooLong)`, exactly where the path has more than 1048558 bytes, so that
-    /// the body of its OPEN passes 1048575; `BackgroundTaskFailure`, where the core keeps a fault. `OutOfMemory` may
-    /// come in place of any answer. Refused, nothing was submitted, and the core is as before.
+    /// # Errors
+    ///
+    /// Checked in this order: `IOError(PathTooLong)`, exactly if the path has more than 1048558 bytes, so that the body
+    /// of its OPEN passes 1048575; `BackgroundTaskFailure` if the core has recorded a fault. `OutOfMemory` may come in
+    /// place of any result. After an error nothing was submitted, and the core is unchanged.
     fn start_open(&self, alloc: Global, core: &mut Core, path: &[u8]) -> Result<OpenCall, Error>
         requires { IsReady core.old }
         ensures { OpenStarts (Self.flags self.now) path.now core.old core.new result };
@@ -103,7 +110,7 @@ impl StartOpen for OpenOptions {
     }
 }
 
-/// The OPEN of a path that isn't too long.
+/// Returns the OPEN of a path that isn't too long.
 fn open_request(options: &OpenOptions, alloc: Global, path: &[u8]) -> Result<Asking, OutOfMemory>
     requires { length path.now ≤ 1048558 }
     ensures value { IfOk result (λ asked. asked ≡ asking.Whole (open_request (flags_of options.now) path.now)) }

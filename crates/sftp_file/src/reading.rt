@@ -1,20 +1,20 @@
-//! `read`: at most n bytes at the file's offset.
+//! `read`: reads at most `n` bytes at the file's offset.
 ghost use Rattle.std.specs.Prelude.{◌≡◌, false, refl, IfOk};
 ghost use Rattle.sftp_model.specs.Frames.{is_too_long};
 ghost use Rattle.sftp_model.specs.declared.request.Request.TheVariants as request;
 ghost use Rattle.plan_model.specs.TransferPlans.{read_next};
-ghost use Rattle.call_state.specs.Asked.{IsReady, request_of};
-ghost use Rattle.call_state.specs.declared.asking.Asking.TheVariants as asking;
-ghost use Rattle.sftp_file.specs.Files.{Starts, file_at};
+ghost use Rattle.plan_state.specs.Asked.{IsReady, request_of};
+ghost use Rattle.plan_state.specs.declared.asking.Asking.TheVariants as asking;
+ghost use Rattle.sftp_file.specs.Files.{StartsOnFile, file_at};
 ghost use Rattle.sftp_file.specs.Outcomes.{read_answer};
-ghost use Rattle.sftp_file.specs.Reads.{ReadValue, read_waits, reading};
+ghost use Rattle.sftp_file.specs.Reads.{ReadValue, read_waits, read_meaning};
 
 use crate::facts::facts;
 use crate::file::File;
 use crate::looks::may_read;
 use crate::on_file::OnFile;
 use bytes::Bytes;
-use call_state::{Asking, PendingCall, PlanRunner, Then, Told};
+use plan_state::{Asking, PendingCall, PlanRunner, Then, Told};
 use sftp_core::Core;
 use sftp_model::numbers::SSH_FX_EOF;
 use sftp_model::{Error, FileAt, Handle, Reply, Request};
@@ -22,9 +22,11 @@ use sftp_values::ByteText;
 use std::marker::Model;
 
 /// A READ of a file under way, or a read of no bytes.
+///
+/// Used by the functions of this module.
 #[derive(Drop)]
 pub struct Reading {
-    /// The file, where the READ stands.
+    /// The file, at the offset of the READ.
     file: FileAt,
     /// The most bytes that may come.
     len: u32,
@@ -41,7 +43,8 @@ impl Model for Reading {
     ghost invariant = { λ m. m.file.offset + m.len < 2 ^ 64 };
 }
 
-/// A read of a file under way. It gives the bytes, 1 or more; None at the end of the file, and for a read of no bytes.
+/// A read of a file under way. It returns the bytes, 1 or more; `None` at the end of the file, and for a read of no
+/// bytes.
 pub type ReadCall = PendingCall<Reading>;
 
 impl PlanRunner for Reading {
@@ -49,7 +52,7 @@ impl PlanRunner for Reading {
 
     ghost World = { Unit {0} };
 
-    ghost meaning = { reading };
+    ghost meaning = { read_meaning };
 
     ghost waits = { read_waits };
 
@@ -89,7 +92,7 @@ impl OnFile for Reading {
     }
 }
 
-/// What a STATUS gives to a read.
+/// Returns the answer that a STATUS is to a read.
 fn status_read(code: u32, message: ByteText, language: ByteText) -> Result<Option<Bytes>, Error>
     ensures { result ≡ read_answer code message language }
 {
@@ -104,16 +107,19 @@ fn status_read(code: u32, message: ByteText, language: ByteText) -> Result<Optio
 }
 
 impl File {
-    /// Asks for at most `n` bytes at the offset, as many as one READ may ask for
-    /// (draft-ietf-secsh-filexfer-02, section 6.4). For no bytes nothing is asked, and the first poll gives None. The
-    /// file stays as it is until the reply is polled.
+    /// Asks for at most `n` bytes at the offset, up to the limit of one READ (draft-ietf-secsh-filexfer-02, section
+    /// 6.4). For no bytes nothing is asked, and the first poll returns `None`. The file stays as it is until the reply
+    /// is polled.
     ///
-    /// Looked at in this order: `IOError(NotReadable)`; `IOError(OffsetOverflow)`, where the offset and the length of
-    /// the READ together are over 18446744073709551615; `BackgroundTaskFailure`, where the core keeps a fault.
-    /// `OutOfMemory` may come in place of any answer. Refused, nothing was submitted, and core and file are as before.
+    /// # Errors
+    ///
+    /// Checked in this order: `IOError(NotReadable)`; `IOError(OffsetOverflow)` if the offset and the length of the
+    /// READ together are over 18446744073709551615; `BackgroundTaskFailure` if the core has recorded a fault.
+    /// `OutOfMemory` may come in place of any result. After an error nothing was submitted, and core and file are
+    /// unchanged.
     pub fn start_read(&mut self, core: &mut Core, n: u32) -> Result<ReadCall, Error>
         requires { IsReady core.old }
-        ensures starts { Starts reading tt (read_next 0 n) self.old core.old core.new result }
+        ensures starts { StartsOnFile read_meaning tt (read_next 0 n) self.old core.old core.new result }
         ensures file { IfOk result (λ call. call.runner.file ≡ file_at self.old) }
         ensures left { self.new ≡ self.old }
     {
@@ -130,7 +136,7 @@ impl File {
     }
 }
 
-/// The READ of `len` bytes at an offset. It fits a frame, since a handle has at most 256 bytes.
+/// Returns the READ of `len` bytes at an offset. It fits a frame, since a handle has at most 256 bytes.
 pub(crate) fn read_request(handle: &Handle, offset: u64, len: u32) -> Asking
     ensures is { result ≡ asking.Whole (request.Read handle.now offset len) }
     ensures short { is_too_long (request_of result) ≡ false }

@@ -1,14 +1,14 @@
-//! `write`: the first bytes, as many as one WRITE carries.
+//! `write`: writes the first bytes, up to the limit of one WRITE.
 ghost use Rattle.std.specs.Prelude.{◌≡◌, ℕ, ◌≤◌, refl, length, IfOk};
 ghost use Rattle.sftp_model.specs.Numbers.{MAX_TRANSFER_LEN};
-ghost use Rattle.sftp_model.specs.Pieces.{joined};
+ghost use Rattle.sftp_model.specs.Pieces.{joined_pieces};
 ghost use Rattle.plan_model.specs.TransferPlans.{write_next};
 ghost use Rattle.sftp_core.specs.Core.{queued_parts};
-ghost use Rattle.call_state.specs.Asked.{IsReady};
-ghost use Rattle.call_state.specs.declared.stage.Stage.TheVariants as stage;
-ghost use Rattle.sftp_file.specs.Files.{Starts, facts_of, file_at};
+ghost use Rattle.plan_state.specs.Asked.{IsReady};
+ghost use Rattle.plan_state.specs.declared.stage.Stage.TheVariants as stage;
+ghost use Rattle.sftp_file.specs.Files.{StartsOnFile, facts_of, file_at};
 ghost use Rattle.sftp_file.specs.Parts.{cut_at};
-ghost use Rattle.sftp_file.specs.Writes.{WriteValue, WritesParts, write_waits, writing};
+ghost use Rattle.sftp_file.specs.Writes.{WriteValue, WritesParts, write_waits, write_meaning};
 
 use crate::facts::facts;
 use crate::file::File;
@@ -17,7 +17,7 @@ use crate::on_file::OnFile;
 use crate::parts::{cut, one_piece};
 use crate::writing::write_request;
 use bytes::Bytes;
-use call_state::{PendingCall, PlanRunner, Then, Told};
+use plan_state::{PendingCall, PlanRunner, Then, Told};
 use sftp_core::Core;
 use sftp_model::numbers::SSH_FX_OK;
 use sftp_model::{Error, FileAt, Reply};
@@ -25,11 +25,13 @@ use ssh_encoding::OutOfMemory;
 use std::marker::Model;
 
 /// A WRITE of a file under way, or a write of no bytes.
+///
+/// Used by the functions of this module.
 #[derive(Drop)]
 pub struct Sending {
-    /// The file, where the WRITE stands.
+    /// The file, at the offset of the WRITE.
     file: FileAt,
-    /// The bytes that it carries.
+    /// The number of bytes that the WRITE carries.
     len: u32,
 }
 
@@ -44,7 +46,7 @@ impl Model for Sending {
     ghost invariant = { λ m. m.file.offset + m.len < 2 ^ 64 };
 }
 
-/// A write of a file under way. It gives how many bytes were written.
+/// A write of a file under way. It returns how many bytes were written.
 pub type WriteCall = PendingCall<Sending>;
 
 impl PlanRunner for Sending {
@@ -52,7 +54,7 @@ impl PlanRunner for Sending {
 
     ghost World = { Unit {0} };
 
-    ghost meaning = { writing };
+    ghost meaning = { write_meaning };
 
     ghost waits = { write_waits };
 
@@ -100,17 +102,19 @@ impl OnFile for Sending {
 }
 
 impl File {
-    /// Writes the first of these bytes at the offset, as many as one WRITE of the session carries
-    /// (draft-ietf-secsh-filexfer-02, section 6.4). For no bytes nothing is asked, and the first poll gives 0. The
+    /// Writes the first of these bytes at the offset, up to the limit of one WRITE of the session
+    /// (draft-ietf-secsh-filexfer-02, section 6.4). For no bytes nothing is asked, and the first poll returns 0. The
     /// bytes are copied once.
     ///
-    /// Looked at in this order: `IOError(NotWritable)`; `IOError(OffsetOverflow)`, where the offset and the length of
-    /// the WRITE together are over 18446744073709551615; `BackgroundTaskFailure`, where the core keeps a fault.
-    /// `OutOfMemory` may come in place of any answer. Refused, nothing was submitted, and core and file are as
-    /// before.
+    /// # Errors
+    ///
+    /// Checked in this order: `IOError(NotWritable)`; `IOError(OffsetOverflow)` if the offset and the length of the
+    /// WRITE together are over 18446744073709551615; `BackgroundTaskFailure` if the core has recorded a fault.
+    /// `OutOfMemory` may come in place of any result. After an error nothing was submitted, and core and file are
+    /// unchanged.
     pub fn start_write(&mut self, core: &mut Core, buf: &[u8]) -> Result<WriteCall, Error>
         requires { IsReady core.old }
-        ensures starts { Starts writing tt (write_next 0 buf.now) self.old core.old core.new result }
+        ensures starts { StartsOnFile write_meaning tt (write_next 0 buf.now) self.old core.old core.new result }
         ensures file { IfOk result (λ call. call.runner.file ≡ file_at self.old) }
         ensures left { self.new ≡ self.old }
     {
@@ -121,15 +125,19 @@ impl File {
         }
     }
 
-    /// Writes the first bytes of these pieces, joined, as `start_write`. No byte is copied: what is sent is cut out
-    /// of the pieces.
+    /// Writes the first bytes of these pieces, joined, as `start_write` does. No byte is copied: the bytes that are
+    /// sent are cut out of the pieces.
+    ///
+    /// # Errors
+    ///
+    /// Those of `start_write`.
     pub fn start_write_vectorized(
         &mut self,
         core: &mut Core,
         bufs: &[Bytes],
     ) -> Result<WriteCall, Error>
         requires { IsReady core.old }
-        ensures starts { Starts writing tt (write_next 0 (joined bufs.now)) self.old core.old core.new result }
+        ensures starts { StartsOnFile write_meaning tt (write_next 0 (joined_pieces bufs.now)) self.old core.old core.new result }
         ensures shared { IfOk result (λ call. (ticket : ℕ) → call.stage ≡ stage.Asked ticket → core.new
             ≡ queued_parts core.old ticket self.old.grant.handle self.old.offset
             (cut_at 0 (facts_of core.old).write_len bufs.now)) }
@@ -143,14 +151,18 @@ impl File {
         }
     }
 
-    /// Another name of `start_write_vectorized`.
+    /// Does the same as `start_write_vectorized`, under another name.
+    ///
+    /// # Errors
+    ///
+    /// Those of `start_write_vectorized`.
     pub fn start_write_zero_copy(
         &mut self,
         core: &mut Core,
         bufs: &[Bytes],
     ) -> Result<WriteCall, Error>
         requires { IsReady core.old }
-        ensures starts { Starts writing tt (write_next 0 (joined bufs.now)) self.old core.old core.new result }
+        ensures starts { StartsOnFile write_meaning tt (write_next 0 (joined_pieces bufs.now)) self.old core.old core.new result }
         ensures shared { IfOk result (λ call. (ticket : ℕ) → call.stage ≡ stage.Asked ticket → core.new
             ≡ queued_parts core.old ticket self.old.grant.handle self.old.offset
             (cut_at 0 (facts_of core.old).write_len bufs.now)) }
@@ -168,7 +180,7 @@ impl File {
         len: usize,
     ) -> Result<WriteCall, Error>
         requires ready { IsReady core.old }
-        requires len { len ≡ length (joined parts.items) }
+        requires len { len ≡ length (joined_pieces parts.items) }
         requires most { (len ≤ (facts_of core.old).write_len)
             × (1 ≤ (facts_of core.old).write_len)
             × ((facts_of core.old).write_len ≤ MAX_TRANSFER_LEN) }

@@ -1,4 +1,4 @@
-//! The first bytes of pieces.
+//! First bytes of pieces.
 ghost use Rattle.std.specs.Prelude.{◌≡◌, ◌≤◌, ◌<◌, [], IfOk, IfNone, IfSome};
 ghost use Rattle.sftp_file.specs.Slices.{IsCutOff};
 
@@ -6,8 +6,12 @@ use bytes::Bytes;
 use ssh_encoding::OutOfMemory;
 use std::alloc::Global;
 
-/// The first bytes of these pieces, at most `limit`: how many they are, how many pieces are whole among them, and the
-/// rest, which shares the bytes of the next piece. None exactly where all pieces are empty.
+/// Returns the first bytes of these pieces, at most `limit`: how many they are, how many whole pieces are among them,
+/// and the rest, which shares the bytes of the next piece. Returns `None` exactly if all pieces are empty.
+///
+/// # Errors
+///
+/// `OutOfMemory` if an allocation fails.
 pub fn take_io_slices(
     _alloc: Global,
     bufs: &[Bytes],
@@ -28,7 +32,11 @@ pub fn take_io_slices(
     Ok(counted(limit - left, whole))
 }
 
-/// The first bytes of these pieces, as `take_io_slices` gives them.
+/// Returns the first bytes of these pieces, as `take_io_slices` does.
+///
+/// # Errors
+///
+/// `OutOfMemory` if an allocation fails.
 pub fn take_bytes(
     alloc: Global,
     bufs: &[Bytes],
@@ -40,7 +48,7 @@ pub fn take_bytes(
     take_io_slices(alloc, bufs, limit)
 }
 
-/// How many bytes there are in so many whole pieces, where there are any.
+/// Returns the number of bytes in this many whole pieces, if there are any bytes.
 fn counted(len: usize, whole: usize) -> Option<(usize, usize, Bytes)>
     ensures none { IfNone result (len ≡ 0) }
     ensures some { IfSome result (λ first. (0 < len) × (first ≡ (len, whole, []))) }

@@ -1,29 +1,31 @@
-//! Calls of one request whose ATTRS end them.
+//! Calls of one request that its ATTRS end.
 ghost use Rattle.std.specs.Prelude.{◌≡◌, false};
 ghost use Rattle.sftp_model.specs.Frames.{is_too_long};
 ghost use Rattle.sftp_model.specs.declared.request.Request.TheVariants as request;
 ghost use Rattle.sftp_model.specs.declared.slot.Site.{Site};
 ghost use Rattle.plan_model.specs.FilePlans.{meta_next};
-ghost use Rattle.call_state.specs.Asked.{IsReady, request_of};
-ghost use Rattle.call_state.specs.declared.asking.Asking.TheVariants as asking;
-ghost use Rattle.call_state.specs.declared.stage.Stage.TheVariants as stage;
-ghost use Rattle.sftp_file.specs.Files.{Starts, alone};
-ghost use Rattle.sftp_file.specs.Tells.{telling, tells_wait};
+ghost use Rattle.plan_state.specs.Asked.{IsReady, request_of};
+ghost use Rattle.plan_state.specs.declared.asking.Asking.TheVariants as asking;
+ghost use Rattle.plan_state.specs.declared.stage.Stage.TheVariants as stage;
+ghost use Rattle.sftp_file.specs.Files.{StartsOnFile, alone};
+ghost use Rattle.sftp_file.specs.Tells.{attrs_meaning, tells_wait};
 
 use crate::file::File;
-use call_state::{Alone, Asking, PendingCall, PlanRunner, Then, Told};
+use plan_state::{Alone, Asking, PendingCall, PlanRunner, Then, Told};
 use sftp_core::{Core, Ticket};
 use sftp_meta::MetaData;
 use sftp_model::{Error, IoKind, Reply, Request};
 
 /// A request whose ATTRS end the call.
+///
+/// Used in `crates/sftp_fs/src/asks.rt`.
 #[derive(Drop)]
 pub struct Telling {}
 
-/// A call under way that gives the metadata of a file.
+/// A call under way that returns the metadata of a file.
 pub type AttrsCall = PendingCall<Telling>;
 
-/// The call that awaits the ATTRS to a STAT, LSTAT or FSTAT.
+/// Returns the call that awaits the ATTRS to a STAT, LSTAT or FSTAT.
 pub fn attrs_call(ticket: Ticket) -> AttrsCall
     ensures { result.stage ≡ stage.Asked ticket }
 {
@@ -37,7 +39,7 @@ impl PlanRunner for Telling {
 
     ghost World = { Site };
 
-    ghost meaning = { telling };
+    ghost meaning = { attrs_meaning };
 
     ghost waits = { tells_wait };
 
@@ -70,11 +72,14 @@ impl PlanRunner for Telling {
 impl File {
     /// Asks for the attributes of the file (draft-ietf-secsh-filexfer-02, section 6.8).
     ///
-    /// Looked at in this order: `IOError(NotReadable)`; `BackgroundTaskFailure`, where the core keeps a fault.
-    /// `OutOfMemory` may come in place of any answer. Refused, nothing was submitted, and core and file are as before.
+    /// # Errors
+    ///
+    /// Checked in this order: `IOError(NotReadable)`; `BackgroundTaskFailure` if the core has recorded a fault.
+    /// `OutOfMemory` may come in place of any result. After an error nothing was submitted, and core and file are
+    /// unchanged.
     pub fn start_metadata(&mut self, core: &mut Core) -> Result<AttrsCall, Error>
         requires { IsReady core.old }
-        ensures starts { Starts telling (alone self.old) (meta_next 0) self.old core.old core.new result }
+        ensures starts { StartsOnFile attrs_meaning (alone self.old) (meta_next 0) self.old core.old core.new result }
         ensures left { self.new ≡ self.old }
     {
         if !self.is_readable() {
@@ -83,7 +88,7 @@ impl File {
         PendingCall::ask(core, self.fstat_request(), Telling {})
     }
 
-    /// The FSTAT of the file. It fits a frame, since a handle has at most 256 bytes.
+    /// Returns the FSTAT of the file. It fits a frame, since a handle has at most 256 bytes.
     fn fstat_request(&self) -> Asking
         ensures is { result ≡ asking.Whole (request.Fstat self.now.grant.handle) }
         ensures short { is_too_long (request_of result) ≡ false }

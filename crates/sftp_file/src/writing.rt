@@ -1,14 +1,13 @@
-//! `write` and `write_all`: the first bytes, or all of them part by part, each after the STATUS of OK to the one
-//! before.
+//! `write_all`: writes all bytes part by part, each after a STATUS of OK to the one before.
 ghost use Rattle.std.specs.Prelude.{false, ◌≡◌, ◌≤◌, ◌<◌, ◌+◌, ◌^◌, [], ◌∷◌, List, ℕ, length, drop, refl, IfOk, OnErr};
 ghost use Rattle.sftp_model.specs.Numbers.{MAX_TRANSFER_LEN};
-ghost use Rattle.sftp_model.specs.Pieces.{joined};
+ghost use Rattle.sftp_model.specs.Pieces.{joined_pieces};
 ghost use Rattle.plan_model.specs.Moves.{Answers, handle_of};
 ghost use Rattle.plan_model.specs.TransferPlans.{part_len, write_all_next};
 ghost use Rattle.sftp_model.specs.Frames.{is_too_long};
-ghost use Rattle.call_state.specs.Asked.{IsReady, request_of};
-ghost use Rattle.call_state.specs.declared.asking.Asking.TheVariants as asking;
-ghost use Rattle.sftp_file.specs.Files.{Starts, file_at, one_slot};
+ghost use Rattle.plan_state.specs.Asked.{IsReady, request_of};
+ghost use Rattle.plan_state.specs.declared.asking.Asking.TheVariants as asking;
+ghost use Rattle.sftp_file.specs.Files.{StartsOnFile, file_at, one_slot};
 ghost use Rattle.sftp_file.specs.Writes.{IsBehind, IsNext, IsPart, WriteAllValue, behind_part, first_part, rest_behind, rest_of, writes_wait, writing_all};
 
 use crate::facts::facts;
@@ -17,7 +16,7 @@ use crate::looks::may_write;
 use crate::on_file::OnFile;
 use crate::parts::{cut, one_piece, shared};
 use bytes::Bytes;
-use call_state::{Asking, PendingCall, PlanRunner, Then, Told};
+use plan_state::{Asking, PendingCall, PlanRunner, Then, Told};
 use sftp_core::Core;
 use sftp_model::numbers::SSH_FX_OK;
 use sftp_model::{Error, Facts, FileAt, Handle, Reply};
@@ -27,27 +26,29 @@ use std::alloc::Global;
 use std::marker::Model;
 
 /// The WRITE of a part under way.
+///
+/// Used by the functions of this module.
 #[derive(Drop)]
 pub struct WritingAll {
     alloc: Global,
     handle: Handle,
-    /// The file, where the part under way stands.
+    /// The file, at the offset of the part under way.
     file: FileAt,
     facts: Facts,
     /// The place of the part's WRITE.
     place: u64,
-    /// The pieces as they were handed in.
+    /// The pieces as they were passed in.
     pieces: Items<Bytes>,
-    /// The bytes before the part under way.
+    /// The number of bytes before the part under way.
     done: usize,
-    /// The bytes of the part.
+    /// The number of bytes of the part.
     len: usize,
 }
 
 impl Model for WritingAll {
     ghost use Rattle.std.specs.Prelude.{false, ◌≡◌, ◌≤◌, ◌<◌, ◌+◌, ◌^◌, drop};
     ghost use Rattle.sftp_model.specs.Numbers.{MAX_TRANSFER_LEN};
-    ghost use Rattle.sftp_model.specs.Pieces.{joined};
+    ghost use Rattle.sftp_model.specs.Pieces.{joined_pieces};
     ghost use Rattle.plan_model.specs.TransferPlans.{part_len};
     ghost use Rattle.sftp_file.specs.Writes.{WriteAllValue};
 
@@ -62,26 +63,26 @@ impl Model for WritingAll {
       done = m.done;
     } };
 
-    ghost invariant = { λ m. (m.len ≡ part_len m.facts (drop m.done (joined m.pieces)))
+    ghost invariant = { λ m. (m.len ≡ part_len m.facts (drop m.done (joined_pieces m.pieces)))
         × (m.file.offset + m.len < 2 ^ 64)
         × (m.done ≤ m.file.offset)
         × (1 ≤ m.facts.write_len)
         × (m.facts.write_len ≤ MAX_TRANSFER_LEN) };
 }
 
-/// A write of bytes to a file, part by part.
+/// A write of all bytes to a file, part by part.
 pub type WriteAllCall = PendingCall<WritingAll>;
 
-/// What comes behind the parts that were written.
+/// The step after the parts that were written.
 #[derive(Drop)]
 pub(crate) enum Part {
-    /// The call gives this.
+    /// The call ends with this value.
     Over(Result<(), Error>),
     /// The WRITE of the next part, and the length of its content.
     Ask(Asking, usize),
 }
 
-/// The next part of the pieces behind `done` bytes, at the file's offset. Refused only for want of memory.
+/// Returns the next part of the pieces after `done` bytes, at the file's offset. Fails only if an allocation fails.
 fn next_write(
     alloc: Global,
     handle: &Handle,
@@ -93,7 +94,7 @@ fn next_write(
     requires { (1 ≤ facts.now.write_len) × (facts.now.write_len ≤ MAX_TRANSFER_LEN) }
     ensures part { (answers : Answers) → handle_of (answers file.now.grant) ≡ handle.now
         → IfOk result (IsPart (one_slot file.now)
-        (rest_of file.now (drop done (joined pieces.now)) facts.now [] answers)) }
+        (rest_of file.now (drop done (joined_pieces pieces.now)) facts.now [] answers)) }
     ensures next { IfOk result (IsNext file.now facts.now pieces.now done) }
 {
     let (parts, len) = cut(alloc, pieces, done, facts.write_len as usize)?;
@@ -106,9 +107,9 @@ fn next_write(
     Ok(Part::Ask(write_request(handle, file.offset, parts), len))
 }
 
-/// The WRITE of these parts at an offset.
+/// Returns the WRITE of these parts at an offset.
 pub(crate) fn write_request(handle: &Handle, offset: u64, parts: Vec<Bytes>) -> Asking
-    requires { length (joined parts.items) ≤ MAX_TRANSFER_LEN }
+    requires { length (joined_pieces parts.items) ≤ MAX_TRANSFER_LEN }
     ensures is { result ≡ asking.Parts handle.now offset parts.items }
     ensures short { is_too_long (request_of result) ≡ false }
 {
@@ -121,13 +122,13 @@ pub(crate) fn write_request(handle: &Handle, offset: u64, parts: Vec<Bytes>) -> 
 }
 
 impl WritingAll {
-    /// Goes on behind the part that was written. Refused only for want of memory, it is as before then.
+    /// Continues after the part that was written. Fails only if an allocation fails; the runner is unchanged then.
     fn go_behind(&mut self) -> Result<Part, OutOfMemory>
         ensures part { (answers : Answers) → handle_of (answers self.old.file.grant) ≡ self.old.handle
             → IfOk result (IsPart (one_slot (behind_part self.old))
             (rest_of (behind_part self.old) (rest_behind self.old) self.old.facts [] answers)) }
         ensures next { IfOk result (IsBehind self.old self.new) }
-        ensures err { OnErr result (self.new ≡ self.old) }
+        ensures unchanged { OnErr result (self.new ≡ self.old) }
     {
         let file = FileAt {
             offset: self.file.offset + self.len as u64,
@@ -221,17 +222,19 @@ impl OnFile for WritingAll {
 }
 
 impl File {
-    /// Writes all of these bytes at the offset, part by part (draft-ietf-secsh-filexfer-02, section 6.4): each WRITE
-    /// has as many as the session allows, and is sent after the status of the one before. For no bytes nothing is
+    /// Writes all of these bytes at the offset, part by part (draft-ietf-secsh-filexfer-02, section 6.4). Each WRITE
+    /// has as many bytes as the session allows, and is sent after the status of the one before. For no bytes nothing is
     /// asked. The bytes are copied once.
     ///
-    /// Looked at in this order: `IOError(NotWritable)`; `IOError(OffsetOverflow)`, where the offset and the length of
-    /// the WRITE together are over 18446744073709551615, as for each later part; `BackgroundTaskFailure`, where the
-    /// core keeps a fault. `OutOfMemory` may come in place of any answer. Refused, nothing was submitted, and core
-    /// and file are as before.
+    /// # Errors
+    ///
+    /// Checked in this order: `IOError(NotWritable)`; `IOError(OffsetOverflow)` if the offset and the length of the
+    /// WRITE together are over 18446744073709551615, as for each later part; `BackgroundTaskFailure` if the core has
+    /// recorded a fault. `OutOfMemory` may come in place of any result. After an error nothing was submitted, and core
+    /// and file are unchanged.
     pub fn start_write_all(&mut self, core: &mut Core, buf: &[u8]) -> Result<WriteAllCall, Error>
         requires { IsReady core.old }
-        ensures starts { Starts writing_all tt (write_all_next 0 buf.now) self.old core.old core.new result }
+        ensures starts { StartsOnFile writing_all tt (write_all_next 0 buf.now) self.old core.old core.new result }
         ensures file { IfOk result (λ call. call.runner.file ≡ file_at self.old) }
         ensures left { self.new ≡ self.old }
     {
@@ -241,15 +244,19 @@ impl File {
         }
     }
 
-    /// Writes all of these pieces, joined, as `start_write_all`. No byte is copied: the parts are cut out of the
+    /// Writes all of these pieces, joined, as `start_write_all` does. No byte is copied: the parts are cut out of the
     /// pieces.
+    ///
+    /// # Errors
+    ///
+    /// Those of `start_write_all`.
     pub fn start_write_all_vectorized(
         &mut self,
         core: &mut Core,
         bufs: &[Bytes],
     ) -> Result<WriteAllCall, Error>
         requires { IsReady core.old }
-        ensures starts { Starts writing_all tt (write_all_next 0 (joined bufs.now)) self.old core.old core.new result }
+        ensures starts { StartsOnFile writing_all tt (write_all_next 0 (joined_pieces bufs.now)) self.old core.old core.new result }
         ensures shared { IfOk result (λ call. (call.runner.pieces ≡ bufs.now) × (call.runner.done ≡ 0)) }
         ensures file { IfOk result (λ call. call.runner.file ≡ file_at self.old) }
         ensures left { self.new ≡ self.old }
@@ -260,14 +267,18 @@ impl File {
         }
     }
 
-    /// Another name of `start_write_all_vectorized`.
+    /// Does the same as `start_write_all_vectorized`, under another name.
+    ///
+    /// # Errors
+    ///
+    /// Those of `start_write_all_vectorized`.
     pub fn start_write_all_zero_copy(
         &mut self,
         core: &mut Core,
         bufs: &[Bytes],
     ) -> Result<WriteAllCall, Error>
         requires { IsReady core.old }
-        ensures starts { Starts writing_all tt (write_all_next 0 (joined bufs.now)) self.old core.old core.new result }
+        ensures starts { StartsOnFile writing_all tt (write_all_next 0 (joined_pieces bufs.now)) self.old core.old core.new result }
         ensures shared { IfOk result (λ call. (call.runner.pieces ≡ bufs.now) × (call.runner.done ≡ 0)) }
         ensures file { IfOk result (λ call. call.runner.file ≡ file_at self.old) }
         ensures left { self.new ≡ self.old }
@@ -278,7 +289,7 @@ impl File {
     /// Writes all of these pieces, joined.
     fn write_pieces(&self, core: &mut Core, pieces: Vec<Bytes>) -> Result<WriteAllCall, Error>
         requires { IsReady core.old }
-        ensures starts { Starts writing_all tt (write_all_next 0 (joined pieces.items)) self.now
+        ensures starts { StartsOnFile writing_all tt (write_all_next 0 (joined_pieces pieces.items)) self.now
             core.old core.new result }
         ensures shared { IfOk result (λ call. (call.runner.pieces ≡ pieces.items) × (call.runner.done ≡ 0)) }
         ensures file { IfOk result (λ call. call.runner.file ≡ file_at self.now) }
@@ -300,9 +311,9 @@ impl File {
         }
     }
 
-    /// The runner of a whole write whose first part has this length.
+    /// Returns the runner of a whole write whose first part has this length.
     fn writing(&self, alloc: Global, facts: Facts, pieces: Vec<Bytes>, len: usize) -> WritingAll
-        requires part { len ≡ part_len facts (joined pieces.items) }
+        requires part { len ≡ part_len facts (joined_pieces pieces.items) }
         requires room { self.now.offset + len < 2 ^ 64 }
         requires range { (1 ≤ facts.write_len) × (facts.write_len ≤ MAX_TRANSFER_LEN) }
         ensures { result ≡ first_part self.now facts pieces.items }

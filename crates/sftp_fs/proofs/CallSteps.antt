@@ -2,21 +2,21 @@
 use Rattle.std.proofs.Common.{◌≡◌, ◌∙◌, arith, refl, sym, subst, ℕ, true, Option, None, Some, Result, Ok, Err}
 use Rattle.sftp_model.specs.declared.answers.Expected.TheVariants as expected
 use Rattle.sftp_model.specs.declared.error.Error.{Error}
-use Rattle.sftp_core.specs.Core.{Core, IsGrant, at}
+use Rattle.sftp_core.specs.Core.{Core, IsGrant, record_at}
 use Rattle.sftp_core.specs.Grant.{GrantValue}
 use Rattle.sftp_core.specs.declared.id_record.IdRecord.TheVariants.{Granted}
-use Rattle.call_state.specs.declared.poll.Poll.{Poll}
-use Rattle.call_state.specs.declared.poll.Poll.TheVariants as poll
-use Rattle.call_state.specs.declared.stage.Stage.{Stage}
-use Rattle.call_state.specs.declared.stage.Stage.TheVariants.{Ended, Ready, Unsent, Asked, Came}
-use Rattle.call_state.specs.Calls.{CallValue, CancelsAwaited, CountsGrant, HoldsReady, IsOver, cancelled, is_ended}
-use Rattle.call_state.specs.Keeping.{KeepsHeld}
-use Rattle.call_state.specs.Runners.{Meaning}
-use Rattle.call_state.proofs.Keeping.{grant_at, grant_kept}
+use Rattle.plan_state.specs.declared.poll.Poll.{Poll}
+use Rattle.plan_state.specs.declared.poll.Poll.TheVariants as poll
+use Rattle.plan_state.specs.declared.stage.Stage.{Stage}
+use Rattle.plan_state.specs.declared.stage.Stage.TheVariants.{Ended, Ready, Unsent, Asked, Came}
+use Rattle.plan_state.specs.Calls.{CallValue, CancelsAwaited, CountsGrant, HoldsReady, IsOver, core_after_cancel, is_ended}
+use Rattle.plan_state.specs.Keeping.{KeepsHeld}
+use Rattle.plan_state.specs.Runners.{Meaning}
+use Rattle.plan_state.proofs.Keeping.{grant_at, grant_kept}
 use Rattle.sftp_fs.specs.Listings.{IsAwaiting, IsListing, ListingValue, fresh_listing}
 
 -- giving up a call that has answered leaves the core
-pub ended_leaves : (core : Core) (stage : Stage) → is_ended stage ≡ true → cancelled core stage ≡ core
+pub ended_leaves : (core : Core) (stage : Stage) → is_ended stage ≡ true → core_after_cancel core stage ≡ core
 ended_leaves core Ended over = refl
 ended_leaves core Ready over = absurd cc
 ended_leaves core (Unsent asking) over = absurd cc
@@ -24,7 +24,8 @@ ended_leaves core (Asked ticket) over = absurd cc
 ended_leaves core (Came told) over = absurd cc
 
 -- so that it holds what belongs to the value
-pub given_kept : {W M V : Type 0} (s : Meaning W M V) (old new : Core) (call : CallValue M) (result : Poll (Result V Error))
+pub given_kept : {W M V : Type 0} (s : Meaning W M V) (old new : Core) (call : CallValue M)
+    (result : Poll (Result V Error))
     → HoldsReady s old result → IsOver call.stage result → CancelsAwaited old new call.stage → HoldsReady s new result
 given_kept s old new call poll.Pending holds over cancels = tt
 given_kept s old new call (poll.Ready (Err e)) holds over cancels = tt
@@ -32,7 +33,8 @@ given_kept s old new call (poll.Ready (Ok value)) holds over cancels =
     subst (λ (x : Core). CountsGrant x (s.grant value)) (sym (cancels.core ∙ ended_leaves old call.stage over)) holds
 
 -- a directory that was given is counted
-pub dir_granted : (core : Core) (dir : GrantValue) → at core dir.id ≡ Some (Granted dir.handle 1) → IsGrant core dir
+pub dir_granted : (core : Core) (dir : GrantValue) → record_at core dir.id ≡ Some (Granted dir.handle 1)
+    → IsGrant core dir
 dir_granted core dir here = grant_at core dir 1 here (omega arith)
 
 -- and may be listed

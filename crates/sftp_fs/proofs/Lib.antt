@@ -1,10 +1,10 @@
-pub mod BodyLens
-pub mod PathLaws
-pub mod DirectoryLaws
-pub mod ListingLaws
-pub mod ListingSteps
+mod BodyLens
+mod PathLaws
+mod DirectoryLaws
+mod ListingLaws
+mod ListingSteps
 pub mod CallSteps
-pub mod PartLaws
+mod PartLaws
 pub mod WriteSteps
 pub mod WriteOpens
-pub mod WriteStarts
+mod WriteStarts

@@ -2,18 +2,18 @@
 use Rattle.std.proofs.Common.{◌≡◌, ◌∙◌, ◌+◌, ◌<◌, ◌≤◌, ◌^◌, arith, ap, ℕ, List, [], ◌∷◌, length, take}
 use Rattle.std.proofs.lemmas.List.{append-nil, length-take}
 use Rattle.sftp_model.specs.Numbers.{MAX_TRANSFER_LEN}
-use Rattle.sftp_model.specs.Pieces.{joined}
+use Rattle.sftp_model.specs.Pieces.{joined_pieces}
 use Rattle.sftp_model.specs.declared.slot.Facts.{Facts}
 use Rattle.plan_model.specs.TransferPlans.{next_part, part_len}
 use Rattle.sftp_model.specs.Frames.{is_too_long}
-use Rattle.call_state.specs.Asked.{request_of}
-use Rattle.call_state.specs.declared.asking.Asking.{Asking}
-use Rattle.call_state.specs.declared.asking.Asking.TheVariants.{Parts}
+use Rattle.plan_state.specs.Asked.{request_of}
+use Rattle.plan_state.specs.declared.asking.Asking.{Asking}
+use Rattle.plan_state.specs.declared.asking.Asking.TheVariants.{Parts}
 use Rattle.sftp_file.proofs.BodyLens.{write_is_short}
 use Rattle.sftp_fs.specs.Parts.{IsPart, PartValue, asked_part}
 
 -- one piece joins to itself
-pub one_joined : (piece : List ℕ) → joined (piece ∷ []) ≡ piece
+pub one_joined : (piece : List ℕ) → joined_pieces (piece ∷ []) ≡ piece
 one_joined piece = append-nil piece
 
 pub part_length : (facts : Facts) (rest : List ℕ) → length (next_part facts rest) ≡ part_len facts rest
@@ -33,8 +33,13 @@ cut_part m len piece parts handle bears fits range is some room cut one =
         some = omega (arith, is, some);
         room = omega (arith, is, room);
         short = ap (λ (a : Asking). is_too_long (request_of a)) asked
-            ∙ write_is_short m.handle m.done (joined (next_part m.facts m.rest ∷ [])) fits
-            (omega (arith, ap (λ (l : List ℕ). length l) (one_joined (next_part m.facts m.rest)), part_length m.facts m.rest, range));
+            ∙ write_is_short m.handle m.done (joined_pieces (next_part m.facts m.rest ∷ [])) fits
+            (omega (
+              arith,
+              ap (λ (l : List ℕ). length l) (one_joined (next_part m.facts m.rest)),
+              part_length m.facts m.rest,
+              range,
+            ));
       },
       is,
     )

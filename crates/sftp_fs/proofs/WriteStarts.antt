@@ -12,18 +12,19 @@ use Rattle.plan_model.specs.Moves.{Answers, ask_path}
 use Rattle.plan_model.specs.WholePlans.{fs_write_next, to_replace}
 use Rattle.sftp_core.specs.Core.{Core}
 use Rattle.sftp_core.specs.Grant.{GrantValue}
-use Rattle.call_state.specs.declared.stage.Stage.{Stage}
-use Rattle.call_state.specs.Calls.{AsksAndAwaits, CallValue, IsHeldAt, Started}
+use Rattle.plan_state.specs.declared.stage.Stage.{Stage}
+use Rattle.plan_state.specs.Calls.{AsksAndAwaits, CallValue, IsHeldAt, StartsByPlan}
 use Rattle.sftp_file.specs.Files.{facts_of}
-use Rattle.sftp_fs.specs.Grants.{granting}
+use Rattle.sftp_fs.specs.Grants.{grant_meaning}
 use Rattle.sftp_fs.specs.PathStarts.{AsksFirst, FirstAsks}
 use Rattle.sftp_fs.specs.WholeWrites.{WriteStarted, WritesFrom, writes_content}
 use Rattle.sftp_fs.specs.declared.fs_write.Writing.TheVariants as writing
 use Rattle.sftp_fs.specs.declared.granting.Granting.{Granting}
 
 -- the OPEN is the first request of the plan
-opens_first : (path content cwd named : List ℕ) (m : Granting) (old : Core) (site : Site) (answers : Answers) → named ≡ joined_path cwd path
-    → site.directory ≡ cwd → FirstAsks granting (writes_content content site (facts_of old) answers) site
+opens_first : (path content cwd named : List ℕ) (m : Granting) (old : Core) (site : Site) (answers : Answers) → named
+    ≡ joined_path cwd path
+    → site.directory ≡ cwd → FirstAsks grant_meaning (writes_content content site (facts_of old) answers) site
     (fs_write_next path content site (facts_of old)) answers (open_request to_replace named) m
 opens_first path content cwd named m old site answers is here =
     record {
@@ -33,45 +34,55 @@ opens_first path content cwd named m old site answers is here =
       knows = tt;
     }
 
-pub write_asked : (path content cwd named kept : List ℕ) (facts : Facts) (m : Granting) (old new : Core) (call : CallValue Granting)
+pub write_asked : (path content cwd named kept : List ℕ) (facts : Facts) (m : Granting) (old new : Core)
+    (call : CallValue Granting)
     → named ≡ joined_path cwd path → facts ≡ facts_of old → kept ≡ content
-    → AsksFirst {V = GrantValue} granting (open_request to_replace named) m old new (Ok call)
+    → AsksFirst {V = GrantValue} grant_meaning (open_request to_replace named) m old new (Ok call)
     → WritesFrom path content cwd old new (Ok (record { facts = facts; stage = writing.Opening call kept }))
 write_asked path content cwd named kept facts m old new call is fixed same h =
     record {
-      starts = λ site answers here. asks_of site answers (h.starts (writes_content content site (facts_of old) answers) site
-          (fs_write_next path content site (facts_of old)) answers (opens_first path content cwd named m old site answers is here));
+      starts = λ site answers here. asks_of site answers (h.starts (writes_content content site (facts_of old) answers)
+          site
+          (fs_write_next path content site (facts_of old)) answers
+          (opens_first path content cwd named m old site answers is here));
       held = h.under_way;
       keeps = h.keeps;
       spares = h.spares;
     }
   where
     asks_of : (site : Site) (answers : Answers)
-        → Started {V = GrantValue} granting (writes_content content site (facts_of old) answers) (λ e. Done (outcome.Refused e) site)
+        → StartsByPlan {V = GrantValue} grant_meaning (writes_content content site (facts_of old) answers)
+        (λ e. Done (outcome.Refused e) site)
         (fs_write_next path content site (facts_of old)) answers old new (Ok call)
         → WriteStarted site (fs_write_next path content site (facts_of old)) answers old new content
         (Ok (record { facts = facts; stage = writing.Opening call kept }))
     asks_of site answers (inl s) = (
-      subst (λ (f : Facts). AsksAndAwaits {V = GrantValue} granting (writes_content content site f answers)
+      subst (λ (f : Facts). AsksAndAwaits {V = GrantValue} grant_meaning (writes_content content site f answers)
           (fs_write_next path content site (facts_of old)) answers old new call) (sym fixed) s,
       same,
       fixed,
     )
-    asks_of site answers (inr s) = absurd (subst (λ (x : Stage). IsHeldAt granting new call.runner x) s.1 h.under_way.held)
+    asks_of site answers (inr s) = absurd (subst (λ (x : Stage). IsHeldAt grant_meaning new call.runner x) s.1
+        h.under_way.held)
 
-pub write_refused : (path content cwd named : List ℕ) (m : Granting) (old new : Core) (e : Error) → named ≡ joined_path cwd path
-    → AsksFirst {V = GrantValue} granting (open_request to_replace named) m old new (Err e) → WritesFrom path content cwd old new (Err e)
+pub write_refused : (path content cwd named : List ℕ) (m : Granting) (old new : Core) (e : Error) → named
+    ≡ joined_path cwd path
+    → AsksFirst {V = GrantValue} grant_meaning (open_request to_replace named) m old new (Err e)
+    → WritesFrom path content cwd old new (Err e)
 write_refused path content cwd named m old new e is h =
     record {
-      starts = λ site answers here. refused_as e site answers (h.starts (writes_content content site (facts_of old) answers) site
-          (fs_write_next path content site (facts_of old)) answers (opens_first path content cwd named m old site answers is here));
+      starts = λ site answers here. refused_as e site answers (h.starts
+          (writes_content content site (facts_of old) answers) site
+          (fs_write_next path content site (facts_of old)) answers
+          (opens_first path content cwd named m old site answers is here));
       held = tt;
       keeps = h.keeps;
       spares = tt;
     }
   where
     refused_as : (e : Error) (site : Site) (answers : Answers)
-        → Started {V = GrantValue} granting (writes_content content site (facts_of old) answers) (λ e. Done (outcome.Refused e) site)
+        → StartsByPlan {V = GrantValue} grant_meaning (writes_content content site (facts_of old) answers)
+        (λ e. Done (outcome.Refused e) site)
         (fs_write_next path content site (facts_of old)) answers old new (Err e)
         → WriteStarted site (fs_write_next path content site (facts_of old)) answers old new content (Err e)
     refused_as error.OutOfMemory site answers s = s

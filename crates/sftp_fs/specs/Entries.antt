@@ -1,4 +1,4 @@
--- An entry of a directory whose name was changed.
+-- Entries of a directory whose name was changed.
 use Rattle.std.specs.Prelude.{ℕ, List}
 use Rattle.sftp_model.specs.declared.reply.NameEntry.{NameEntry}
 

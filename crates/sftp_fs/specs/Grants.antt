@@ -1,16 +1,16 @@
--- An OPEN of a call that no slot holds the file of.
+-- OPENs of calls whose file no slot holds.
 use Rattle.std.specs.Prelude.{◌≡◌, false, Some, None, refl}
 use Rattle.sftp_model.specs.declared.answers.Expected.TheVariants as expected
 use Rattle.sftp_model.specs.declared.slot.Move.TheVariants.{Wait}
 use Rattle.plan_model.specs.Moves.{Answers, Own}
 use Rattle.sftp_core.specs.Grant.{GrantValue}
-use Rattle.call_state.specs.Runners.{Meaning}
+use Rattle.plan_state.specs.Runners.{Meaning}
 use Rattle.sftp_fs.specs.Directories.{WithHandle, granted_ended, granted_left}
 use Rattle.sftp_fs.specs.declared.granting.Granting.{Granting}
 
--- in any lane, and whatever is done with the handle; the grant that came is given
-abbrev pub granting : Meaning WithHandle Granting GrantValue
-granting =
+-- The meaning of such an OPEN, in any lane and for any use of the handle. The call returns the grant that came.
+abbrev pub grant_meaning : Meaning WithHandle Granting GrantValue
+grant_meaning =
     record {
       left = λ w m. granted_left w;
       place = λ m. 1;

@@ -1,4 +1,4 @@
--- Worked examples of listings, and beside each what nearly is one.
+-- Worked examples of listings, each beside a near miss.
 use Rattle.std.specs.Prelude.{◌≡◌, [], ◌∷◌, codes, Some, None, false, Ok, Err, refl}
 use Rattle.sftp_model.specs.Answers.{status}
 use Rattle.sftp_model.specs.Frames.{no_attributes}
@@ -6,7 +6,7 @@ use Rattle.sftp_model.specs.declared.error.Error.TheVariants as error
 use Rattle.sftp_model.specs.declared.reply.NameEntry.{NameEntry}
 use Rattle.sftp_model.specs.declared.reply.Reply.TheVariants as reply
 use Rattle.sftp_core.specs.Grant.{GrantValue}
-use Rattle.sftp_fs.specs.Listings.{ListingValue, ended, entry_told, left_by}
+use Rattle.sftp_fs.specs.Listings.{ListingValue, at_listing_end, entry_told, left_by}
 
 abbrev a : NameEntry
 a = record { filename = codes "a"; longname = []; attrs = no_attributes }
@@ -17,11 +17,11 @@ b = record { filename = codes "b"; longname = []; attrs = no_attributes }
 abbrev dir : GrantValue
 dir = record { id = 3; handle = codes "h" }
 
--- the READDIR 4 of a listing is under way
+-- The READDIR 4 of a listing is under way.
 abbrev waiting : ListingValue
 waiting = record { grant = dir; entries = []; asked = Some 4; ended = false }
 
--- of two entries the first is given, and the second is left
+-- Of two entries the first is returned, and the second is left.
 pub gives_first : entry_told (reply.Names (a ∷ b ∷ [])) ≡ Some (Ok a)
 gives_first = refl
 
@@ -29,20 +29,20 @@ pub leaves_second : left_by waiting (reply.Names (a ∷ b ∷ []))
     ≡ record { grant = dir; entries = b ∷ []; asked = None; ended = false }
 leaves_second = refl
 
--- a NAME without entries ends a listing, and so does a STATUS of 1
+-- A NAME without entries ends a listing, and so does a STATUS of 1.
 pub ends_by_none : entry_told (reply.Names []) ≡ None
 ends_by_none = refl
 
-pub ended_by_none : left_by waiting (reply.Names []) ≡ ended waiting
+pub ended_by_none : left_by waiting (reply.Names []) ≡ at_listing_end waiting
 ended_by_none = refl
 
 pub ends_by_status : entry_told (status 1) ≡ None
 ends_by_status = refl
 
-pub ended_by_status : left_by waiting (status 1) ≡ ended waiting
+pub ended_by_status : left_by waiting (status 1) ≡ at_listing_end waiting
 ended_by_status = refl
 
--- any other STATUS is told, and the next poll asks again
+-- Any other STATUS is reported, and the next poll asks again.
 pub refused : entry_told (status 4) ≡ Some (Err (error.SftpError 4 [] []))
 refused = refl
 

@@ -1,4 +1,4 @@
--- The listing of a directory as its user sees it, and what a poll of it gives.
+-- The listing of a directory as its user sees it, and the result of polling it.
 use Rattle.std.specs.Prelude.{
   ◌≡◌,
   ◌≢◌,
@@ -27,41 +27,41 @@ use Rattle.sftp_model.specs.declared.reply.NameEntry.{NameEntry}
 use Rattle.sftp_model.specs.declared.reply.Reply.{Reply}
 use Rattle.sftp_model.specs.declared.reply.Reply.TheVariants as reply
 use Rattle.sftp_model.specs.declared.request.Request.TheVariants as request
-use Rattle.sftp_core.specs.Core.{Core, IsGrant, abandoned, after_poll, at, reply_in}
+use Rattle.sftp_core.specs.Core.{Core, IsGrant, core_after_abandon, after_poll, record_at, reply_in}
 use Rattle.sftp_core.specs.Grant.{GrantValue}
-use Rattle.call_state.specs.declared.asking.Asking.TheVariants.{Whole}
-use Rattle.call_state.specs.declared.poll.Poll.{Poll}
-use Rattle.call_state.specs.declared.poll.Poll.TheVariants.{Pending, Ready}
-use Rattle.call_state.specs.Asked.{HoldsTicket, IsReady, Submitted}
-use Rattle.call_state.specs.Keeping.{KeepsGrants, SparesOthers}
+use Rattle.plan_state.specs.declared.asking.Asking.TheVariants.{Whole}
+use Rattle.plan_state.specs.declared.poll.Poll.{Poll}
+use Rattle.plan_state.specs.declared.poll.Poll.TheVariants.{Pending, Ready}
+use Rattle.plan_state.specs.Asked.{HoldsTicket, IsReady, SubmitsAsking}
+use Rattle.plan_state.specs.Keeping.{KeepsGrants, SparesOthers}
 
--- the grant of the directory, the entries that came and were not given yet, the ticket of the READDIR whose reply is
--- awaited, and whether the end came
+-- A listing: the grant of the directory, the entries that came and were not returned yet, the ticket of the READDIR
+-- whose reply is awaited, and whether the end came.
 pub record ListingValue : Type 0 where
   pub grant : GrantValue
   pub entries : List NameEntry
   pub asked : Option ℕ
   pub ended : Bool
 
--- nothing has come
+-- A listing to which nothing has come.
 abbrev pub fresh_listing : GrantValue → ListingValue
 fresh_listing grant = record { grant = grant; entries = []; asked = None; ended = false }
 
--- what a poll of a listing answers: the next entry, or None at the end
-abbrev pub Given : Type 0
-Given = Poll (Option (Result NameEntry Error))
+-- The result of a poll of a listing: the next entry, or None at the end.
+abbrev pub ListingAnswer : Type 0
+ListingAnswer = Poll (Option (Result NameEntry Error))
 
--- ---- what a reply to a READDIR makes of a listing that has nothing left to give
+-- ---- Effects of a reply to a READDIR on a listing with no entry left
 
--- no reply is awaited
-abbrev pub unasked : ListingValue → ListingValue
-unasked p = record p { asked = None }
+-- The listing that awaits no reply.
+abbrev pub awaiting_none : ListingValue → ListingValue
+awaiting_none p = record p { asked = None }
 
--- the end came
-abbrev pub ended : ListingValue → ListingValue
-ended p = record p { asked = None; ended = true }
+-- The listing whose end came.
+abbrev pub at_listing_end : ListingValue → ListingValue
+at_listing_end p = record p { asked = None; ended = true }
 
--- the first entry, the end or a refusal
+-- The result that a reply gives: the first entry, the end or a refusal.
 abbrev pub entry_told : Reply → Option (Result NameEntry Error)
 entry_told (reply.Names []) = None
 entry_told (reply.Names (entry ∷ entries)) = Some (Ok entry)
@@ -69,96 +69,101 @@ entry_told (reply.Status code message language) = if code == SSH_FX_EOF then Non
     Some (Err (error.SftpError code message language))
 entry_told other = Some (Err (error.InvalidResponse None))
 
--- the entries behind the first one are left
+-- The listing after a reply: the entries after the first one are left.
 abbrev pub left_by : ListingValue → Reply → ListingValue
-left_by p (reply.Names []) = ended p
+left_by p (reply.Names []) = at_listing_end p
 left_by p (reply.Names (entry ∷ entries)) = record p { entries = entries; asked = None }
-left_by p (reply.Status code message language) = if code == SSH_FX_EOF then ended p else unasked p
-left_by p other = unasked p
+left_by p (reply.Status code message language) = if code == SSH_FX_EOF then at_listing_end p else awaiting_none p
+left_by p other = awaiting_none p
 
--- ---- a poll
+-- ---- Polls
 
--- the entry that is left first is taken out
+-- The first entry that is left is taken out.
 abbrev pub TakesEntry : ListingValue → ListingValue → Option NameEntry → Type 0
 TakesEntry p q None = (p.entries ≡ []) × (q ≡ p)
 TakesEntry p q (Some entry) = (p.entries ≡ entry ∷ q.entries) × (q ≡ record p { entries = q.entries })
 
--- more entries were asked for, and the reply is awaited
+-- More entries were asked for, and the reply is awaited.
 pub record AsksReaddir (old new : Core) (p q : ListingValue) : Type 0 where
   pub ticket : ℕ
-  pub submitted : Submitted old (Whole (request.Readdir p.grant.handle)) ticket new
+  pub submitted : SubmitsAsking old (Whole (request.Readdir p.grant.handle)) ticket new
   pub awaits : q ≡ record p { asked = Some ticket }
 
--- so it is, or a kept fault or want of memory is answered, and nothing changed
-abbrev pub AsksMore : Core → Core → ListingValue → ListingValue → Given → Type 0
+-- More entries were asked for. Otherwise a recorded fault or running out of memory is reported, and nothing changed.
+abbrev pub AsksMore : Core → Core → ListingValue → ListingValue → ListingAnswer → Type 0
 AsksMore old new p q Pending = AsksReaddir old new p q
 AsksMore old new p q (Ready (Some (Err error.OutOfMemory))) = (q ≡ p) × (new ≡ old)
 AsksMore old new p q (Ready (Some (Err (error.BackgroundTaskFailure fault)))) = (old.fault ≡ Some fault) × (q ≡ p)
     × (new ≡ old)
 AsksMore old new p q other = ⊥
 
--- the reply that was taken tells; else a kept fault is answered; else it is awaited on, and nothing changed
-abbrev pub HearsOf : Core → Core → ListingValue → ListingValue → Given → ℕ → Option Reply → Option Fault → Type 0
+-- The reply that was taken decides the result. Without one, a recorded fault is reported; without a fault, the reply is
+-- still awaited and nothing changed.
+abbrev pub HearsOf : Core → Core → ListingValue → ListingValue → ListingAnswer → ℕ → Option Reply → Option Fault
+    → Type 0
 HearsOf old new p q result ticket (Some r) fault = (result ≡ Ready (entry_told r)) × (q ≡ left_by p r)
     × (new ≡ after_poll old ticket)
 HearsOf old new p q result ticket None (Some fault) = (result ≡ Ready (Some (Err (error.BackgroundTaskFailure fault))))
-    × (q ≡ unasked p)
+    × (q ≡ awaiting_none p)
     × (new ≡ after_poll old ticket)
 HearsOf old new p q result ticket None None = (result ≡ Pending) × (q ≡ record p { asked = Some ticket }) × (new ≡ old)
 
-abbrev pub Hears : Core → Core → ListingValue → ListingValue → ℕ → Given → Type 0
-Hears old new p q ticket result = HearsOf old new p q result ticket (reply_in (at old ticket)) old.fault
+abbrev pub TakesListingReply : Core → Core → ListingValue → ListingValue → ℕ → ListingAnswer → Type 0
+TakesListingReply old new p q ticket result = HearsOf old new p q result ticket (reply_in (record_at old ticket))
+    old.fault
 
--- nothing is given after the end; an entry that is left is given first; then the reply is heard, or more is asked for
-abbrev pub GivesAt : Core → Core → ListingValue → ListingValue → Given → Bool → List NameEntry → Option ℕ → Type 0
+-- Nothing is returned after the end. An entry that is left is returned first. Otherwise the awaited reply is received,
+-- or more entries are asked for.
+abbrev pub GivesAt : Core → Core → ListingValue → ListingValue → ListingAnswer → Bool → List NameEntry → Option ℕ
+    → Type 0
 GivesAt old new p q result true entries asked = (result ≡ Ready None) × (q ≡ p) × (new ≡ old)
 GivesAt old new p q result false (entry ∷ entries) asked = (result ≡ Ready (Some (Ok entry)))
     × (q ≡ record p { entries = entries })
     × (new ≡ old)
 GivesAt old new p q result false [] None = AsksMore old new p q result
-GivesAt old new p q result false [] (Some ticket) = Hears old new p q ticket result
+GivesAt old new p q result false [] (Some ticket) = TakesListingReply old new p q ticket result
 
-abbrev pub GivesEntries : Core → Core → ListingValue → ListingValue → Given → Type 0
+abbrev pub GivesEntries : Core → Core → ListingValue → ListingValue → ListingAnswer → Type 0
 GivesEntries old new p q result = GivesAt old new p q result p.ended p.entries p.asked
 
--- ---- what a poll needs and leaves
+-- ---- Preconditions and effects of a poll
 
--- nothing is left to give, and no reply is awaited
+-- No entry is left, and no reply is awaited.
 pub record IsEmpty (p : ListingValue) : Type 0 where
   pub entries : p.entries ≡ []
   pub asked : p.asked ≡ None
 
--- the ticket that is awaited is a READDIR's
+-- The awaited ticket is a READDIR's.
 abbrev pub IsAwaiting : Core → Option ℕ → Type 0
 IsAwaiting core None = Unit {0}
 IsAwaiting core (Some ticket) = HoldsTicket core ticket expected.Names
 
--- the core counts a user of the directory, and what is awaited
+-- The core counts a user of the directory, and the awaited ticket.
 pub record IsListing (core : Core) (p : ListingValue) : Type 0 where
   pub granted : IsGrant core p.grant
   pub awaits : IsAwaiting core p.asked
 
--- a listing may be polled: it may ask for more
+-- A listing may be polled: it may ask for more entries.
 pub record MayList (core : Core) (p : ListingValue) : Type 0 where
   pub listing : IsListing core p
   pub ready : IsReady core
 
--- the number is not that of the READDIR whose reply is awaited
+-- The number is not that of the READDIR whose reply is awaited.
 abbrev pub IsNoneAsked : Option ℕ → ℕ → Type 0
 IsNoneAsked None id = Unit {0}
 IsNoneAsked (Some ticket) id = id ≢ ticket
 
--- A poll gave what comes next; the listing may be polled on or given up. Every grant stays, and what others await is
--- theirs still.
-pub record PollsEntries (old new : Core) (p q : ListingValue) (result : Given) : Type 0 where
+-- A poll returned the next result. The listing may be polled further or given up. Every grant stays, and what others
+-- await is still theirs.
+pub record PollsEntries (old new : Core) (p q : ListingValue) (result : ListingAnswer) : Type 0 where
   pub gives : GivesEntries old new p q result
   pub listing : IsListing new q
   pub grants : KeepsGrants old new
   pub spares : SparesOthers old new (IsNoneAsked p.asked) (IsNoneAsked q.asked)
 
--- ---- a close
+-- ---- Closes of listings
 
--- the core once the reply to a READDIR was given up
+-- The core after the reply to a READDIR was given up.
 abbrev pub given_up : Core → Option ℕ → Core
 given_up core None = core
-given_up core (Some ticket) = abandoned core ticket
+given_up core (Some ticket) = core_after_abandon core ticket

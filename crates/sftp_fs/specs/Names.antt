@@ -1,4 +1,4 @@
--- Calls of one request whose NAME ends them.
+-- Calls of one request that its NAME ends.
 use Rattle.std.specs.Prelude.{◌≡◌, ℕ, false, List, Result, Ok, Err, None, refl}
 use Rattle.sftp_model.specs.declared.answers.Expected.TheVariants as expected
 use Rattle.sftp_model.specs.declared.error.Error.{Error}
@@ -8,17 +8,17 @@ use Rattle.sftp_model.specs.declared.slot.Move.TheVariants.{Done, Wait}
 use Rattle.sftp_model.specs.declared.slot.Site.{Site}
 use Rattle.plan_model.specs.Moves.{Answers, Own, once_answered}
 use Rattle.plan_model.specs.PathPlans.{named_by}
-use Rattle.call_state.specs.Runners.{Meaning}
+use Rattle.plan_state.specs.Runners.{Meaning}
 use Rattle.sftp_fs.specs.declared.naming.Naming.{Naming}
 
--- the outcome of a call that gives a path
+-- The outcome of a call that returns a path.
 abbrev pub path_outcome : Result (List ℕ) Error → Outcome
 path_outcome (Ok path) = outcome.Path path
 path_outcome (Err e) = outcome.Refused e
 
--- in any lane: the call changes nothing
-abbrev pub naming : Meaning Site Naming (List ℕ)
-naming =
+-- The meaning of such a call, in any lane: it changes nothing.
+abbrev pub name_meaning : Meaning Site Naming (List ℕ)
+name_meaning =
     record {
       left = λ site m later answers. once_answered 1 (answers 1) (named_by site);
       place = λ m. 1;

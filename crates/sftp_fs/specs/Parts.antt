@@ -10,13 +10,13 @@ use Rattle.plan_model.specs.Moves.{Answers, Own, Plan, handle_of, on_status, onc
 use Rattle.plan_model.specs.TransferPlans.{next_part, part_len, rest_next}
 use Rattle.plan_model.specs.WholePlans.{nowhere, to_replace}
 use Rattle.sftp_model.specs.Frames.{is_too_long}
-use Rattle.call_state.specs.Asked.{request_of}
-use Rattle.call_state.specs.Runners.{Meaning}
-use Rattle.call_state.specs.declared.asking.Asking.{Asking}
-use Rattle.call_state.specs.declared.asking.Asking.TheVariants.{Parts}
+use Rattle.plan_state.specs.Asked.{request_of}
+use Rattle.plan_state.specs.Runners.{Meaning}
+use Rattle.plan_state.specs.declared.asking.Asking.{Asking}
+use Rattle.plan_state.specs.declared.asking.Asking.TheVariants.{Parts}
 use Rattle.sftp_file.specs.Outcomes.{done_outcome}
 
--- The WRITE of a part under way: the file's handle, what the session fixes, the place of the WRITE, the bytes that were
+-- The WRITE of a part under way: the file's handle, the session's facts, the place of the WRITE, how many bytes were
 -- written before the part, and the bytes from it on.
 pub record PartValue : Type 0 where
   pub handle : List ℕ
@@ -25,19 +25,19 @@ pub record PartValue : Type 0 where
   pub done : ℕ
   pub rest : List ℕ
 
--- the file of the OPEN, the call's first request, with so many bytes written
-abbrev pub written : ℕ → FileAt
-written done = record (opened_file to_replace 1) { offset = done }
+-- The file of the OPEN, which is the call's first request, with this many bytes written.
+abbrev pub file_after_writes : ℕ → FileAt
+file_after_writes done = record (opened_file to_replace 1) { offset = done }
 
--- the plan of the bytes that are left
+-- The plan that writes the bytes that are left.
 abbrev pub rest_from : ℕ → List ℕ → Site → Facts → Plan
-rest_from done rest site facts = rest_next nowhere (written done) rest site facts
+rest_from done rest site facts = rest_next nowhere (file_after_writes done) rest site facts
 
--- the WRITE of the part
+-- The WRITE of the part.
 abbrev pub asked_part : PartValue → Asking
 asked_part m = Parts m.handle m.done (next_part m.facts m.rest ∷ [])
 
--- the next part
+-- The state at the next part.
 abbrev pub after_part : PartValue → PartValue
 after_part m =
     record m {
@@ -46,7 +46,7 @@ after_part m =
       rest = drop (part_len m.facts m.rest) m.rest;
     }
 
--- what is left: the parts behind this one, where its status is OK
+-- The plan that is left: the parts after this one, if its status is OK.
 abbrev pub parts_left : Site → PartValue → Plan
 parts_left site m later answers =
     once_answered m.place (answers m.place) (λ r. on_status r site
@@ -72,26 +72,26 @@ pub parts_wait : (site : Site) (m : PartValue) (later : Own) (answers : Answers)
     → parts_left site m later answers ≡ Wait m.place
 parts_wait site m later answers none = rw none refl
 
--- ---- the next part
+-- ---- The next part
 
--- a part may be asked for: it isn't empty, ends within the greatest offset, and its WRITE fits a frame
+-- A part may be asked for: it isn't empty, ends within the greatest offset, and its WRITE fits a frame.
 pub record IsPart (m : PartValue) (asking : Asking) : Type 0 where
   pub asks : asking ≡ asked_part m
   pub some : 0 < length m.rest
   pub room : m.done + part_len m.facts m.rest < 2 ^ 64
   pub short : is_too_long (request_of asking) ≡ false
 
--- it is this one, or nothing is left
+-- The next part is this one, or nothing is left.
 abbrev pub IsNextPart : PartValue → Option (Asking × ℕ) → Type 0
 IsNextPart m None = m.rest ≡ []
 IsNextPart m (Some next) = IsPart m next.0 × (next.1 ≡ part_len m.facts m.rest)
 
--- the runner stands there, or nothing is left
+-- The runner is at the next part, or nothing is left.
 abbrev pub IsBehind : PartValue → PartValue → Option Asking → Type 0
 IsBehind m next None = (next ≡ m) × ((after_part m).rest ≡ [])
 IsBehind m next (Some asking) = (next ≡ after_part m) × IsPart next asking
 
--- the first part of a content, written behind an OPEN; None where there is none
+-- The first part of a content, written after an OPEN; None if the content is empty.
 abbrev pub first_part : List ℕ → Facts → List ℕ → PartValue
 first_part handle facts content = record { handle = handle; facts = facts; place = 2; done = 0; rest = content }
 

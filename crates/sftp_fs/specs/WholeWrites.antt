@@ -9,69 +9,69 @@ use Rattle.sftp_model.specs.declared.slot.Move.TheVariants.{Done, Wait}
 use Rattle.sftp_model.specs.declared.slot.Site.{Site}
 use Rattle.plan_model.specs.Moves.{Answers, Own, Plan, handle_of}
 use Rattle.plan_model.specs.WholePlans.{fs_write_next}
-use Rattle.sftp_core.specs.Core.{Core, abandoned, at, released}
+use Rattle.sftp_core.specs.Core.{Core, core_after_abandon, record_at, core_after_release}
 use Rattle.sftp_core.specs.Grant.{GrantValue}
 use Rattle.sftp_core.specs.declared.id_record.IdRecord.TheVariants.{Granted}
-use Rattle.call_state.specs.Asked.{IsReady}
-use Rattle.call_state.specs.Calls.{
+use Rattle.plan_state.specs.Asked.{IsReady}
+use Rattle.plan_state.specs.Calls.{
   AsksAndAwaits,
   IsLeft,
   IsNoneOfCall,
   IsUnderWay,
   IsUnfinished,
   TellsReply,
-  cancelled,
+  core_after_cancel,
   grant_brought,
   polled_core,
 }
-use Rattle.call_state.specs.Keeping.{KeepsHeld, SparesOthers}
-use Rattle.call_state.specs.declared.poll.Poll.{Poll}
-use Rattle.call_state.specs.declared.poll.Poll.TheVariants.{Pending, Ready}
+use Rattle.plan_state.specs.Keeping.{KeepsHeld, SparesOthers}
+use Rattle.plan_state.specs.declared.poll.Poll.{Poll}
+use Rattle.plan_state.specs.declared.poll.Poll.TheVariants.{Pending, Ready}
 use Rattle.sftp_file.specs.Files.{facts_of}
 use Rattle.sftp_file.specs.Outcomes.{done_outcome}
 use Rattle.sftp_fs.specs.Directories.{WithHandle}
-use Rattle.sftp_fs.specs.Grants.{granting}
+use Rattle.sftp_fs.specs.Grants.{grant_meaning}
 use Rattle.sftp_fs.specs.Parts.{rest_from, writing_parts}
 use Rattle.sftp_fs.specs.declared.fs_write.Writing.{Writing}
 use Rattle.sftp_fs.specs.declared.fs_write.Writing.TheVariants as writing
 
--- what the session fixes, and how far the write has come
+-- The facts that the session fixes, and the stage of the write.
 pub record FsWriteValue : Type 0 where
   pub facts : Facts
   pub stage : Writing
 
--- the write has answered
+-- True if the write has returned its result.
 abbrev pub is_over : Writing → Bool
 is_over writing.Ended = true
 is_over other = false
 
--- ---- by the plan
+-- ---- Plans
 
--- what is done with the handle: the content is written from its start
+-- The use of the handle: the content is written from its start.
 abbrev pub writes_content : List ℕ → Site → Facts → Answers → WithHandle
 writes_content content site facts answers = (site, λ handle later. rest_from 0 content site facts later answers)
 
--- From here a plan goes on as the write does.
+-- From here a plan continues as the write does.
 abbrev pub IsWriteLeft : Site → Facts → Plan → Answers → Writing → Type 0
 IsWriteLeft site facts plan answers writing.Ended = Unit {0}
 IsWriteLeft site facts plan answers (writing.Opening call content) =
-    IsLeft granting (writes_content content site facts answers) plan answers call
+    IsLeft grant_meaning (writes_content content site facts answers) plan answers call
 IsWriteLeft site facts plan answers (writing.Opened grant content) = (handle_of (answers 1) ≡ grant.handle)
     × ((later : Own) → plan later answers ≡ rest_from 0 content site facts later answers)
 IsWriteLeft site facts plan answers (writing.Parts grant call) = IsLeft writing_parts site plan answers call
 
--- the reply that is awaited is the one that the core has
+-- The awaited reply is the one that the core has.
 abbrev pub WriteTells : Core → Answers → Writing → Type 0
-WriteTells core answers (writing.Opening call content) = TellsReply granting core call answers
+WriteTells core answers (writing.Opening call content) = TellsReply grant_meaning core call answers
 WriteTells core answers (writing.Parts grant call) = TellsReply writing_parts core call answers
 WriteTells core answers other = Unit {0}
 
--- ---- a start
+-- ---- Starts
 
--- the OPEN is under way, and this content is to be written by what the session fixes
+-- The OPEN is under way, and this content is to be written by the facts of the session.
 abbrev pub WriteOpens : Site → Plan → Answers → Core → Core → List ℕ → Facts → Writing → Type 0
 WriteOpens site plan answers old new content facts (writing.Opening call kept) =
-    AsksAndAwaits granting (writes_content content site facts answers) plan answers old new call
+    AsksAndAwaits grant_meaning (writes_content content site facts answers) plan answers old new call
     × (kept ≡ content)
     × (facts ≡ facts_of old)
 WriteOpens site plan answers old new content facts other = ⊥
@@ -85,28 +85,28 @@ WriteStarted site plan answers old new content (Err (error.BackgroundTaskFailure
 WriteStarted site plan answers old new content (Err e) = (plan [] answers ≡ Done (outcome.Refused e) site)
     × (new ≡ old)
 
--- the core counts one user of a grant
+-- The core counts one user of a grant.
 abbrev pub IsOwned : Core → GrantValue → Type 0
-IsOwned core grant = at core grant.id ≡ Some (Granted grant.handle 1)
+IsOwned core grant = record_at core grant.id ≡ Some (Granted grant.handle 1)
 
--- the core counts the grant, whose handle the parts bear, and can go on with what is awaited
+-- The core counts the grant, whose handle the parts carry, and can continue with what is awaited.
 abbrev pub IsWriteHeld : Core → Writing → Type 0
 IsWriteHeld core writing.Ended = Unit {0}
-IsWriteHeld core (writing.Opening call content) = IsUnderWay granting core call
+IsWriteHeld core (writing.Opening call content) = IsUnderWay grant_meaning core call
 IsWriteHeld core (writing.Opened grant content) = IsOwned core grant
 IsWriteHeld core (writing.Parts grant call) = IsOwned core grant × IsUnderWay writing_parts core call
     × (call.runner.handle ≡ grant.handle)
 
--- the number is none of the write's: not of its file, nor of what it awaits
+-- The number is none of the write's: neither its file's, nor that of a reply that it awaits.
 abbrev pub IsNoneOfWrite : Writing → ℕ → Type 0
 IsNoneOfWrite (writing.Opening call content) id = IsNoneOfCall call.stage id
 IsNoneOfWrite (writing.Opened grant content) id = id ≢ grant.id
 IsNoneOfWrite (writing.Parts grant call) id = (id ≢ grant.id) × IsNoneOfCall call.stage id
 IsNoneOfWrite writing.Ended id = Unit {0}
 
--- A start did the first move of the plan of a whole write, in each lane with this working directory and whatever the
--- replies to come; what it answered may be polled or given up. The core holds what it held, and no number that was in
--- use is the write's.
+-- A start made the first move of the plan of a whole write, in each lane with this working directory and for any
+-- replies to come. The call that it returned may be polled or given up. The core holds what it held, and no number that
+-- was in use is the write's.
 pub record WritesFrom (path content cwd : List ℕ) (old new : Core) (result : Result FsWriteValue Error) : Type 0 where
   pub starts : (site : Site) (answers : Answers) → site.directory ≡ cwd
       → WriteStarted site (fs_write_next path content site (facts_of old)) answers old new content result
@@ -114,41 +114,41 @@ pub record WritesFrom (path content cwd : List ℕ) (old new : Core) (result : R
   pub keeps : KeepsHeld old new
   pub spares : IfOk result (λ q. SparesOthers old new (λ id. Unit {0}) (IsNoneOfWrite q.stage))
 
--- ---- a poll
+-- ---- Polls
 
--- the core once the awaited reply was polled
+-- The core after the awaited reply was polled.
 abbrev pub heard_core : Core → Writing → Core
 heard_core core (writing.Opening call content) = polled_core core call.stage
 heard_core core (writing.Parts grant call) = polled_core core call.stage
 heard_core core other = core
 
--- a grant was closed, and nobody awaits its CLOSE
-abbrev pub closed : Core → GrantValue → Core
-closed core grant = abandoned (released core grant) grant.id
+-- The core after a grant was closed, with a CLOSE that nobody awaits.
+abbrev pub core_after_close : Core → GrantValue → Core
+core_after_close core grant = core_after_abandon (core_after_release core grant) grant.id
 
--- where there is one
+-- The same, if there is a grant.
 abbrev pub closed_if : Core → Option GrantValue → Core
 closed_if core None = core
-closed_if core (Some grant) = closed core grant
+closed_if core (Some grant) = core_after_close core grant
 
--- the grant of the write: that of its file, or the one that the reply to its OPEN brought
+-- The grant of the write: that of its file, or the one that the reply to its OPEN brought.
 abbrev pub write_grant : Core → Writing → Option GrantValue
 write_grant core (writing.Opening call content) = grant_brought core call.stage
 write_grant core (writing.Opened grant content) = Some grant
 write_grant core (writing.Parts grant call) = Some grant
 write_grant core writing.Ended = None
 
--- the reply was polled, and the grant of the write closed, where there is one
+-- The reply was polled, and the grant of the write closed, if it has one.
 abbrev pub FinishesWrite : Core → Core → Writing → Type 0
 FinishesWrite old new p = new ≡ closed_if (heard_core old p) (write_grant old p)
 
--- the WRITE of a part was submitted, and its reply is awaited
+-- The WRITE of a part was submitted, and its reply is awaited.
 abbrev pub AsksPart : Site → Plan → Answers → Core → Core → Writing → Type 0
 AsksPart site plan answers old new (writing.Parts grant call) =
     AsksAndAwaits writing_parts site plan answers old new call
 AsksPart site plan answers old new other = ⊥
 
--- what is awaited is missing, and nothing changed
+-- The awaited reply is missing, and nothing changed.
 pub record StillWaits (plan : Plan) (answers : Answers) (old new : Core) (p q : Writing) : Type 0 where
   pub place : ℕ
   pub waits : plan [] answers ≡ Wait place
@@ -156,110 +156,113 @@ pub record StillWaits (plan : Plan) (answers : Answers) (old new : Core) (p q : 
   pub core : new ≡ old
   pub same : q ≡ p
 
--- what a poll of a whole write answers
+-- The result of a poll of a whole write.
 abbrev pub WriteAnswer : Type 0
 WriteAnswer = Poll (Result (Unit {0}) Error)
 
--- What a poll did is the next move of the plan: it waits, or asks for a part; or it is over, by what the plan gives, by
--- a kept fault where the plan is not at its end; or there was no memory, and it may be polled again.
-abbrev pub Wrote : Site → Facts → Plan → Answers → Core → Core → Writing → Writing → WriteAnswer → Type 0
-Wrote site facts plan answers old new p q Pending = StillWaits plan answers old new p q
+-- A poll made the next move of the plan: it waits, or asks for a part. Or the write is over, with the plan's result, or
+-- with a recorded fault if the plan is not at its end. Or an allocation failed, and the write may be polled again.
+abbrev pub PollsWholeWrite : Site → Facts → Plan → Answers → Core → Core → Writing → Writing → WriteAnswer → Type 0
+PollsWholeWrite site facts plan answers old new p q Pending = StillWaits plan answers old new p q
     ⊎ AsksPart site plan answers (heard_core old p) new q
-Wrote site facts plan answers old new p q (Ready (Err error.OutOfMemory)) = IsWriteLeft site facts plan answers q
+PollsWholeWrite site facts plan answers old new p q (Ready (Err error.OutOfMemory)) =
+    IsWriteLeft site facts plan answers q
     × (new ≡ heard_core old p)
-Wrote site facts plan answers old new p q (Ready (Err (error.BackgroundTaskFailure fault))) =
+PollsWholeWrite site facts plan answers old new p q (Ready (Err (error.BackgroundTaskFailure fault))) =
     ((heard_core old p).fault ≡ Some fault)
     × IsUnfinished (plan [] answers)
     × FinishesWrite old new p
-Wrote site facts plan answers old new p q (Ready value) = (plan [] answers ≡ Done (done_outcome value) site)
+PollsWholeWrite site facts plan answers old new p q (Ready value) = (plan [] answers ≡ Done (done_outcome value) site)
     × FinishesWrite old new p
 
--- it is over where it gave a value or an error, but for want of memory
+-- The write is over if it returned a value or an error other than `OutOfMemory`.
 abbrev pub IsOverBy : Writing → WriteAnswer → Type 0
 IsOverBy stage Pending = is_over stage ≡ false
 IsOverBy stage (Ready (Err error.OutOfMemory)) = is_over stage ≡ false
 IsOverBy stage (Ready value) = is_over stage ≡ true
 
--- A poll did the next move of each plan that the write is what is left of, whatever its replies to come; the write may
--- be polled on or given up. What others have stays, and is theirs still.
+-- A poll made the next move of each plan that the write is what is left of, for any replies to come. The write may be
+-- polled further or given up. What others have stays theirs.
 pub record WroteOn (facts : Facts) (old new : Core) (p q : Writing) (result : WriteAnswer) : Type 0 where
   pub polled : (site : Site) (plan : Plan) (answers : Answers) → IsWriteLeft site facts plan answers p
-      → WriteTells old answers p → Wrote site facts plan answers old new p q result
+      → WriteTells old answers p → PollsWholeWrite site facts plan answers old new p q result
   pub held : IsWriteHeld new q
   pub over : IsOverBy q result
   pub spares : SparesOthers old new (IsNoneOfWrite p) (IsNoneOfWrite q)
 
--- what asking for the first part, or for the close of a file without content, did
-abbrev pub Began : Site → Facts → Plan → Answers → Core → Core → GrantValue → Writing → WriteAnswer → Type 0
-Began site facts plan answers old new grant q Pending = AsksPart site plan answers old new q
-Began site facts plan answers old new grant q (Ready (Err error.OutOfMemory)) = IsWriteLeft site facts plan answers q
+-- The effect of asking for the first part, or for the close of a file without content.
+abbrev pub BeginsWholeWrite : Site → Facts → Plan → Answers → Core → Core → GrantValue → Writing → WriteAnswer → Type 0
+BeginsWholeWrite site facts plan answers old new grant q Pending = AsksPart site plan answers old new q
+BeginsWholeWrite site facts plan answers old new grant q (Ready (Err error.OutOfMemory)) =
+    IsWriteLeft site facts plan answers q
     × (new ≡ old)
-Began site facts plan answers old new grant q (Ready (Err (error.BackgroundTaskFailure fault))) =
+BeginsWholeWrite site facts plan answers old new grant q (Ready (Err (error.BackgroundTaskFailure fault))) =
     (old.fault ≡ Some fault)
     × IsUnfinished (plan [] answers)
-    × (new ≡ closed old grant)
-Began site facts plan answers old new grant q (Ready value) = (plan [] answers ≡ Done (done_outcome value) site)
-    × (new ≡ closed old grant)
+    × (new ≡ core_after_close old grant)
+BeginsWholeWrite site facts plan answers old new grant q (Ready value) =
+    (plan [] answers ≡ Done (done_outcome value) site)
+    × (new ≡ core_after_close old grant)
 
 pub record BeganWrite (facts : Facts) (old new : Core) (grant : GrantValue) (content : List ℕ) (q : Writing)
     (result : WriteAnswer) : Type 0 where
   pub polled : (site : Site) (plan : Plan) (answers : Answers)
       → IsWriteLeft site facts plan answers (writing.Opened grant content)
-      → Began site facts plan answers old new grant q result
+      → BeginsWholeWrite site facts plan answers old new grant q result
   pub held : IsWriteHeld new q
   pub over : IsOverBy q result
   pub spares : SparesOthers old new (IsNoneOfWrite (writing.Opened grant content)) (IsNoneOfWrite q)
 
--- a write has not answered, and may ask for a part
+-- A write may be polled: it has not returned its result, and may ask for a part.
 pub record MayWrite (core : Core) (p : FsWriteValue) : Type 0 where
   pub over : is_over p.stage ≡ false
   pub held : IsWriteHeld core p.stage
   pub ready : IsReady core
 
--- so did a poll of a write, whose session fixes what it fixed
+-- The effect of a poll of a write; the facts of its session stay.
 pub record PollsWrite (old new : Core) (p q : FsWriteValue) (result : WriteAnswer) : Type 0 where
   pub wrote : WroteOn p.facts old new p.stage q.stage result
   pub facts : q.facts ≡ p.facts
 
--- ---- given up
+-- ---- Cancels
 
--- what is under way is dropped, and the grant is closed
+-- The core after the request under way was dropped and the grant closed.
 abbrev pub write_dropped : Core → Writing → Core
 write_dropped core writing.Ended = core
-write_dropped core (writing.Opening call content) = cancelled core call.stage
-write_dropped core (writing.Opened grant content) = closed core grant
-write_dropped core (writing.Parts grant call) = closed (cancelled core call.stage) grant
+write_dropped core (writing.Opening call content) = core_after_cancel core call.stage
+write_dropped core (writing.Opened grant content) = core_after_close core grant
+write_dropped core (writing.Parts grant call) = core_after_close (core_after_cancel core call.stage) grant
 
--- what a cancel did; what others have stays
+-- The effect of a cancel; what others have stays.
 pub record CancelsWrite (old new : Core) (p : Writing) : Type 0 where
   pub core : new ≡ write_dropped old p
   pub spares : SparesOthers old new (IsNoneOfWrite p) (λ id. Unit {0})
 
--- ---- facts of parts
+-- ---- Facts about parts
 
--- the kept fault that an error tells
+-- The recorded fault that an error reports.
 abbrev pub fault_told : Error → Option Fault
 fault_told (error.BackgroundTaskFailure fault) = Some fault
 fault_told other = None
 
--- an answer of the OPEN that leaves it under way: none yet, or want of memory
+-- A result of the OPEN that leaves it under way: none yet, or out of memory.
 abbrev pub IsUnended : Poll (Result GrantValue Error) → Type 0
 IsUnended Pending = Unit {0}
 IsUnended (Ready (Err error.OutOfMemory)) = Unit {0}
 IsUnended other = ⊥
 
--- the same answer of the write
-abbrev pub unended : Poll (Result GrantValue Error) → WriteAnswer
-unended Pending = Pending
-unended (Ready (Ok grant)) = Pending
-unended (Ready (Err e)) = Ready (Err e)
+-- The same result as the write's.
+abbrev pub write_answer_of : Poll (Result GrantValue Error) → WriteAnswer
+write_answer_of Pending = Pending
+write_answer_of (Ready (Ok grant)) = Pending
+write_answer_of (Ready (Err e)) = Ready (Err e)
 
--- where the first part was not asked for, a kept fault ends the write, and else it may be polled again
+-- The first part was not asked for: a recorded fault ends the write; without one it may be polled again.
 abbrev pub IsUnbegunBy : Core → Core → GrantValue → List ℕ → Option Fault → WriteAnswer × Writing → Type 0
 IsUnbegunBy old new grant content (Some fault) result =
     (result.0 ≡ Ready (Err (error.BackgroundTaskFailure fault)))
     × (result.1 ≡ writing.Ended)
-    × (new ≡ closed old grant)
+    × (new ≡ core_after_close old grant)
 IsUnbegunBy old new grant content None result = (result.0 ≡ Ready (Err error.OutOfMemory))
     × (result.1 ≡ writing.Opened grant content)
     × (new ≡ old)

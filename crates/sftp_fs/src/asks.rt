@@ -1,4 +1,4 @@
-//! How the calls on paths begin: with a request that fits a frame, or a refusal.
+//! Starts of the calls on paths: a request that fits a frame, or a refusal.
 ghost use Rattle.std.specs.Prelude.{◌≡◌, ◌≤◌, true, List, ℕ, IsSome};
 ghost use Rattle.sftp_model.specs.Answers.{expected_of};
 ghost use Rattle.sftp_model.specs.declared.answers.Expected.TheVariants as expected;
@@ -9,27 +9,27 @@ ghost use Rattle.plan_model.specs.Moves.{offers};
 ghost use Rattle.plan_model.specs.PathPlans.{path_done, path_told};
 ghost use Rattle.sftp_core.specs.Core.{is_call};
 ghost use Rattle.sftp_core.specs.Info.{info_of};
-ghost use Rattle.call_state.specs.Asked.{IsReady};
+ghost use Rattle.plan_state.specs.Asked.{IsReady};
 ghost use Rattle.sftp_file.specs.Files.{facts_of};
-ghost use Rattle.sftp_file.specs.Settles.{settling};
-ghost use Rattle.sftp_file.specs.Tells.{telling};
+ghost use Rattle.sftp_file.specs.Settles.{settle_meaning};
+ghost use Rattle.sftp_file.specs.Tells.{attrs_meaning};
 ghost use Rattle.sftp_fs.specs.PathStarts.{AsksFirst, IsPathPlan, MayAskFirst, PathPlan, StartsFrom};
 
 use bitflags::Flags;
-use call_state::{Asking, PendingCall, PlanRunner};
+use plan_state::{Asking, PendingCall, PlanRunner};
 use sftp_core::Core;
 use sftp_file::{AttrsCall, Settling, StatusCall, Telling};
 use sftp_model::{Error, Extensions, Facts, IoKind, Request};
 use sftp_wire::request_len;
 
-/// Whether the body of a request passes 1048575 bytes.
+/// Returns true if the body of a request passes 1048575 bytes.
 fn is_too_long(request: &Request) -> bool
     ensures { result ≡ is_too_long request.now }
 {
     request_len(request).is_none()
 }
 
-/// Whether the server offers an extension.
+/// Returns true if the server offers an extension.
 pub(crate) fn offers(core: &Core, extension: Extensions) -> bool
     requires { IsSome (info_of core.now.phase) }
     ensures { result ≡ offers (facts_of core.now) extension.0 }
@@ -40,7 +40,7 @@ pub(crate) fn offers(core: &Core, extension: Extensions) -> bool
     info.extensions.bits() & extension.bits() != 0
 }
 
-/// What a session fixes.
+/// Returns the facts that a session fixes.
 pub fn facts(core: &Core) -> Facts
     requires { IsSome (info_of core.now.phase) }
     ensures is { result ≡ facts_of core.now }
@@ -60,8 +60,12 @@ pub fn facts(core: &Core) -> Facts
     }
 }
 
-/// Submits the first request of a call on paths. `IOError(PathTooLong)`, exactly where its body would pass 1048575
-/// bytes; then as `PendingCall::ask`.
+/// Submits the first request of a call on paths.
+///
+/// # Errors
+///
+/// `IOError(PathTooLong)`, exactly if the body of the request would pass 1048575 bytes; then those of
+/// `PendingCall::ask`.
 pub fn ask<M: PlanRunner>(
     core: &mut Core,
     request: Request,
@@ -83,7 +87,7 @@ pub(crate) fn ask_status(core: &mut Core, request: Request) -> Result<StatusCall
     requires call { is_call request ≡ true }
     requires expects { expected.Status ≡ expected_of request }
     ensures { (cwd : List ℕ) (plan : PathPlan) → IsPathPlan path_done request cwd (facts_of core.old) plan
-        → StartsFrom settling plan cwd core.old core.new result }
+        → StartsFrom settle_meaning plan cwd core.old core.new result }
 {
     ask(core, request, Settling {})
 }
@@ -94,7 +98,7 @@ pub(crate) fn ask_attrs(core: &mut Core, request: Request) -> Result<AttrsCall, 
     requires call { is_call request ≡ true }
     requires expects { expected.Attrs ≡ expected_of request }
     ensures { (cwd : List ℕ) (plan : PathPlan) → IsPathPlan path_told request cwd (facts_of core.old) plan
-        → StartsFrom telling plan cwd core.old core.new result }
+        → StartsFrom attrs_meaning plan cwd core.old core.new result }
 {
     ask(core, request, Telling {})
 }

@@ -10,7 +10,10 @@ use sftp_meta::{FileType, MetaData};
 use sftp_model::{NameEntry, RemotePath};
 use std::marker::Model;
 
-/// An entry of a directory, as the server told it (draft-ietf-secsh-filexfer-02, section 7). A contract sees it so.
+/// An entry of a directory, as the server reported it (draft-ietf-secsh-filexfer-02, section 7). A contract sees it as
+/// that entry.
+///
+/// Example: `crates/example_client/src/tasks.rt`.
 #[derive(Debug, Drop)]
 pub struct DirEntry {
     entry: NameEntry,
@@ -25,21 +28,21 @@ impl Model for DirEntry {
 }
 
 impl DirEntry {
-    /// The entry that a server told.
+    /// Returns the entry that a server reported.
     pub(crate) fn new(entry: NameEntry) -> DirEntry
         ensures { result ≡ entry }
     {
         DirEntry { entry }
     }
 
-    /// The name, as the server gave it: of the entry alone, without its directory.
+    /// Returns the name that the server gave: of the entry alone, without its directory.
     pub fn filename(&self) -> &RemotePath
         ensures { result.now ≡ self.now.filename }
     {
         &self.entry.filename
     }
 
-    /// The name, to be changed. The server isn't asked.
+    /// Returns the name, to be changed. The server isn't asked.
     pub fn filename_mut(&mut self) -> &mut RemotePath
         ensures value { result.now ≡ self.old.filename }
         ensures* writes_back { sem 𝓛 (Lends the_row path_row self.entry result (with_filename self.old)) }
@@ -47,14 +50,14 @@ impl DirEntry {
         &mut self.entry.filename
     }
 
-    /// What the server said of the file.
+    /// Returns the metadata that the server reported.
     pub fn metadata(&self) -> MetaData
         ensures { result ≡ self.now.attrs }
     {
         MetaData::new(self.entry.attrs)
     }
 
-    /// The kind of file. None also where the bits `0o170000` of the mode are those of no kind.
+    /// Returns the kind of file. It is `None` also if the bits `0o170000` of the mode are those of no kind.
     pub fn file_type(&self) -> Option<FileType>
         ensures { result ≡ option_and_then type_of_mode self.now.attrs.permissions }
     {

@@ -3,23 +3,25 @@ ghost use Rattle.std.specs.Prelude.{◌≡◌, ◌<◌, ℕ, List};
 ghost use Rattle.plan_model.specs.Moves.{Own};
 ghost use Rattle.sftp_model.specs.declared.slot.Move.{Move};
 ghost use Rattle.sftp_model.specs.declared.slot.Site.{Site};
-ghost use Rattle.sftp_core.specs.Core.{at, retained, users_of, IsGrant};
-ghost use Rattle.call_state.specs.Asked.{IsReady};
+ghost use Rattle.sftp_core.specs.Core.{record_at, core_after_retain, users_of, IsGrant};
+ghost use Rattle.plan_state.specs.Asked.{IsReady};
 ghost use Rattle.sftp_fs.specs.Directories.{ClosesDir, OpensFrom, granted_waits, opening_dir};
 ghost use Rattle.sftp_fs.specs.Listings.{fresh_listing};
 
 use crate::asks::ask;
 use crate::fs::Fs;
 use crate::read_dir::ReadDir;
-use call_state::{Alone, PendingCall, PlanRunner, Then, Told};
+use plan_state::{Alone, PendingCall, PlanRunner, Then, Told};
 use sftp_core::{Core, Ended, Grant};
 use sftp_file::{CloseCall, close_call};
 use sftp_model::{Error, Reply, Request};
 use std::alloc::Global;
 use std::marker::Model;
 
-/// An open directory of the server. It isn't droppable: `read_dir` and `start_close` spend it, and `let_go` where its
-/// core was given up. A contract sees its grant.
+/// An open directory of the server. It isn't droppable: `read_dir` and `start_close` consume it, and `let_go` does
+/// after its core was given up. A contract sees its grant.
+///
+/// Example: `crates/example_client/src/directories.rt`.
 #[must_use]
 pub struct Dir {
     grant: Grant,
@@ -34,7 +36,7 @@ impl Model for Dir {
 }
 
 impl Dir {
-    /// Reads the directory from its start, with one user of it.
+    /// Returns a listing that reads the directory from its start, with one user of the directory.
     pub fn read_dir(self, alloc: Global) -> ReadDir
         ensures { result ≡ fresh_listing self }
     {
@@ -42,8 +44,8 @@ impl Dir {
         ReadDir::new(alloc, grant)
     }
 
-    /// Lets the directory go. CLOSE is sent exactly for the last user; any other's first poll gives `()`
-    /// (draft-ietf-secsh-filexfer-02, section 6.3). It can't be refused.
+    /// Releases the directory. CLOSE is sent exactly for the last user; the first poll of any other user's call returns
+    /// `()` (draft-ietf-secsh-filexfer-02, section 6.3). It can't be refused.
     pub fn start_close(self, core: &mut Core) -> CloseCall
         requires { IsGrant core.old self }
         ensures { ClosesDir self core.old core.new result }
@@ -52,13 +54,13 @@ impl Dir {
         close_call(core.release(grant))
     }
 
-    /// The same directory for one user more. It is closed once its last user has closed it; all read on from one place
-    /// of the server's.
+    /// Returns the same directory for another user. It is closed once its last user has closed it. All users continue
+    /// to read from one position, which the server keeps.
     pub fn clone_dir(&self, core: &mut Core) -> Dir
         requires counted { IsGrant core.old self.now }
-        requires few { users_of (at core.old self.now.id) < 4294967295 }
+        requires few { users_of (record_at core.old self.now.id) < 4294967295 }
         ensures dir { result ≡ self.now }
-        ensures core { core.new ≡ retained core.old self.now }
+        ensures core { core.new ≡ core_after_retain core.old self.now }
         ensures granted { IsGrant core.new self.now }
     {
         Dir {
@@ -66,7 +68,7 @@ impl Dir {
         }
     }
 
-    /// Lets the directory go where its core was given up. No CLOSE is sent.
+    /// Releases the directory after its core was given up. No CLOSE is sent.
     pub fn let_go(self, core: Ended) {
         let Dir { grant } = self;
         grant.let_go(core);
@@ -74,10 +76,12 @@ impl Dir {
 }
 
 /// An OPENDIR whose HANDLE gives the directory.
+///
+/// Used by the functions of this module.
 #[derive(Drop)]
 pub struct OpeningDir {}
 
-/// The opening of a directory under way.
+/// An open of a directory under way.
 pub type DirCall = PendingCall<OpeningDir>;
 
 impl Alone for OpeningDir {}
@@ -119,9 +123,11 @@ impl PlanRunner for OpeningDir {
 impl Fs {
     /// Opens a directory, to list it (draft-ietf-secsh-filexfer-02, section 6.7).
     ///
-    /// Looked at in this order: `IOError(PathTooLong)`, exactly where the body of the request would pass 1048575 bytes;
-    /// `BackgroundTaskFailure`, where the core keeps a fault. `OutOfMemory` may come in place of any answer. Refused,
-    /// nothing was submitted, and the core is as before.
+    /// # Errors
+    ///
+    /// Checked in this order: `IOError(PathTooLong)`, exactly if the body of the request would pass 1048575 bytes;
+    /// `BackgroundTaskFailure` if the core has recorded a fault. `OutOfMemory` may come in place of any result. After
+    /// an error nothing was submitted, and the core is unchanged.
     pub fn start_open_dir(
         &self,
         alloc: Global,

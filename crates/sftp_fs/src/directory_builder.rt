@@ -1,8 +1,8 @@
-//! Directories with attributes of their own.
+//! Directories that are created with attributes of their own.
 ghost use Rattle.std.specs.Prelude.{◌≡◌, Some};
 ghost use Rattle.sftp_model.specs.Frames.{no_attributes};
-ghost use Rattle.call_state.specs.Asked.{IsReady};
-ghost use Rattle.sftp_file.specs.Settles.{settling};
+ghost use Rattle.plan_state.specs.Asked.{IsReady};
+ghost use Rattle.sftp_file.specs.Settles.{settle_meaning};
 ghost use Rattle.sftp_fs.specs.PathStarts.{StartsFrom};
 ghost use Rattle.sftp_fs.specs.SettingPlans.{make_dir_next};
 
@@ -14,7 +14,9 @@ use sftp_model::Error;
 use std::alloc::Global;
 use std::marker::Model;
 
-/// Makes directories with these attributes. A contract sees the working directory and the attributes.
+/// A builder of directories with these attributes. A contract sees the working directory and the attributes.
+///
+/// Used in `crates/sftp_fs/src/fs.rt`.
 #[derive(Drop)]
 pub struct DirBuilder<'a> {
     fs: &'a Fs,
@@ -30,7 +32,7 @@ impl<'a> Model for DirBuilder<'a> {
 }
 
 impl<'a> DirBuilder<'a> {
-    /// A builder with nothing set.
+    /// Returns a builder with nothing set.
     pub(crate) fn new(fs: &'a Fs) -> DirBuilder<'a>
         ensures { result ≡ record { cwd = fs.now; attrs = no_attributes } }
     {
@@ -40,7 +42,7 @@ impl<'a> DirBuilder<'a> {
         }
     }
 
-    /// Takes back all that was set.
+    /// Clears all that was set.
     pub fn reset(&mut self) -> &mut DirBuilder<'a>
         ensures same_reference { result.ghost_name ≡ self.entry.ghost_name }
         ensures value { result.now ≡ record self.old { attrs = no_attributes } }
@@ -67,11 +69,13 @@ impl<'a> DirBuilder<'a> {
         self
     }
 
-    /// Makes a directory with the attributes that were set (draft-ietf-secsh-filexfer-02, section 6.6).
+    /// Creates a directory with the attributes that were set (draft-ietf-secsh-filexfer-02, section 6.6).
     ///
-    /// Looked at in this order: `IOError(PathTooLong)`, exactly where the body of the request would pass 1048575 bytes;
-    /// `BackgroundTaskFailure`, where the core keeps a fault. `OutOfMemory` may come in place of any answer. Refused,
-    /// nothing was submitted, and the core is as before.
+    /// # Errors
+    ///
+    /// Checked in this order: `IOError(PathTooLong)`, exactly if the body of the request would pass 1048575 bytes;
+    /// `BackgroundTaskFailure` if the core has recorded a fault. `OutOfMemory` may come in place of any result. After
+    /// an error nothing was submitted, and the core is unchanged.
     pub fn start_create(
         &self,
         alloc: Global,
@@ -79,7 +83,7 @@ impl<'a> DirBuilder<'a> {
         path: &[u8],
     ) -> Result<StatusCall, Error>
         requires { IsReady core.old }
-        ensures { StartsFrom settling (make_dir_next path.now self.now.attrs) self.now.cwd core.old core.new result }
+        ensures { StartsFrom settle_meaning (make_dir_next path.now self.now.attrs) self.now.cwd core.old core.new result }
     {
         self.fs.make_dir(alloc, core, path, self.metadata.create())
     }

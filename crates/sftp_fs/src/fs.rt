@@ -1,4 +1,4 @@
-//! The paths of a program, seen from its working directory.
+//! Paths of a program, seen from its working directory.
 ghost use Rattle.std.specs.Prelude.{◌≡◌, IfOk, IfErr};
 ghost use Rattle.sftp_model.specs.Frames.{no_attributes};
 ghost use Rattle.sftp_model.specs.Paths.{joined_path};
@@ -10,9 +10,11 @@ use ssh_encoding::OutOfMemory;
 use std::alloc::Global;
 use std::marker::Model;
 
-/// The calls on paths. A relative path is joined to the working directory, unless that is empty: then it is sent as it
-/// is, and the server names it from where the session began (draft-ietf-secsh-filexfer-02, section 6.2). A contract
-/// sees the bytes of the working directory.
+/// The calls on paths. A relative path is joined to the working directory, unless that is empty: then it is sent
+/// unchanged, and the server resolves it from the directory in which the session began (draft-ietf-secsh-filexfer-02,
+/// section 6.2). A contract sees the bytes of the working directory.
+///
+/// Example: `crates/test_library/src/paths.rt`.
 #[derive(Drop)]
 pub struct Fs {
     cwd: RemotePath,
@@ -27,35 +29,40 @@ impl Model for Fs {
 }
 
 impl Fs {
-    /// The calls on paths from this working directory. Nothing is asked: that it is there isn't looked at.
+    /// Returns the calls on paths from this working directory. No request is sent: nothing checks that the directory
+    /// exists.
     pub fn new(cwd: RemotePath) -> Fs
         ensures { result ≡ cwd }
     {
         Fs { cwd }
     }
 
-    /// The working directory.
+    /// Returns the working directory.
     pub fn cwd(&self) -> &RemotePath
         ensures { result.now ≡ self.now }
     {
         &self.cwd
     }
 
-    /// Sets the working directory of later calls. Nothing is asked: that it is there isn't looked at.
+    /// Sets the working directory of later calls. No request is sent: nothing checks that the directory exists.
     pub fn set_cwd(&mut self, cwd: RemotePath)
         ensures { self.new ≡ cwd }
     {
         self.cwd = cwd;
     }
 
-    /// A builder of directories, with nothing set.
+    /// Returns a builder of directories, with nothing set.
     pub fn dir_builder(&self) -> DirBuilder
         ensures { result ≡ record { cwd = self.now; attrs = no_attributes } }
     {
         DirBuilder::new(self)
     }
 
-    /// What a path names from the working directory. Refused only for want of memory.
+    /// Returns the path joined to the working directory.
+    ///
+    /// # Errors
+    ///
+    /// `OutOfMemory` if an allocation fails.
     pub fn named(&self, alloc: Global, path: &[u8]) -> Result<RemotePath, Error>
         ensures path { IfOk result (λ p. p ≡ joined_path self.now path.now) }
         ensures err { IfErr result (λ e. e ≡ error.OutOfMemory) }

@@ -1,17 +1,17 @@
-//! Whole writes: a file is made or emptied, written part by part, and closed.
+//! Whole writes: a file is created or truncated, written part by part, and closed.
 ghost use Rattle.std.specs.Prelude.{◌≡◌, ◌≤◌, true, false, Some, IfOk};
 ghost use Rattle.plan_model.specs.FilePlans.{open_request};
 ghost use Rattle.plan_model.specs.WholePlans.{to_replace};
-ghost use Rattle.sftp_core.specs.Core.{at};
+ghost use Rattle.sftp_core.specs.Core.{record_at};
 ghost use Rattle.sftp_core.specs.declared.id_record.IdRecord.TheVariants.{Granted};
 ghost use Rattle.sftp_model.specs.Numbers.{MAX_TRANSFER_LEN};
 ghost use Rattle.sftp_model.specs.declared.slot.Facts.{Facts as FactsValue};
-ghost use Rattle.call_state.specs.Asked.{IsReady};
-ghost use Rattle.call_state.specs.Calls.{IsUnderWay};
-ghost use Rattle.sftp_fs.specs.Grants.{granting};
+ghost use Rattle.plan_state.specs.Asked.{IsReady};
+ghost use Rattle.plan_state.specs.Calls.{IsUnderWay};
+ghost use Rattle.sftp_fs.specs.Grants.{grant_meaning};
 ghost use Rattle.sftp_fs.specs.WholeWrites.{BeganWrite, CancelsWrite, IsOwned, IsUnbegun, IsUnended, IsWriteHeld, MayWrite};
 ghost use Rattle.sftp_fs.specs.WholeWrites.{WroteOn, PollsWrite, WritesFrom};
-ghost use Rattle.sftp_fs.specs.WholeWrites.{closed, fault_told, is_over, unended};
+ghost use Rattle.sftp_fs.specs.WholeWrites.{core_after_close, fault_told, is_over, write_answer_of};
 ghost use Rattle.sftp_fs.specs.declared.fs_write.Writing.TheVariants as writing;
 
 use crate::asks::{ask, facts};
@@ -20,7 +20,7 @@ use crate::granting::Granting;
 use crate::parts::WritingParts;
 use bitflags::Flags;
 use bytes::Bytes;
-use call_state::PendingCall;
+use plan_state::PendingCall;
 use sftp_core::{Core, Ended, Grant};
 use sftp_file::Poll;
 use sftp_model::numbers::{SSH_FXF_CREAT, SSH_FXF_TRUNC, SSH_FXF_WRITE};
@@ -30,21 +30,25 @@ use std::alloc::Global;
 use std::marker::Model;
 use std::mem;
 
-/// How far a whole write has come.
+/// The stage of a whole write.
+///
+/// Used by the functions of this module.
 #[must_use]
 pub enum Writing {
-    /// It has answered.
+    /// The write has returned its result.
     Ended,
     /// The OPEN is under way, and this content is to be written.
     Opening(PendingCall<Granting>, Bytes),
-    /// The file is open, and there was no memory to ask for the first part.
+    /// The file is open, and an allocation failed for the request of the first part.
     Opened(Grant, Bytes),
     /// A part is under way.
     Parts(Grant, PendingCall<WritingParts>),
 }
 
-/// A whole write under way. It isn't droppable: `cancel` spends it, once it has answered too, and `let_go` where its
-/// core was given up.
+/// A whole write under way. It isn't droppable: `cancel` consumes it, also after it has returned its result, and
+/// `let_go` does after its core was given up.
+///
+/// Example: `crates/test_files/src/paths/writing.rt`.
 #[must_use]
 pub struct FsWriteCall {
     facts: Facts,
@@ -64,7 +68,7 @@ impl Model for FsWriteCall {
 }
 
 impl Writing {
-    /// Takes out how far the write has come.
+    /// Takes the stage out of the write.
     fn take(&mut self) -> Writing
         ensures was { result ≡ self.old }
         ensures now { self.new ≡ Writing.Ended }
@@ -72,7 +76,7 @@ impl Writing {
         mem::replace(self, Writing::Ended)
     }
 
-    /// Puts a stage into the place of `Ended`.
+    /// Puts a stage in place of `Ended`.
     fn put(&mut self, stage: Writing)
         requires { is_over self.old ≡ true }
         ensures { self.new ≡ stage }
@@ -86,10 +90,10 @@ impl Writing {
     }
 }
 
-/// Closes a grant with one user, whose CLOSE nobody awaits.
+/// Closes a grant with one user; nobody awaits the CLOSE.
 pub fn close(core: &mut Core, grant: Grant)
     requires { IsOwned core.old grant }
-    ensures { core.new ≡ closed core.old grant }
+    ensures { core.new ≡ core_after_close core.old grant }
 {
     match core.release(grant) {
         Some(ticket) => core.abandon(ticket),
@@ -97,7 +101,7 @@ pub fn close(core: &mut Core, grant: Grant)
     }
 }
 
-/// The kept fault that an error tells.
+/// Returns the recorded fault that an error reports.
 fn fault_told(e: &Error) -> Option<Fault>
     ensures { result ≡ fault_told e.now }
 {
@@ -107,10 +111,10 @@ fn fault_told(e: &Error) -> Option<Fault>
     }
 }
 
-/// The answer of a write whose OPEN is under way still.
+/// Returns the result of a write whose OPEN is still under way.
 fn unended(told: Poll<Result<Grant, Error>>) -> Poll<Result<(), Error>>
     requires { IsUnended told }
-    ensures { result ≡ unended told }
+    ensures { result ≡ write_answer_of told }
 {
     match told {
         Poll::Pending => Poll::Pending,
@@ -147,7 +151,7 @@ fn begin(
     }
 }
 
-/// What a write answers whose first part was not asked for.
+/// Returns the result of a write whose first part was not asked for.
 fn unbegun(
     core: &mut Core,
     grant: Grant,
@@ -172,7 +176,7 @@ fn unbegun(
     }
 }
 
-/// Polls the OPEN, and asks for the first part behind its HANDLE.
+/// Polls the OPEN, and asks for the first part after its HANDLE.
 fn open(
     core: &mut Core,
     facts: Facts,
@@ -180,7 +184,7 @@ fn open(
     content: Bytes,
 ) -> (Poll<Result<(), Error>>, Writing)
     requires range { (1 ≤ facts.write_len) × (facts.write_len ≤ MAX_TRANSFER_LEN) }
-    requires under_way { IsUnderWay granting core.old call }
+    requires under_way { IsUnderWay grant_meaning core.old call }
     requires ready { IsReady core.old }
     ensures { WroteOn facts core.old core.new (writing.Opening call content) result.1 result.0 }
 {
@@ -197,7 +201,7 @@ fn open(
     }
 }
 
-/// Polls the WRITE of a part, and asks for the next one behind its STATUS.
+/// Polls the WRITE of a part, and asks for the next one after its STATUS.
 fn go_on(
     core: &mut Core,
     grant: Grant,
@@ -217,7 +221,7 @@ fn go_on(
     (told, Writing::Ended)
 }
 
-/// Polls what is awaited, and goes on with it.
+/// Polls for the awaited reply, and continues the write with it.
 fn poll_stage(core: &mut Core, facts: Facts, stage: Writing) -> (Poll<Result<(), Error>>, Writing)
     requires range { (1 ≤ facts.write_len) × (facts.write_len ≤ MAX_TRANSFER_LEN) }
     requires over { is_over stage ≡ false }
@@ -233,7 +237,7 @@ fn poll_stage(core: &mut Core, facts: Facts, stage: Writing) -> (Poll<Result<(),
     }
 }
 
-/// Gives up what is under way, and closes the file.
+/// Gives up the request under way, and closes the file.
 fn cancel(core: &mut Core, stage: Writing)
     requires { IsWriteHeld core.old stage }
     ensures { CancelsWrite core.old core.new stage }
@@ -250,12 +254,15 @@ fn cancel(core: &mut Core, stage: Writing)
 }
 
 impl FsWriteCall {
-    /// Polls what the write awaits, and goes on with it: each part is sent after the STATUS of OK to the one before.
-    /// The file is closed at the end, whose STATUS isn't awaited. `Pending` exactly where a reply was not taken and no
-    /// fault is kept, or where the next part was asked for.
+    /// Polls for the reply that the write awaits, and continues the write: each part is sent after the STATUS of OK to
+    /// the one before. The file is closed at the end; the STATUS of the CLOSE isn't awaited. Returns `Pending` exactly
+    /// if a reply was not taken and the core has recorded no fault, or if the next part was asked for.
     ///
-    /// `SftpError` by a STATUS other than OK; `BackgroundTaskFailure`, where the core keeps a fault and no reply was
-    /// taken, or a part is to be asked for; `OutOfMemory`, after which the write may be polled again.
+    /// # Errors
+    ///
+    /// `SftpError` for a STATUS other than OK; `BackgroundTaskFailure` if the core has recorded a fault and no reply
+    /// was taken or a part is to be asked for; `OutOfMemory` if an allocation fails, after which the write may be
+    /// polled again.
     pub fn poll(&mut self, core: &mut Core) -> Poll<Result<(), Error>>
         requires { MayWrite core.old self.old }
         ensures { PollsWrite core.old core.new self.old self.new result }
@@ -265,7 +272,7 @@ impl FsWriteCall {
         told
     }
 
-    /// Whether the write has answered. It can't be polled then.
+    /// Returns true if the write has returned its result. It can't be polled then.
     pub fn is_ended(&self) -> bool
         ensures { result ≡ is_over self.now.stage }
     {
@@ -281,7 +288,7 @@ impl FsWriteCall {
         cancel(core, stage);
     }
 
-    /// Lets the write go where its core was given up.
+    /// Releases the write after its core was given up.
     pub fn let_go(self, core: Ended) {
         let FsWriteCall { facts: _, stage } = self;
         match stage {
@@ -296,7 +303,7 @@ impl FsWriteCall {
     }
 }
 
-/// The OPEN that makes a file, or empties the one that is there.
+/// Returns the OPEN that creates a file, or truncates an existing one.
 fn open_to_replace(path: RemotePath) -> Request
     ensures { result ≡ open_request to_replace path }
 {
@@ -313,12 +320,14 @@ fn open_to_replace(path: RemotePath) -> Request
 }
 
 impl Fs {
-    /// Writes all of a file that is made, or emptied where it is there, and closes it (draft-ietf-secsh-filexfer-02,
-    /// sections 6.3 and 6.4). The content is copied once.
+    /// Writes all of a file, and closes it (draft-ietf-secsh-filexfer-02, sections 6.3 and 6.4). The file is created,
+    /// or truncated if it exists. The content is copied once.
     ///
-    /// Looked at in this order: `IOError(PathTooLong)`, exactly where the body of the OPEN would pass 1048575 bytes;
-    /// `BackgroundTaskFailure`, where the core keeps a fault. `OutOfMemory` may come in place of any answer. Refused,
-    /// nothing was submitted, and the core is as before.
+    /// # Errors
+    ///
+    /// Checked in this order: `IOError(PathTooLong)`, exactly if the body of the OPEN would pass 1048575 bytes;
+    /// `BackgroundTaskFailure` if the core has recorded a fault. `OutOfMemory` may come in place of any result. After
+    /// an error nothing was submitted, and the core is unchanged.
     pub fn start_write(
         &self,
         alloc: Global,

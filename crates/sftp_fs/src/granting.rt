@@ -1,15 +1,17 @@
-//! An OPEN whose HANDLE is the grant of a call that opens, works on the file and closes it.
+//! OPENs whose HANDLE is the grant of a call that opens, uses and closes a file.
 ghost use Rattle.std.specs.Prelude.{ℕ, List};
 ghost use Rattle.plan_model.specs.Moves.{Own};
 ghost use Rattle.sftp_model.specs.declared.slot.Move.{Move};
 ghost use Rattle.sftp_model.specs.declared.slot.Site.{Site};
-ghost use Rattle.sftp_fs.specs.Grants.{granting, grants_wait};
+ghost use Rattle.sftp_fs.specs.Grants.{grant_meaning, grants_wait};
 
-use call_state::{PlanRunner, Then, Told};
+use plan_state::{PlanRunner, Then, Told};
 use sftp_core::Grant;
 use sftp_model::{Error, Reply};
 
 /// An OPEN whose HANDLE gives its grant.
+///
+/// Used in `crates/sftp_fs_read/src/fs_read.rt`.
 #[derive(Drop)]
 pub struct Granting {}
 
@@ -18,7 +20,7 @@ impl PlanRunner for Granting {
 
     ghost World = { Site × (List ℕ → Own → Move) };
 
-    ghost meaning = { granting };
+    ghost meaning = { grant_meaning };
 
     ghost waits = { grants_wait };
 

@@ -1,4 +1,4 @@
-//! Calls whose NAME ends them: its first entry is the path that they give.
+//! Calls that a NAME ends: its first entry is the path that they return.
 ghost use Rattle.std.specs.Prelude.{◌≡◌, ◌<◌, true, List, ℕ, length, IsSome};
 ghost use Rattle.sftp_model.specs.Answers.{expected_of};
 ghost use Rattle.sftp_model.specs.declared.answers.Expected.TheVariants as expected;
@@ -10,24 +10,26 @@ ghost use Rattle.plan_model.specs.PathPlans.{canonical_request, canonicalize_nex
 ghost use Rattle.plan_model.specs.PathPlans.{named_by, path_named};
 ghost use Rattle.sftp_core.specs.Core.{is_call};
 ghost use Rattle.sftp_core.specs.Info.{info_of};
-ghost use Rattle.call_state.specs.Asked.{IsReady};
+ghost use Rattle.plan_state.specs.Asked.{IsReady};
 ghost use Rattle.sftp_file.specs.Files.{facts_of};
-ghost use Rattle.sftp_fs.specs.Names.{names_wait, naming};
+ghost use Rattle.sftp_fs.specs.Names.{names_wait, name_meaning};
 ghost use Rattle.sftp_fs.specs.PathStarts.{IsPathPlan, PathPlan, StartsFrom};
 
 use crate::asks::{ask, offers};
 use crate::fs::Fs;
-use call_state::{Alone, PendingCall, PlanRunner, Then, Told};
+use plan_state::{Alone, PendingCall, PlanRunner, Then, Told};
 use sftp_core::Core;
 use sftp_model::{Error, Extensions, NameEntry, RemotePath, Reply, Request};
 use sftp_values::Items;
 use std::alloc::Global;
 
 /// A request whose NAME ends the call.
+///
+/// Used by the functions of this module.
 #[derive(Drop)]
 pub struct Naming {}
 
-/// A call under way that gives a path.
+/// A call under way that returns a path.
 pub type PathCall = PendingCall<Naming>;
 
 impl Alone for Naming {}
@@ -37,7 +39,7 @@ impl PlanRunner for Naming {
 
     ghost World = { Site };
 
-    ghost meaning = { naming };
+    ghost meaning = { name_meaning };
 
     ghost waits = { names_wait };
 
@@ -67,7 +69,7 @@ impl PlanRunner for Naming {
     }
 }
 
-/// The name of the first entry, taken out without a copy.
+/// Returns the name of the first entry, taken out without a copy.
 fn first_name(names: Items<NameEntry>) -> RemotePath
     requires { 0 < length names }
     ensures { (site : Site) → named_by site (reply.Names names) ≡ Done (outcome.Path result) site }
@@ -84,12 +86,12 @@ fn ask_name(core: &mut Core, request: Request) -> Result<PathCall, Error>
     requires call { is_call request ≡ true }
     requires expects { expected.FirstName ≡ expected_of request }
     ensures { (cwd : List ℕ) (plan : PathPlan) → IsPathPlan path_named request cwd (facts_of core.old) plan
-        → StartsFrom naming plan cwd core.old core.new result }
+        → StartsFrom name_meaning plan cwd core.old core.new result }
 {
     ask(core, request, Naming {})
 }
 
-/// The request that asks for the absolute form of a path: by the extension that knows `~`, where it is offered.
+/// Returns the request for the absolute form of a path: the one of the extension that knows `~`, if it is offered.
 fn canonical_request(core: &Core, path: RemotePath) -> Request
     requires { IsSome (info_of core.now.phase) }
     ensures { result ≡ canonical_request (facts_of core.now) path }
@@ -101,9 +103,12 @@ fn canonical_request(core: &Core, path: RemotePath) -> Request
 }
 
 impl Fs {
-    /// Asks for the absolute form of a path (draft-ietf-secsh-filexfer-02, section 6.11). Where the server offers
-    /// `expand-path@openssh.com` (OpenSSH's PROTOCOL, section 4.9), that is sent, which knows `~`. Refused as
-    /// `start_read_link`.
+    /// Asks for the absolute form of a path (draft-ietf-secsh-filexfer-02, section 6.11). If the server offers
+    /// `expand-path@openssh.com` (OpenSSH's PROTOCOL, section 4.9), that is sent, which knows `~`.
+    ///
+    /// # Errors
+    ///
+    /// Those of `start_read_link`.
     pub fn start_canonicalize(
         &self,
         alloc: Global,
@@ -111,18 +116,20 @@ impl Fs {
         path: &[u8],
     ) -> Result<PathCall, Error>
         requires { IsReady core.old }
-        ensures { StartsFrom naming (canonicalize_next path.now) self.now core.old core.new result }
+        ensures { StartsFrom name_meaning (canonicalize_next path.now) self.now core.old core.new result }
     {
         let path = self.named(alloc, path)?;
         let request = canonical_request(core, path);
         ask_name(core, request)
     }
 
-    /// Asks what a symbolic link names (draft-ietf-secsh-filexfer-02, section 6.10).
+    /// Asks for the path that a symbolic link names (draft-ietf-secsh-filexfer-02, section 6.10).
     ///
-    /// Looked at in this order: `IOError(PathTooLong)`, exactly where the body of the request would pass 1048575 bytes;
-    /// `BackgroundTaskFailure`, where the core keeps a fault. `OutOfMemory` may come in place of any answer. Refused,
-    /// nothing was submitted, and the core is as before.
+    /// # Errors
+    ///
+    /// Checked in this order: `IOError(PathTooLong)`, exactly if the body of the request would pass 1048575 bytes;
+    /// `BackgroundTaskFailure` if the core has recorded a fault. `OutOfMemory` may come in place of any result. After
+    /// an error nothing was submitted, and the core is unchanged.
     pub fn start_read_link(
         &self,
         alloc: Global,
@@ -130,7 +137,7 @@ impl Fs {
         path: &[u8],
     ) -> Result<PathCall, Error>
         requires { IsReady core.old }
-        ensures { StartsFrom naming (read_link_next path.now) self.now core.old core.new result }
+        ensures { StartsFrom name_meaning (read_link_next path.now) self.now core.old core.new result }
     {
         let path = self.named(alloc, path)?;
         ask_name(core, Request::Readlink { path })

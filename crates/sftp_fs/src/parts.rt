@@ -5,7 +5,7 @@ ghost use Rattle.sftp_model.specs.declared.slot.Site.{Site};
 ghost use Rattle.sftp_fs.specs.Parts.{IsBehind, IsFirst, IsNextPart, PartValue, parts_wait, writing_parts};
 
 use bytes::Bytes;
-use call_state::{Asking, PlanRunner, Then, Told};
+use plan_state::{Asking, PlanRunner, Then, Told};
 use sftp_model::numbers::SSH_FX_OK;
 use sftp_model::{Error, Facts, Handle, Reply};
 use sftp_values::Items;
@@ -14,6 +14,8 @@ use std::alloc::Global;
 use std::marker::Model;
 
 /// The WRITE of a part under way.
+///
+/// Used in `crates/sftp_fs/src/fs_write.rt`.
 #[derive(Drop)]
 pub struct WritingParts {
     alloc: Global,
@@ -22,9 +24,9 @@ pub struct WritingParts {
     /// The place of the part's WRITE.
     place: u64,
     content: Bytes,
-    /// The bytes before the part.
+    /// The number of bytes before the part.
     done: usize,
-    /// The bytes of the part.
+    /// The number of bytes of the part.
     len: usize,
 }
 
@@ -50,8 +52,8 @@ impl Model for WritingParts {
         × (m.facts.write_len ≤ MAX_TRANSFER_LEN) };
 }
 
-/// The WRITE of the bytes behind `done`, as many as the session allows, and how many they are. None where none are
-/// left. Refused only for want of memory.
+/// Returns the WRITE of the bytes after `done`, up to the limit of the session, and how many they are; `None` if none
+/// are left. Fails only if an allocation fails.
 fn next_part(
     alloc: Global,
     handle: &Handle,
@@ -87,8 +89,8 @@ fn next_part(
 }
 
 impl WritingParts {
-    /// The first part of the content of a file with this handle; None where there is no content. Refused only for want
-    /// of memory.
+    /// Returns the first part of the content of a file with this handle, or `None` if there is no content. Fails only
+    /// if an allocation fails.
     pub(crate) fn first(
         alloc: Global,
         handle: &Handle,
@@ -113,10 +115,10 @@ impl WritingParts {
         Ok(Some((asking, runner)))
     }
 
-    /// Goes on behind the part that was written. Refused only for want of memory, it is as before then.
+    /// Continues after the part that was written. Fails only if an allocation fails; the runner is unchanged then.
     fn go_behind(&mut self) -> Result<Option<Asking>, OutOfMemory>
         ensures next { IfOk result (IsBehind self.old self.new) }
-        ensures err { OnErr result (self.new ≡ self.old) }
+        ensures unchanged { OnErr result (self.new ≡ self.old) }
     {
         let _len = self.content.len(); // for the contract: the content has less than 2^63 bytes
         let done = self.done + self.len;

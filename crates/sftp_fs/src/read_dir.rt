@@ -1,15 +1,15 @@
-//! The entries of a directory, as they come.
+//! Entries of a directory, as they come.
 ghost use Rattle.std.specs.Prelude.{◌≡◌, true, false, None, Some};
-ghost use Rattle.sftp_model.specs.Answers.{allows};
+ghost use Rattle.sftp_model.specs.Answers.{allows_reply};
 ghost use Rattle.sftp_model.specs.declared.answers.Expected.TheVariants as expected;
 ghost use Rattle.sftp_model.specs.declared.reply.Reply.TheVariants as reply;
 ghost use Rattle.sftp_model.specs.declared.request.Request.TheVariants as request;
 ghost use Rattle.sftp_model.specs.Frames.{is_too_long};
-ghost use Rattle.call_state.specs.Asked.{HoldsTicket, IsReady};
-ghost use Rattle.call_state.specs.Keeping.{KeepsGrants};
+ghost use Rattle.plan_state.specs.Asked.{HoldsTicket, IsReady};
+ghost use Rattle.plan_state.specs.Keeping.{KeepsGrants};
 ghost use Rattle.sftp_fs.specs.Directories.{ClosesDir};
 ghost use Rattle.sftp_fs.specs.Listings.{IsAwaiting, IsEmpty, IsListing, MayList, fresh_listing, given_up};
-ghost use Rattle.sftp_fs.specs.Listings.{AsksMore, Hears, PollsEntries, TakesEntry, entry_told, left_by};
+ghost use Rattle.sftp_fs.specs.Listings.{AsksMore, TakesListingReply, PollsEntries, TakesEntry, entry_told, left_by};
 
 use crate::dir_entry::DirEntry;
 use sftp_core::{Core, Ended, Grant, Polled, SubmitError, Ticket};
@@ -21,9 +21,11 @@ use std::alloc::Global;
 use std::marker::Model;
 use std::vec::IntoIter;
 
-/// The listing of a directory. It isn't droppable: `start_close` spends it, and `let_go` where its core was given up. A
-/// contract sees the grant, the entries that came and were not given yet, the number of the READDIR whose reply is
-/// awaited, and whether the end came.
+/// The listing of a directory. It isn't droppable: `start_close` consumes it, and `let_go` does after its core was
+/// given up. A contract sees the grant, the entries that came and were not returned yet, the number of the READDIR
+/// whose reply is awaited, and whether the end came.
+///
+/// Example: `crates/example_client/src/directories.rt`.
 #[must_use]
 pub struct ReadDir {
     grant: Grant,
@@ -47,7 +49,7 @@ impl Model for ReadDir {
 }
 
 impl ReadDir {
-    /// The listing of a directory from where the server stands in it: nothing has come.
+    /// Returns the listing of a directory from the server's position in it; nothing has come yet.
     pub(crate) fn new(alloc: Global, grant: Grant) -> ReadDir
         ensures { result ≡ fresh_listing grant }
     {
@@ -59,12 +61,15 @@ impl ReadDir {
         }
     }
 
-    /// The next entry, in the server's order: each one of a NAME is given once. None after a STATUS of EOF or a NAME
-    /// without entries, and ever after. Where no entry is left, more are asked for (draft-ietf-secsh-filexfer-02,
-    /// section 6.7). `Pending` where they were asked for now, or where the reply was not taken and no fault is kept.
+    /// Returns the next entry, in the server's order: each entry of a NAME is returned once. Returns `None` after a
+    /// STATUS of EOF or a NAME without entries, and always from then on. If no entry is left, more are asked for
+    /// (draft-ietf-secsh-filexfer-02, section 6.7). Returns `Pending` if they were asked for now, or if the reply was
+    /// not taken and the core has recorded no fault.
     ///
-    /// `SftpError`, by a STATUS of another code: the next poll asks again. `BackgroundTaskFailure`, where the core
-    /// keeps a fault and no reply was taken. `OutOfMemory`, where nothing could be asked for: the listing may be polled
+    /// # Errors
+    ///
+    /// `SftpError` for a STATUS of another code: the next poll asks again. `BackgroundTaskFailure` if the core has
+    /// recorded a fault and no reply was taken. `OutOfMemory` if nothing could be asked for: the listing may be polled
     /// again.
     pub fn poll_next(&mut self, core: &mut Core) -> Poll<Option<Result<DirEntry, Error>>>
         requires { MayList core.old self.old }
@@ -82,7 +87,7 @@ impl ReadDir {
         }
     }
 
-    /// The next entry of those that are left.
+    /// Returns the next of the entries that are left.
     fn next_entry(&mut self) -> Option<DirEntry>
         ensures { TakesEntry self.old self.new result }
     {
@@ -109,7 +114,7 @@ impl ReadDir {
         }
     }
 
-    /// The READDIR of the directory. It fits a frame, since a handle has at most 256 bytes.
+    /// Returns the READDIR of the directory. It fits a frame, since a handle has at most 256 bytes.
     fn readdir_request(&self) -> Request
         ensures is { result ≡ request.Readdir self.now.grant.handle }
         ensures short { is_too_long result ≡ false }
@@ -121,11 +126,11 @@ impl ReadDir {
         }
     }
 
-    /// Goes on with the reply to a READDIR, where it was taken.
+    /// Continues with the reply to a READDIR, if it was taken.
     fn hear(&mut self, core: &mut Core, ticket: Ticket) -> Poll<Option<Result<DirEntry, Error>>>
         requires few { IsEmpty self.old }
         requires held { HoldsTicket core.old ticket expected.Names }
-        ensures { Hears core.old core.new self.old self.new ticket result }
+        ensures { TakesListingReply core.old core.new self.old self.new ticket result }
     {
         match core.poll(ticket) {
             Ok(Polled::Reply(reply)) => Poll::Ready(self.tell(reply)),
@@ -140,10 +145,10 @@ impl ReadDir {
         }
     }
 
-    /// What a reply to a READDIR gives.
+    /// Returns the result that a reply to a READDIR gives.
     fn tell(&mut self, reply: Reply) -> Option<Result<DirEntry, Error>>
         requires few { IsEmpty self.old }
-        requires allowed { allows expected.Names reply ≡ true }
+        requires allowed { allows_reply expected.Names reply ≡ true }
         ensures told { result ≡ entry_told reply }
         ensures left { self.new ≡ left_by self.old reply }
     {
@@ -168,7 +173,7 @@ impl ReadDir {
         }
     }
 
-    /// What a NAME gives.
+    /// Returns the result that a NAME gives.
     fn tell_names(&mut self, names: Items<NameEntry>) -> Option<Result<DirEntry, Error>>
         requires few { IsEmpty self.old }
         ensures told { result ≡ entry_told (reply.Names names) }
@@ -195,16 +200,16 @@ impl ReadDir {
         }
     }
 
-    /// Whether the end came: every later poll gives None.
+    /// Returns true if the end came: every later poll returns `None`.
     pub fn is_terminated(&self) -> bool
         ensures { result ≡ self.now.ended }
     {
         self.ended
     }
 
-    /// Lets the listing and its directory go. The reply to a READDIR under way is dropped. CLOSE is sent exactly for
-    /// the last user; any other's first poll gives `()` (draft-ietf-secsh-filexfer-02, section 6.3). It can't be
-    /// refused.
+    /// Releases the listing and its directory. The reply to a READDIR under way is dropped. CLOSE is sent exactly for
+    /// the last user; the first poll of any other user's call returns `()` (draft-ietf-secsh-filexfer-02, section 6.3).
+    /// It can't be refused.
     pub fn start_close(self, core: &mut Core) -> CloseCall
         requires { IsListing core.old self }
         ensures { ClosesDir self.grant (given_up core.old self.asked) core.new result }
@@ -219,7 +224,7 @@ impl ReadDir {
         close_call(core.release(grant))
     }
 
-    /// Lets the listing go where its core was given up. No CLOSE is sent.
+    /// Releases the listing after its core was given up. No CLOSE is sent.
     pub fn let_go(self, core: Ended) {
         let ReadDir {
             grant,

@@ -20,7 +20,7 @@ use Rattle.sftp_core.proofs.Tables.{count-insert_new}
 use Rattle.plan_model.specs.declared.call.Lane.{Lane}
 use Rattle.session_model.specs.declared.entry.Entry.{Entry}
 use Rattle.session_model.specs.Readings.{count_below}
-use Rattle.session_model.specs.Runs.{queried}
+use Rattle.session_model.specs.Runs.{limits_query_sent}
 use Rattle.session_driver.specs.NoLanes.{asked_core, asked_past}
 use Rattle.session_driver.specs.declared.session.Phase.{Phase}
 use Rattle.session_driver.specs.declared.session.Phase.TheVariants.{Fresh, Greeted, Asking, Queried, Open, Failed}
@@ -95,7 +95,8 @@ greeted_shows options =
       unanswered = (let none = none_waiting in omega (arith, none));
     }
 
-asked_shows : (options : SftpOptions) (extensions : Extensions) → Shows Asking asked_past (asked_core options extensions)
+asked_shows : (options : SftpOptions) (extensions : Extensions)
+    → Shows Asking asked_past (asked_core options extensions)
 asked_shows options extensions =
     record {
       unsent = refl;
@@ -103,7 +104,8 @@ asked_shows options extensions =
       unanswered = (let one = one_waiting in omega (arith, one));
     }
 
-queried_shows : (options : SftpOptions) (extensions : Extensions) → Shows Queried (queried 0) (handed_out (asked_core options extensions))
+queried_shows : (options : SftpOptions) (extensions : Extensions)
+    → Shows Queried (limits_query_sent 0) (handed_out (asked_core options extensions))
 queried_shows options extensions =
     record {
       unsent = refl;
@@ -114,22 +116,26 @@ queried_shows options extensions =
 -- ---- in each phase
 
 -- what is told in a phase depends on what the journal says of its requests
-unsent_as : (phase : Phase) (past other : List Entry) → told past ≡ told other → unsent_in phase past ≡ unsent_in phase other
+unsent_as : (phase : Phase) (past other : List Entry) → told past ≡ told other → unsent_in phase past
+    ≡ unsent_in phase other
 unsent_as Fresh past other e = refl
 unsent_as _ past other e = ap (λ (t : Told). t.asked - t.sent) e
 
-awaited_as : (phase : Phase) (past other : List Entry) → told past ≡ told other → awaited_in phase past ≡ awaited_in phase other
+awaited_as : (phase : Phase) (past other : List Entry) → told past ≡ told other → awaited_in phase past
+    ≡ awaited_in phase other
 awaited_as Fresh past other e = refl
 awaited_as Greeted past other e = refl
 awaited_as _ past other e = ap (λ (t : Told). count_below (λ place. is_none (t.answer place)) t.sent) e
 
-unanswered_as : (phase : Phase) (past other : List Entry) → told past ≡ told other → unanswered_in phase past ≡ unanswered_in phase other
+unanswered_as : (phase : Phase) (past other : List Entry) → told past ≡ told other → unanswered_in phase past
+    ≡ unanswered_in phase other
 unanswered_as Fresh past other e = refl
 unanswered_as Greeted past other e = refl
 unanswered_as _ past other e = ap (λ (t : Told). count_below (λ place. is_none (t.answer place)) t.asked) e
 
 -- also where core and journal are said to be these
-shown_as : (phase : Phase) (past other : List Entry) (core now : Core) → told past ≡ told other → core ≡ now → Shows phase other now → Shows phase past core
+shown_as : (phase : Phase) (past other : List Entry) (core now : Core) → told past ≡ told other → core ≡ now
+    → Shows phase other now → Shows phase past core
 shown_as phase past other core now same is s = record {
   unsent = ap queued_of is ∙ s.unsent ∙ sym (unsent_as phase past other same);
   awaited = ap awaited_of is ∙ s.awaited ∙ sym (awaited_as phase past other same);
@@ -138,12 +144,14 @@ shown_as phase past other core now same is s = record {
 
 pub shows_in : (lanes : List Lane) (options : SftpOptions) (version : Option Reply) (info : Option Info) (w : Lanes)
     (phase : Phase) → IsInPhase lanes options version info w phase → phase ≢ Failed → Shows phase (past_of w) w.core
-shows_in lanes options version info w Fresh p on = shown_as Fresh _ (past_of w) _ _ refl p.0.0 (fresh_shows options (past_of w))
-shows_in lanes options version info w Greeted p on = shown_as Greeted _ [] _ _ (told_as (past_of w) [] p.0.2) p.0.0 (greeted_shows options)
+shows_in lanes options version info w Fresh p on = shown_as Fresh _ (past_of w) _ _ refl p.0.0
+    (fresh_shows options (past_of w))
+shows_in lanes options version info w Greeted p on = shown_as Greeted _ [] _ _ (told_as (past_of w) [] p.0.2) p.0.0
+    (greeted_shows options)
 shows_in lanes options version info w Asking p on = shown_as Asking _ asked_past _ _
     (told_as (past_of w) asked_past p.0.1.3) p.0.1.2 (asked_shows options p.0.0)
-shows_in lanes options version info w Queried p on = shown_as Queried _ (queried 0) _ _
-    (told_as (past_of w) (queried 0) p.0.1.3) p.0.1.2 (queried_shows options p.0.0)
+shows_in lanes options version info w Queried p on = shown_as Queried _ (limits_query_sent 0) _ _
+    (told_as (past_of w) (limits_query_sent 0) p.0.1.3) p.0.1.2 (queried_shows options p.0.0)
 shows_in lanes options version info w Open p on =
     let o : IsOpened w = (setting_by lanes options version info, p) in
     record { unsent = queued_count w o; awaited = awaited_count w o; unanswered = unanswered_count w o }

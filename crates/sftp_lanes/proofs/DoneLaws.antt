@@ -7,8 +7,8 @@ use Rattle.sftp_model.specs.declared.reply.Reply.{Reply}
 use Rattle.sftp_core.specs.declared.info.Info.{Info}
 use Rattle.plan_model.specs.declared.call.Call.{Call}
 use Rattle.plan_model.specs.declared.call.Lane.{Lane}
-use Rattle.session_model.specs.Calls.{added, calls_of, current}
-use Rattle.session_model.specs.Readings.{ended, outcomes_of}
+use Rattle.session_model.specs.Calls.{calls_added_to, calls_of, current}
+use Rattle.session_model.specs.Readings.{count_ended, outcomes_of}
 use Rattle.session_driver.specs.declared.session.Phase.{Phase}
 use Rattle.run_laws.proofs.CallEnds.{outcomes_count}
 use Rattle.session_work.specs.declared.lanes.Lanes.{Lanes}
@@ -43,7 +43,9 @@ done_is lanes options version info w phase lane b is told =
     let calls = is.calls.each lane in
     let outcomes : slice_index_or w.outcomes lane [] ≡ outcomes_of (past_of w) lane =
     ap (λ (r : LaneReport). r.outcomes) (is.intact.reports lane) in
-    let number : length (slice_index_or w.outcomes lane []) ≡ ended (past_of w) lane = ap length outcomes ∙ outcomes_count (past_of w) lane in
-    subst (λ (n : ℕ). IsTrue b ↔ (slice_get (calls_of (slice_get lanes lane) ++ added (past_of w) lane) n ≡ None)) number
+    let number : length (slice_index_or w.outcomes lane []) ≡ count_ended (past_of w) lane = ap length outcomes
+    ∙ outcomes_count (past_of w) lane in
+    subst (λ (n : ℕ). IsTrue b ↔ (slice_get (calls_of (slice_get lanes lane) ++ calls_added_to (past_of w) lane) n
+    ≡ None)) number
     (subst (λ (cs : List Call). IsTrue b ↔ (slice_get cs (length (slice_index_or w.outcomes lane [])) ≡ None)) calls
     (told_by (calls_of (slice_get w.calls lane)) (length (slice_index_or w.outcomes lane [])) b told))

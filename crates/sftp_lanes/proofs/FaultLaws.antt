@@ -9,10 +9,10 @@ use Rattle.plan_model.specs.declared.call.Lane.{Lane}
 use Rattle.session_model.specs.declared.entry.Entry.{Entry}
 use Rattle.session_model.specs.declared.entry.Entry.TheVariants as entry
 use Rattle.session_model.specs.Calls.{Setting}
-use Rattle.session_model.specs.Readings.{asked, was_kept}
-use Rattle.session_model.specs.Runs.{queried}
+use Rattle.session_model.specs.Readings.{count_submitted, was_kept}
+use Rattle.session_model.specs.Runs.{limits_query_sent}
 use Rattle.session_model.proofs.CallLaws.{may_next}
-use Rattle.session_driver.specs.NoLanes.{asked_past, offered}
+use Rattle.session_driver.specs.NoLanes.{asked_past, offered_extensions}
 use Rattle.session_driver.specs.declared.session.Phase.{Phase}
 use Rattle.session_driver.specs.declared.session.Phase.TheVariants.{Fresh, Greeted, Asking, Queried, Open, Failed}
 use Rattle.session_work.specs.declared.lanes.Lanes.{Lanes}
@@ -25,15 +25,18 @@ use Rattle.sftp_lanes.proofs.Plain.{Told, told_as}
 -- ---- journals without a fault
 
 -- no request was submitted
-pub none_asked : (past : List Entry) → without_lanes past ≡ [] → asked past ≡ 0
+pub none_asked : (past : List Entry) → without_lanes past ≡ [] → count_submitted past ≡ 0
 none_asked past bare = ap (λ (t : Told). t.asked) (told_as past [] bare)
 
 -- the setting is one of the limits that were asked for
-pub unmoved_bare : (s : Setting) (past : List Entry) → without_lanes past ≡ [] → AreIdleRuns s.lanes past → IsIdleRun s past
-unmoved_bare s past bare are = are s refl (λ some. let none = none_asked past bare in absurd (omega (arith, some, none)))
+pub unmoved_bare : (s : Setting) (past : List Entry) → without_lanes past ≡ [] → AreIdleRuns s.lanes past
+    → IsIdleRun s past
+unmoved_bare s past bare are = are s refl (λ some. let none = none_asked past bare in
+    absurd (omega (arith, some, none)))
 
 offering : (lanes : List Lane) (options : SftpOptions) (version : Option Reply) (info : Option Info) (past : List Entry)
-    → offers_limits (offered version) ≡ true → AreIdleRuns lanes past → IsIdleRun (setting_by lanes options version info) past
+    → offers_limits (offered_extensions version) ≡ true → AreIdleRuns lanes past
+    → IsIdleRun (setting_by lanes options version info) past
 offering lanes options version info past offers are = are (setting_by lanes options version info) refl (λ some. offers)
 
 -- while a session opens, no lane has done anything
@@ -46,10 +49,10 @@ unmoved_at lanes options version info w Greeted p opens =
     unmoved_bare (setting_by lanes options version info) (past_of w) p.0.2 p.1.2
 unmoved_at lanes options version info w Asking p opens =
     offering lanes options version info (past_of w)
-    (ap (λ (v : Option Reply). offers_limits (offered v)) p.0.1.0 ∙ p.0.1.1) p.1.2
+    (ap (λ (v : Option Reply). offers_limits (offered_extensions v)) p.0.1.0 ∙ p.0.1.1) p.1.2
 unmoved_at lanes options version info w Queried p opens =
     offering lanes options version info (past_of w)
-    (ap (λ (v : Option Reply). offers_limits (offered v)) p.0.1.0 ∙ p.0.1.1) p.1.2
+    (ap (λ (v : Option Reply). offers_limits (offered_extensions v)) p.0.1.0 ∙ p.0.1.1) p.1.2
 unmoved_at lanes options version info w Open p opens = absurd cc
 unmoved_at lanes options version info w Failed p opens = absurd cc
 
@@ -69,15 +72,18 @@ in_phase_so_far : (lanes : List Lane) (options : SftpOptions) (version : Option 
     (phase : Phase) → IsInPhase lanes options version info w phase
     → IsSoFar (setting_by lanes options version info) w.core.fault (past_of w)
 in_phase_so_far lanes options version info w Fresh p = stands_so_far (setting_by lanes options version info) _ _ _ _
-    (ap (λ (c : Core). c.fault) p.0.0) refl (unmoved_so_far _ (past_of w) [] p.0.2 refl (unmoved_at lanes options version info w Fresh p refl))
+    (ap (λ (c : Core). c.fault) p.0.0) refl (unmoved_so_far _ (past_of w) [] p.0.2 refl
+    (unmoved_at lanes options version info w Fresh p refl))
 in_phase_so_far lanes options version info w Greeted p = stands_so_far (setting_by lanes options version info) _ _ _ _
-    (ap (λ (c : Core). c.fault) p.0.0) refl (unmoved_so_far _ (past_of w) [] p.0.2 refl (unmoved_at lanes options version info w Greeted p refl))
+    (ap (λ (c : Core). c.fault) p.0.0) refl (unmoved_so_far _ (past_of w) [] p.0.2 refl
+    (unmoved_at lanes options version info w Greeted p refl))
 in_phase_so_far lanes options version info w Asking p = stands_so_far (setting_by lanes options version info) _ _ _ _
     (ap (λ (c : Core). c.fault) p.0.1.2) refl
     (unmoved_so_far _ (past_of w) asked_past p.0.1.3 refl (unmoved_at lanes options version info w Asking p refl))
 in_phase_so_far lanes options version info w Queried p = stands_so_far (setting_by lanes options version info) _ _ _ _
     (ap (λ (c : Core). c.fault) p.0.1.2) refl
-    (unmoved_so_far _ (past_of w) (queried 0) p.0.1.3 refl (unmoved_at lanes options version info w Queried p refl))
+    (unmoved_so_far _ (past_of w) (limits_query_sent 0) p.0.1.3 refl
+    (unmoved_at lanes options version info w Queried p refl))
 in_phase_so_far lanes options version info w Open p = work_so_far (setting_by lanes options version info) w p
 in_phase_so_far lanes options version info w Failed p = p
 

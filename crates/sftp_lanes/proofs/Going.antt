@@ -14,7 +14,7 @@ use Rattle.plan_model.specs.declared.call.Lane.{Lane}
 use Rattle.session_model.specs.declared.event.Event.TheVariants.{Send}
 use Rattle.session_model.specs.declared.entry.Entry.{Entry}
 use Rattle.session_model.specs.declared.entry.Entry.TheVariants as entry
-use Rattle.session_model.specs.Calls.{Setting, added}
+use Rattle.session_model.specs.Calls.{Setting, calls_added_to}
 use Rattle.session_model.specs.Turns.{RunProgress}
 use Rattle.session_driver.specs.declared.session.Phase.{Phase}
 use Rattle.session_driver.specs.declared.session.Phase.TheVariants.{Open, Failed}
@@ -27,7 +27,7 @@ use Rattle.session_work.specs.Working.{LanesValue, HandsIn, IsWorking, past_of}
 use Rattle.session_work.proofs.FaultLaws.{kept_so_far, left_so_far, stands_so_far}
 use Rattle.session_work.proofs.ReportLaws.{leaves_intact, refused_told}
 use Rattle.sftp_lanes.specs.Events.{LanesDid, HasFailed}
-use Rattle.sftp_lanes.specs.Seen.{IsInPhase, IsSession, SessionValue, given, setting_by}
+use Rattle.sftp_lanes.specs.Seen.{IsInPhase, IsSession, SessionValue, session_inputs, setting_by}
 use Rattle.sftp_lanes.proofs.FaultLaws.{so_far}
 use Rattle.sftp_lanes.proofs.FixedLaws.{added_refused, fixed_on, fixed_refused, kept_refused, noted, same_calls}
 use Rattle.sftp_lanes.proofs.Opening.{in_phase, open_count}
@@ -54,7 +54,8 @@ pub record WorksOn (s : Setting) (old new : Lanes) : Type 0 where
 pub works_on : (lanes : List Lane) (options : SftpOptions) (version : Option Reply) (known : Option Info)
     (old new : Lanes) (phase : Phase) → IsSession lanes options version known old phase → phase ≡ Open
     → IsIntact (length old.calls) new
-    → (IsWorking (setting_by lanes options version known) old → WorksOn (setting_by lanes options version known) old new)
+    → (IsWorking (setting_by lanes options version known) old →
+    WorksOn (setting_by lanes options version known) old new)
     → IsSession lanes options version known new phase
 works_on lanes options version known old new phase is open_is intact on =
     let s : Setting = setting_by lanes options version known in
@@ -70,7 +71,8 @@ works_on lanes options version known old new phase is open_is intact on =
         ok = now.working.stands.ok;
         each = now.working.stands.calls;
       };
-      fixed = λ some. fixed_on (given lanes options) version (past_of old) (past_of new) s was.rest.between.good.ready
+      fixed = λ some. fixed_on (session_inputs lanes options) version (past_of old) (past_of new) s
+          was.rest.between.good.ready
           now.later (is.fixed some);
     }
 
@@ -106,9 +108,10 @@ fails_by lanes options version known old new phase is intact f =
       now = f.stays s (so_far lanes options version known old phase is);
       told = λ e. cc e;
       calls = same_calls lanes old new f.calls
-          (λ lane. ap (λ (p : List Entry). added p lane) f.noted ∙ added_refused f.fault (past_of old) lane) is.calls;
-      fixed = λ some. subst (λ (p : List Entry). IsFixed (given lanes options) version p s) (sym f.noted)
-          (fixed_refused (given lanes options) version f.fault (past_of old) s (is.fixed some));
+          (λ lane. ap (λ (p : List Entry). calls_added_to p lane) f.noted ∙ added_refused f.fault (past_of old) lane)
+          is.calls;
+      fixed = λ some. subst (λ (p : List Entry). IsFixed (session_inputs lanes options) version p s) (sym f.noted)
+          (fixed_refused (session_inputs lanes options) version f.fault (past_of old) s (is.fixed some));
     }
 
 -- ---- a call of the lanes of an open session
@@ -116,10 +119,12 @@ fails_by lanes options version known old new phase is intact f =
 pub went : {T E : Type 0} (lanes : List Lane) (options : SftpOptions) (version : Option Reply) (known : Option Info)
     (old new : Lanes) (phase now : Phase) (r : Result T E) → IsSession lanes options version known old phase
     → phase ≡ Open → IsIntact (length old.calls) new → OnOk r (now ≡ phase) → OnErr r (now ≡ Failed)
-    → (IsWorking (setting_by lanes options version known) old → OnOk r (WorksOn (setting_by lanes options version known) old new))
+    → (IsWorking (setting_by lanes options version known) old →
+    OnOk r (WorksOn (setting_by lanes options version known) old new))
     → OnErr r (Fails old new) → IsSession lanes options version known new now
 went lanes options version known old new phase now (Ok x) is open_is intact same failed on fails =
-    subst (IsSession lanes options version known new) (sym same) (works_on lanes options version known old new phase is open_is intact on)
+    subst (IsSession lanes options version known new) (sym same)
+    (works_on lanes options version known old new phase is open_is intact on)
 went lanes options version known old new phase now (Err e) is open_is intact same failed on fails =
     subst (IsSession lanes options version known new) (sym failed)
     (fails_by lanes options version known old new phase is
@@ -184,12 +189,14 @@ pub faulted : (lanes : List Lane) (options : SftpOptions) (version : Option Repl
     → new ≡ record old { core = failed_with old.core fault; journal = new.journal }
     → past_of new ≡ kept_past old.core.fault fault (past_of old) → IsSession lanes options version known new Failed
 faulted lanes options version known old new phase fault is rest kept =
-    let one : past_of new ≡ refused_past (noted old.core.fault fault) (past_of old) = kept ∙ kept_refused old.core.fault fault (past_of old) in
+    let one : past_of new ≡ refused_past (noted old.core.fault fault) (past_of old) = kept
+    ∙ kept_refused old.core.fault fault (past_of old) in
     let some : new.core.fault ≡ Some (unwrap_or old.core.fault fault) = ap (λ (w : Lanes). w.core.fault) rest in
     fails_by lanes options version known old new phase is
     (leaves_intact (length lanes) old new is.intact (record {
       kept = ap reports_of rest;
-      past = λ lane. ap (λ (p : List Entry). lane_report p lane) one ∙ refused_told (noted old.core.fault fault) (past_of old) lane;
+      past = λ lane. ap (λ (p : List Entry). lane_report p lane) one
+          ∙ refused_told (noted old.core.fault fault) (past_of old) lane;
     }) (λ none. (let clash : Some (unwrap_or old.core.fault fault) ≡ None = sym some ∙ none in absurd cc)))
     (record {
       fault = noted old.core.fault fault;
@@ -199,7 +206,8 @@ faulted lanes options version known old new phase fault is rest kept =
     })
 
 pub gives_up : (lanes : List Lane) (options : SftpOptions) (version : Option Reply) (known : Option Info)
-    (old : Lanes) (phase : Phase) → IsSession lanes options version known old phase → IsSession lanes options version known old Failed
+    (old : Lanes) (phase : Phase) → IsSession lanes options version known old phase
+    → IsSession lanes options version known old Failed
 gives_up lanes options version known old phase is =
     fails_by lanes options version known old old phase is is.intact
     (record { fault = None; calls = refl; noted = refl; stays = λ s k. k })

@@ -1,14 +1,14 @@
-pub mod AddedLaws
+mod AddedLaws
 mod AskingLaws
-pub mod CountLaws
-pub mod DoneLaws
-pub mod FaultLaws
-pub mod FixedLaws
-pub mod Going
-pub mod Opening
-pub mod OpeningSteps
-pub mod Plain
-pub mod Reporting
+mod CountLaws
+mod DoneLaws
+mod FaultLaws
+mod FixedLaws
+mod Going
+mod Opening
+mod OpeningSteps
+mod Plain
+mod Reporting
 pub mod Sends
 pub mod Shown
-pub mod UnmovedLaws
+mod UnmovedLaws

@@ -17,8 +17,8 @@ use Rattle.sftp_model.specs.declared.options.SftpOptions.{SftpOptions}
 use Rattle.sftp_core.specs.declared.tokens.Taken.{Taken}
 use Rattle.sftp_core.specs.declared.tokens.Taken.TheVariants as taken_of
 use Rattle.sftp_core.specs.declared.id_record.IdRecord.{IdRecord}
-use Rattle.sftp_core.specs.Core.{Core, at, handed_out}
-use Rattle.sftp_core.specs.Take.{Read, TakenFrom, take_refusal, taken}
+use Rattle.sftp_core.specs.Core.{Core, record_at, handed_out}
+use Rattle.sftp_core.specs.Take.{Read, TakenFrom, take_refusal, core_after_reply}
 use Rattle.sftp_core.specs.Info.{hello_of, info_with}
 use Rattle.sftp_model.specs.Lengths.{offers_limits}
 use Rattle.sftp_core.specs.Table.{count, is_sent, is_waiting}
@@ -31,21 +31,21 @@ use Rattle.session_model.specs.Calls.{Setting}
 use Rattle.session_model.specs.Grants.{next_due}
 use Rattle.session_model.specs.Ids.{Free, Pending, id_state, now_replied, now_sent}
 use Rattle.session_model.specs.Journals.{is_opened}
-use Rattle.session_model.specs.Readings.{AskedRequest, answer, asked, awaited, count_below, unanswered, unsent}
-use Rattle.session_model.specs.Steady.{Good}
-use Rattle.session_model.specs.Runs.{queried}
-use Rattle.session_model.specs.Settings.{facts_of, greeting, limits_told, limits_of}
+use Rattle.session_model.specs.Readings.{AskedRequest, answer, count_submitted, count_awaited, count_below, count_unanswered, unsent_requests}
+use Rattle.session_model.specs.Steady.{IsCancellableRun}
+use Rattle.session_model.specs.Runs.{limits_query_sent}
+use Rattle.session_model.specs.Settings.{facts_of, version_reply_of, limits_told, limits_of}
 use Rattle.session_driver.specs.declared.session.Phase.{Phase}
 use Rattle.session_driver.specs.declared.session.Phase.TheVariants.{Asking, Failed, Fresh, Greeted, Open, Queried}
 use Rattle.session_driver.specs.Session.{IsFixed}
 use Rattle.session_driver.proofs.Bare.{idle_awaited, idle_unanswered, limits_in_core, takes_limits}
-use Rattle.session_driver.specs.NoLanes.{IsIdle as IsQuiet, IsOpen, asked_core, idle_core, offered}
-use Rattle.session_laws.specs.Changes.{Unbegun, fresh_lane}
+use Rattle.session_driver.specs.NoLanes.{IsIdle as IsQuiet, IsOpen, asked_core, idle_core, offered_extensions}
+use Rattle.session_laws.specs.Changes.{HasNoHistory, fresh_lane}
 use Rattle.session_laws.specs.Lanes.{CoreTied, LaneValue}
 use Rattle.session_laws.specs.Tables.{stand}
 use Rattle.session_laws.proofs.StartLaws.{start_dues, start_tied}
-use Rattle.session_laws.specs.Budgets.{Spends, kept, spending}
-use Rattle.session_laws.specs.Rest.{AtRest, Counted, LaneAsks, begun_of}
+use Rattle.session_laws.specs.Budgets.{KeepsIdBudget, kept_ids, spending_of}
+use Rattle.session_laws.specs.Rest.{AtRest, CountsJournal, LaneAsks, begun_of}
 use Rattle.session_laws.proofs.BudgetLaws.{idle_spends}
 use Rattle.session_model.specs.Turns.{none_begun}
 use Rattle.session_work.specs.declared.lanes.Lanes.{Lanes}
@@ -84,13 +84,13 @@ fresh_asks past lane = record {
 
 -- no lane has done anything, and nothing is granted, queued or unanswered
 pub record IsIdle (s : Setting) (past : List Entry) : Type 0 where
-  pub good : Good s past none_begun
+  pub good : IsCancellableRun s past none_begun
   pub settled : next_due s past ≡ None
-  pub unbegun : Unbegun s past
-  pub unsent : [] ≡ unsent past
+  pub unbegun : HasNoHistory s past
+  pub unsent : [] ≡ unsent_requests past
   pub free : (id : ℕ) → stand (λ p. false) (λ p. false) (id_state past id) ≡ None
-  pub unanswered : 0 ≡ unanswered past
-  pub awaited : 0 ≡ awaited past
+  pub unanswered : 0 ≡ count_unanswered past
+  pub awaited : 0 ≡ count_awaited past
 
 -- nothing is queued or unanswered, and the limits were taken where they are told
 record IsCalm (s : Setting) (t : Told) : Type 0 where
@@ -138,7 +138,8 @@ free_told : (b : Bool) (r : Reply) → stand (λ p. false) (λ p. false)
 free_told true r = refl
 free_told false r = refl
 
-limits_taken : (s : Setting) (r : Reply) → s.limits ≡ true → IsCalm s (told (entry.Event (Take 0 r) ∷ queried 0))
+limits_taken : (s : Setting) (r : Reply) → s.limits ≡ true →
+    IsCalm s (told (entry.Event (Take 0 r) ∷ limits_query_sent 0))
 limits_taken s r offered = record {
   ready = rw offered refl;
   unkept = refl;
@@ -162,21 +163,22 @@ core_idle s past options info core idle len calm = record {
 }
 
 counted : (s : Setting) (past bare : List Entry) (options : SftpOptions) (core : Core) → IsIdle s past
-    → IsOpen options core bare → Counted past core
+    → IsOpen options core bare → CountsJournal past core
 counted s past bare options core idle o =
     let waits : count is_waiting core.table + hello_of core.phase ≡ 0 = idle_unanswered options core bare o in
-    let sends : count is_sent core.table + (if core.hello_sent then hello_of core.phase else 0) ≡ 0 = idle_awaited options core bare o in
+    let sends : count is_sent core.table + (if core.hello_sent then hello_of core.phase else 0) ≡ 0 =
+    idle_awaited options core bare o in
     let w = idle.unanswered in
     let a = idle.awaited in
     record { waiting = omega (arith, waits, w); sent = omega (arith, sends, a) }
 
 -- its core keeps no id
 idle_all : (s : Setting) (past : List Entry) (options : SftpOptions) (info : Info) (core : Core) → core
-    ≡ idle_core options info → Spends s past core (λ lane. fresh_lane)
+    ≡ idle_core options info → KeepsIdBudget s past core (λ lane. fresh_lane)
 idle_all s past options info core calm =
     record {
-      each = λ lane lt. idle_spends s.facts (spending s past lane fresh_lane.running) refl;
-      few = (let none : kept core ≡ 0 = ap kept calm ∙ len-empty nat_cmp IdRecord in omega (arith, none));
+      each = λ lane lt. idle_spends s.facts (spending_of s past lane fresh_lane.running) refl;
+      few = (let none : kept_ids core ≡ 0 = ap kept_ids calm ∙ len-empty nat_cmp IdRecord in omega (arith, none));
     }
 
 -- a session whose lanes have done nothing is at rest
@@ -191,7 +193,7 @@ at_rest s past bare options info core states idle len calm o each =
         good = idle.good;
         due = start_dues s past idle.unbegun;
         tied = start_tied s past core idle.unbegun (core_idle s past options info core idle len calm)
-            (λ id. ap (λ (x : Core). at x id) calm ∙ get-empty nat_cmp id ∙ sym (idle.free id));
+            (λ id. ap (λ (x : Core). record_at x id) calm ∙ get-empty nat_cmp id ∙ sym (idle.free id));
         counted = counted s past bare options core idle o;
         spends = idle_all s past options info core calm;
         asks = λ lane lt. fresh_asks past lane;
@@ -203,7 +205,8 @@ at_rest s past bare options info core states idle len calm o each =
 
 -- a frame changes no lane
 pub still_untouched : (lanes : List Lane) (old new : Lanes) → new
-    ≡ record old { core = new.core; journal = new.journal } → asked (past_of new) ≡ asked (past_of old)
+    ≡ record old { core = new.core; journal = new.journal } → count_submitted (past_of new)
+    ≡ count_submitted (past_of old)
     → IsUntouched lanes old → IsUntouched lanes new
 still_untouched lanes old new is same u =
     record {
@@ -213,29 +216,33 @@ still_untouched lanes old new is same u =
     }
 
 -- and no more does what plans go by
-pub facts_untouched : (lanes : List Lane) (old : Lanes) (facts : Facts) → IsUntouched lanes old → IsUntouched lanes (record old { facts = facts })
+pub facts_untouched : (lanes : List Lane) (old : Lanes) (facts : Facts) → IsUntouched lanes old
+    → IsUntouched lanes (record old { facts = facts })
 facts_untouched lanes old facts u = record { asked = u.asked; count = u.count; each = u.each }
 
 -- what was told is what plans go by
 pub facts_told : (facts : Facts) (options : SftpOptions) (extensions : Extensions) (known : Option Info) (info : Info)
     → IfSome known (λ k. facts ≡ facts_by options extensions (Some k)) → known ≡ Some info → facts
     ≡ facts_by options extensions (Some info)
-facts_told facts options extensions known info told is = subst (λ (o : Option Info). IfSome o (λ k. facts ≡ facts_by options extensions (Some k))) is told
+facts_told facts options extensions known info told is = subst
+    (λ (o : Option Info). IfSome o (λ k. facts ≡ facts_by options extensions (Some k))) is told
 
 -- and plans may go by it
-pub fit_told : (facts : Facts) (known : Option Info) (info : Info) → IfSome known (λ k. FitsFacts facts) → known ≡ Some info → FitsFacts facts
+pub fit_told : (facts : Facts) (known : Option Info) (info : Info) → IfSome known (λ k. FitsFacts facts) → known
+    ≡ Some info → FitsFacts facts
 fit_told facts known info fit is = subst (λ (o : Option Info). IfSome o (λ k. FitsFacts facts)) is fit
 
 -- no lane has done anything, and this is known of the server
 pub opened_working : (lanes : List Lane) (options : SftpOptions) (version : Option Reply) (info : Info)
     (known : Option Info) (w : Lanes) (bare : List Entry) → HasCalls lanes w → known ≡ Some info → w.facts
-    ≡ facts_by options (offered version) (Some info) → FitsFacts w.facts → w.core ≡ idle_core options info
+    ≡ facts_by options (offered_extensions version) (Some info) → FitsFacts w.facts → w.core ≡ idle_core options info
     → IsQuiet bare → IsUntouched lanes w
     → IsIdle (setting_by lanes options version known) (past_of w) → IsInPhase lanes options version known w Open
 opened_working lanes options version info known w bare has is goes_by fit calm quiet u idle =
     let s : Setting = setting_by lanes options version known in
     let o : IsOpen options w.core bare = record { info = info; calm = calm; idle = quiet } in
-    let facts_are : s.facts ≡ facts_by options (offered version) (Some info) = ap (facts_by options (offered version)) is in
+    let facts_are : s.facts ≡ facts_by options (offered_extensions version) (Some info) =
+    ap (facts_by options (offered_extensions version)) is in
     record {
       stands = record {
         lanes = has.count;
@@ -246,17 +253,21 @@ opened_working lanes options version info known w bare has is goes_by fit calm q
         asked = u.asked;
         count = u.count;
       };
-      rest = at_rest s (past_of w) bare options info w.core w.states.items idle (ap (λ (f : Facts). f.read_len) facts_are) calm o u.each;
+      rest = at_rest s (past_of w) bare options info w.core w.states.items idle
+          (ap (λ (f : Facts). f.read_len) facts_are) calm o u.each;
     }
 
 -- what VERSION and the limits fix
 pub is_fixed : (lanes : List Lane) (options : SftpOptions) (extensions : Extensions) (limits : Option Limits)
-    (version : Option Reply) (known : Option Info) (past : List Entry) → version ≡ Some (greeting extensions)
-    → known ≡ Some (info_with extensions limits options) → limits ≡ limits_told (offers_limits extensions) (answer past 0)
+    (version : Option Reply) (known : Option Info) (past : List Entry) → version ≡ Some (version_reply_of extensions)
+    → known ≡ Some (info_with extensions limits options) → limits
+    ≡ limits_told (offers_limits extensions) (answer past 0)
     → IsFixed (record { lanes = lanes; options = options }) version past (setting_by lanes options version known)
 is_fixed lanes options extensions limits version known past told is same =
-    let by_limits : Option Limits → Setting = λ l. setting_by lanes options (Some (greeting extensions)) (Some (info_with extensions l options)) in
-    let first : setting_by lanes options version known ≡ by_limits limits = (λ i. setting_by lanes options (told i) (is i)) in
+    let by_limits : Option Limits → Setting = λ l. setting_by lanes options (Some (version_reply_of extensions))
+    (Some (info_with extensions l options)) in
+    let first : setting_by lanes options version known ≡ by_limits limits =
+    (λ i. setting_by lanes options (told i) (is i)) in
     (extensions, (told, first ∙ ap by_limits same))
 
 -- the limits of the reply to the query for them
@@ -270,7 +281,8 @@ no_reply false = refl
 
 -- what VERSION fixes while the limits are asked for
 pub asked_fixed : (lanes : List Lane) (options : SftpOptions) (extensions : Extensions) (version : Option Reply)
-    (known : Option Info) (past : List Entry) → version ≡ Some (greeting extensions) → known ≡ None → answer past 0 ≡ None
+    (known : Option Info) (past : List Entry) → version ≡ Some (version_reply_of extensions) → known ≡ None
+    → answer past 0 ≡ None
     → IsFixed (record { lanes = lanes; options = options }) version past (setting_by lanes options version known)
 asked_fixed lanes options extensions version known past told none is =
     let by_limits : Option Limits → Setting = λ l. record {
@@ -279,7 +291,8 @@ asked_fixed lanes options extensions version known past told none is =
       limits = offers_limits extensions;
       max_pending = options.max_pending_requests;
     } in
-    let first : setting_by lanes options version known ≡ by_limits None = (λ i. setting_by lanes options (told i) (none i)) in (
+    let first : setting_by lanes options version known ≡ by_limits None =
+    (λ i. setting_by lanes options (told i) (none i)) in (
       extensions,
       (
         told,
@@ -301,36 +314,41 @@ info_came options extensions core new read gives r is none t reads =
     let both : Ok t.reading ≡ Ok (Some 0, r) = sym t.reads ∙ reads in
     let reading : Read = (Some 0, r) in
     let same : t.reading ≡ reading = cc in
-    let right : take_refusal (handed_out (asked_core options extensions)) (Ok reading) ≡ None = (λ i. take_refusal (sym is i) (sym reads i)) ∙ none in
-    t.leaves ∙ (λ i. taken (is i) (same i)) ∙ limits_in_core options extensions 0 r (takes_limits options extensions 0 r right)
+    let right : take_refusal (handed_out (asked_core options extensions)) (Ok reading) ≡ None =
+    (λ i. take_refusal (sym is i) (sym reads i)) ∙ none in
+    t.leaves ∙ (λ i. core_after_reply (is i) (same i)) ∙ limits_in_core options extensions 0 r
+    (takes_limits options extensions 0 r right)
 
 -- the server doesn't tell its limits
 pub opens_at_once : (lanes : List Lane) (options : SftpOptions) (version : Option Reply) (known : Option Info)
-    (extensions : Extensions) (w : Lanes) → HasCalls lanes w → version ≡ Some (greeting extensions)
+    (extensions : Extensions) (w : Lanes) → HasCalls lanes w → version ≡ Some (version_reply_of extensions)
     → offers_limits extensions ≡ false → known ≡ Some (info_with extensions None options) → w.facts
-    ≡ facts_by options (offered version) (Some (info_with extensions None options)) → FitsFacts w.facts → w.core
+    ≡ facts_by options (offered_extensions version) (Some (info_with extensions None options)) → FitsFacts w.facts
+    → w.core
     ≡ idle_core options (info_with extensions None options) → told (past_of w) ≡ told [] → IsUntouched lanes w
     → IsIdleRun (setting_by lanes options version known) (past_of w) → IsInPhase lanes options version known w Open
 opens_at_once lanes options version known extensions w has version_is none is goes_by fit calm bare u unmoved =
     let s : Setting = setting_by lanes options version known in
-    opened_working lanes options version (info_with extensions None options) known w [] has is goes_by fit calm (inl refl) u
-    (idle s (past_of w) (told []) unmoved bare (nothing s (ap (λ v. offers_limits (offered v)) version_is ∙ none)))
+    opened_working lanes options version (info_with extensions None options) known w [] has is goes_by fit calm
+    (inl refl) u
+    (idle s (past_of w) (told []) unmoved bare (nothing s (ap (λ v. offers_limits (offered_extensions v)) version_is
+    ∙ none)))
 
 -- the server told its limits
 pub opens_told : (lanes : List Lane) (options : SftpOptions) (version : Option Reply) (known : Option Info)
     (extensions : Extensions) (limits : Option Limits) (r : Reply) (w : Lanes) → HasCalls lanes w
-    → version ≡ Some (greeting extensions) → offers_limits extensions ≡ true → known
-    ≡ Some (info_with extensions limits options) → w.facts ≡ facts_by options (offered version)
+    → version ≡ Some (version_reply_of extensions) → offers_limits extensions ≡ true → known
+    ≡ Some (info_with extensions limits options) → w.facts ≡ facts_by options (offered_extensions version)
     (Some (info_with extensions limits options))
     → FitsFacts w.facts → w.core ≡ idle_core options (info_with extensions limits options)
-    → told (past_of w) ≡ told (entry.Event (Take 0 r) ∷ queried 0) → IsUntouched lanes w
+    → told (past_of w) ≡ told (entry.Event (Take 0 r) ∷ limits_query_sent 0) → IsUntouched lanes w
     → IsIdleRun (setting_by lanes options version known) (past_of w) → IsInPhase lanes options version known w Open
 opens_told lanes options version known extensions limits r w has came_with some is goes_by fit calm past u unmoved =
     let s : Setting = setting_by lanes options version known in
     opened_working lanes options version (info_with extensions limits options) known w
-    (entry.Event (Take 0 r) ∷ queried 0) has is goes_by fit calm (inr (r, refl)) u
-    (idle s (past_of w) (told (entry.Event (Take 0 r) ∷ queried 0)) unmoved past
-    (limits_taken s r (ap (λ v. offers_limits (offered v)) came_with ∙ some)))
+    (entry.Event (Take 0 r) ∷ limits_query_sent 0) has is goes_by fit calm (inr (r, refl)) u
+    (idle s (past_of w) (told (entry.Event (Take 0 r) ∷ limits_query_sent 0)) unmoved past
+    (limits_taken s r (ap (λ v. offers_limits (offered_extensions v)) came_with ∙ some)))
 
 -- what was taken
 pub same_limits : (id k : ℕ) (r other : Reply) → taken_of.Limits id r ≡ taken_of.Limits k other → (id ≡ k) × (r ≡ other)
@@ -351,14 +369,17 @@ in_phase lanes options version known w phase other is e = subst (IsInPhase lanes
 pub open_count : (lanes : List Lane) (options : SftpOptions) (version : Option Reply) (known : Option Info) (w : Lanes)
     (phase : Phase) → IsSession lanes options version known w phase → phase ≡ Open → length w.calls ≡ length lanes
 open_count lanes options version known w phase is open_is =
-    let works : IsWorking (setting_by lanes options version known) w = in_phase lanes options version known w phase Open is open_is in works.stands.lanes
+    let works : IsWorking (setting_by lanes options version known) w =
+    in_phase lanes options version known w phase Open is open_is in works.stands.lanes
 
 -- and no grant of theirs is to be closed
-pub open_settled : (lanes : List Lane) (options : SftpOptions) (version : Option Reply) (known : Option Info) (w : Lanes)
+pub open_settled : (lanes : List Lane) (options : SftpOptions) (version : Option Reply) (known : Option Info)
+    (w : Lanes)
     (phase : Phase) → IsSession lanes options version known w phase → phase ≡ Open
     → next_due (setting_by lanes options version known) (past_of w) ≡ None
 open_settled lanes options version known w phase is open_is =
-    let works : IsWorking (setting_by lanes options version known) w = in_phase lanes options version known w phase Open is open_is in works.rest.settled
+    let works : IsWorking (setting_by lanes options version known) w =
+    in_phase lanes options version known w phase Open is open_is in works.rest.settled
 
 pub open_intact : (lanes : List Lane) (options : SftpOptions) (version : Option Reply) (known : Option Info) (w : Lanes)
     (phase : Phase) → IsSession lanes options version known w phase → phase ≡ Open → IsIntact (length w.calls) w

@@ -6,7 +6,7 @@ use Rattle.session_model.specs.declared.event.Event.TheVariants.{Submit, Send, T
 use Rattle.session_model.specs.declared.entry.Entry.{Entry}
 use Rattle.session_model.specs.declared.entry.Entry.TheVariants as entry
 use Rattle.session_model.specs.Ids.{IdState, Pending, id_state, now_replied, now_sent}
-use Rattle.session_model.specs.Readings.{AskedRequest, answer, asked, asked_at, bearer, is_at, sent, unsent, was_kept}
+use Rattle.session_model.specs.Readings.{AskedRequest, answer, count_submitted, asked_at, bearer, is_at, count_sent, unsent_requests, was_kept}
 use Rattle.sftp_lanes.specs.Seen.{without_lanes}
 
 -- what a journal says of its requests
@@ -22,12 +22,12 @@ pub record Told : Type 0 where
 
 abbrev pub told : List Entry → Told
 told past = record {
-  asked = asked past;
-  sent = sent past;
+  asked = count_submitted past;
+  sent = count_sent past;
   bearer = bearer past;
   answer = answer past;
   request = asked_at past;
-  unsent = unsent past;
+  unsent = unsent_requests past;
   state = id_state past;
   kept = was_kept past;
 }

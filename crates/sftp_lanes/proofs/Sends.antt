@@ -1,5 +1,5 @@
--- A session may go to another thread. What it keeps of the lanes that it was given is read by contracts alone, and that it
--- goes too is shown here; its other parts have lemmas of their own.
+-- A session may go to another thread. What it keeps of the lanes that it was given is read by contracts alone, and that
+-- it goes too is shown here; its other parts have lemmas of their own.
 use denote.Param.Send.{IsSend, sendable}
 use Rattle.std.proofs.Crossing.{crosses}
 use Rattle.sftp_lanes.specs.contracts.given.GivenLanes as of_given

@@ -13,21 +13,27 @@ use Rattle.session_model.specs.declared.event.Owner.TheVariants as owner
 use Rattle.session_model.specs.declared.entry.Entry.{Entry}
 use Rattle.session_model.specs.declared.entry.Entry.TheVariants as entry
 use Rattle.session_model.specs.Calls.{Setting, current, site_of}
-use Rattle.session_model.specs.Grants.{closed, first_let_go, letting_go, next_due}
+use Rattle.session_model.specs.Grants.{closed_grants, first_let_go, letting_go, next_due}
 use Rattle.session_model.specs.Journals.{IsFree, MayTake}
-use Rattle.session_model.specs.Readings.{asked, sent, was_kept, was_let_go}
+use Rattle.session_model.specs.Readings.{count_submitted, count_sent, was_kept, was_let_go}
 use Rattle.session_model.proofs.CallLaws.{may_next}
-use Rattle.session_laws.specs.Changes.{Unbegun}
+use Rattle.session_laws.specs.Changes.{HasNoHistory}
 use Rattle.session_laws.proofs.DueLaws.{none_next}
 use Rattle.session_laws.proofs.StartLaws.{start_dues, unbegun_added, unbegun_send, unbegun_setup, unbegun_start, unbegun_take}
 use Rattle.sftp_lanes.specs.Seen.{IsIdleRun}
 
 -- nothing is to be closed
-plain : (s : Setting) (past : List Entry) → letting_go s past ≡ None → Unbegun s past → next_due s past ≡ None
+plain : (s : Setting) (past : List Entry) → letting_go s past ≡ None → HasNoHistory s past → next_due s past ≡ None
 plain s past letting u = none_next s past letting (start_dues s past u)
 
 pub unmoved_start : (s : Setting) → IsIdleRun s []
-unmoved_start s = record { run = tt; calm = refl; settled = plain s [] refl (unbegun_start s); unbegun = unbegun_start s }
+unmoved_start s = record {
+  run = tt;
+  calm = refl;
+  settled = plain s [] refl (unbegun_start s);
+  unbegun =
+      unbegun_start s;
+}
 
 pub unmoved_added : (s : Setting) (past : List Entry) (lane : ℕ) (c : Call) → lane < length s.lanes
     → was_let_go past lane ≡ false → is_within c ≡ true → IsIdleRun s past → IsIdleRun s (entry.Added lane c ∷ past)
@@ -40,12 +46,20 @@ unmoved_added s past lane c lt held within u =
       unbegun = begun;
     }
 
-unbegun_let_go : (s : Setting) (past : List Entry) (l : ℕ) → Unbegun s past → Unbegun s (entry.LetGo l ∷ past)
+unbegun_let_go : (s : Setting) (past : List Entry) (l : ℕ) → HasNoHistory s past → HasNoHistory s (entry.LetGo l ∷ past)
 unbegun_let_go s past l u =
-    record { ends = u.ends; owns = u.owns; asks = u.asks; site = λ lane. by_test lane (l == lane); ungranted = u.ungranted }
+    record {
+      ends = u.ends;
+      owns = u.owns;
+      asks = u.asks;
+      site = λ lane. by_test lane (l == lane);
+      ungranted =
+          u.ungranted;
+    }
   where
     by_test : (lane : ℕ) (b : Bool) → (if b then
-        record { slots = fresh_site.slots; directory = (site_of s past lane).directory } else site_of s past lane) ≡ fresh_site
+        record { slots = fresh_site.slots; directory = (site_of s past lane).directory } else site_of s past lane)
+        ≡ fresh_site
     by_test lane true = ap (λ (x : Site). record { slots = fresh_site.slots; directory = x.directory }) (u.site lane)
     by_test lane false = u.site lane
 
@@ -55,11 +69,13 @@ unmoved_let_go s past lane lt done held u =
     record {
       run = (may_next s past (entry.LetGo lane) u.calm u.settled (lt, done, held), u.run);
       calm = refl;
-      settled = ap (λ (x : Site). first_let_go (closed s (entry.LetGo lane ∷ past)) x.slots) (u.unbegun.site lane);
+      settled = ap (λ (x : Site). first_let_go (closed_grants s (entry.LetGo lane ∷ past)) x.slots)
+          (u.unbegun.site lane);
       unbegun = unbegun_let_go s past lane u.unbegun;
     }
 
-pub unmoved_setup : (s : Setting) (past : List Entry) → s.limits ≡ true → asked past ≡ 0 → IsFree past 0 → IsIdleRun s past
+pub unmoved_setup : (s : Setting) (past : List Entry) → s.limits ≡ true → count_submitted past ≡ 0 → IsFree past 0
+    → IsIdleRun s past
     → IsIdleRun s (entry.Event (Submit owner.Setup 0 request.LimitsQuery) ∷ past)
 unmoved_setup s past offers none free u =
     let e : Entry = entry.Event (Submit owner.Setup 0 request.LimitsQuery) in
@@ -71,7 +87,7 @@ unmoved_setup s past offers none free u =
       unbegun = begun;
     }
 
-pub unmoved_send : (s : Setting) (past : List Entry) → sent past < asked past → IsIdleRun s past
+pub unmoved_send : (s : Setting) (past : List Entry) → count_sent past < count_submitted past → IsIdleRun s past
     → IsIdleRun s (entry.Event Send ∷ past)
 unmoved_send s past less u =
     let begun = unbegun_send s past u.unbegun in

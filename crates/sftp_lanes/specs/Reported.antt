@@ -1,4 +1,4 @@
--- What the report of a whole run of lanes says.
+-- The report of a whole run of lanes.
 use Rattle.std.specs.Prelude.{◌≡◌, List, length, Option, Some}
 use Rattle.sftp_model.specs.declared.config.Choice.{Choice}
 use Rattle.sftp_model.specs.declared.config.ServerConfig.{ServerConfig}
@@ -7,7 +7,7 @@ use Rattle.machine_model.specs.Changes.{IsWellFormed}
 use Rattle.machine_model.specs.FileTree.{FileTree}
 use Rattle.sftp_model.specs.declared.options.SftpOptions.{SftpOptions}
 use Rattle.sftp_link.specs.declared.piece.Piece.{Piece}
-use Rattle.sftp_link.specs.Told.{Told}
+use Rattle.sftp_link.specs.Told.{IfLogged}
 use Rattle.plan_model.specs.declared.call.Lane.{Lane}
 use Rattle.session_model.specs.declared.entry.Entry.{Entry}
 use Rattle.session_model.specs.declared.report.Report.{Report}
@@ -16,29 +16,29 @@ use Rattle.session_model.specs.Calls.{Setting}
 use Rattle.session_model.specs.Closes.{AreClosed}
 use Rattle.session_model.specs.Readings.{outcomes_below, trace_of}
 use Rattle.session_model.specs.Runs.{IsRun}
-use Rattle.session_model.specs.Served.{Serves}
-use Rattle.session_model.specs.Settings.{greeting, setting_of}
-use Rattle.session_model.specs.Shown.{Shows}
+use Rattle.session_model.specs.Served.{ServesJournal}
+use Rattle.session_model.specs.Settings.{version_reply_of, setting_of}
+use Rattle.session_model.specs.Shown.{ShowsExchange}
 use Rattle.run_laws.specs.KeepsFiles.{KeepsFiles}
 
--- Where the replies are those of a file machine, what was written is read back and is left.
+-- If the replies are those of a file machine, the bytes that were written are read back and remain.
 abbrev pub KeepsServed : List Lane → Setting → List Entry → Type 0
 KeepsServed lanes s past =
     (config : ServerConfig) (choices : List Choice) (tree left : FileTree) → IsWellFormed tree
-    → Serves config choices tree past left
+    → ServesJournal config choices tree past left
     → KeepsFiles lanes config choices tree s past left (outcomes_below past (length lanes))
 
--- The report is that of a run of the lanes under these turns, which the link's log shows where it tells one. Each
--- handle was closed exactly as often as it was granted. Where the replies are those of a file machine, what was written
--- is read back and is left.
+-- The report is that of a run of the lanes under these turns, which the link's log shows if it reports one. Each handle
+-- was closed exactly as often as it was granted. If the replies are those of a file machine, the bytes that were
+-- written are read back and remain.
 pub record IsReport (lanes : List Lane) (options : SftpOptions) (schedule : List Turn)
     (before after : Option (List Piece)) (report : Report) : Type 0 where
   pub extensions : Extensions
   pub past : List Entry
   pub run : IsRun (setting_of lanes options extensions past) schedule past
-  pub hello : report.hello ≡ Some (greeting extensions)
+  pub hello : report.hello ≡ Some (version_reply_of extensions)
   pub trace : report.trace ≡ trace_of past
   pub outcomes : report.outcomes ≡ outcomes_below past (length lanes)
   pub closed : AreClosed past
-  pub log : Told (Shows (greeting extensions) past) before after
+  pub log : IfLogged (ShowsExchange (version_reply_of extensions) past) before after
   pub files : KeepsServed lanes (setting_of lanes options extensions past) past

@@ -1,4 +1,4 @@
--- Links to a server of files, by what their logs tell.
+-- Links to a server of files, according to their logs.
 use Rattle.std.specs.Prelude.{List}
 use Rattle.sftp_model.specs.declared.config.Choice.{Choice}
 use Rattle.sftp_model.specs.declared.config.ServerConfig.{ServerConfig}
@@ -10,16 +10,15 @@ use Rattle.plan_model.specs.declared.call.Lane.{Lane}
 use Rattle.session_model.specs.declared.entry.Entry.{Entry}
 use Rattle.session_model.specs.declared.turn.Turn.{Turn}
 use Rattle.session_model.specs.Runs.{IsRun}
-use Rattle.session_model.specs.Served.{Serves}
-use Rattle.session_model.specs.Settings.{greeting, setting_of}
-use Rattle.session_model.specs.Shown.{Shows}
+use Rattle.session_model.specs.Served.{ServesJournal}
+use Rattle.session_model.specs.Settings.{version_reply_of, setting_of}
+use Rattle.session_model.specs.Shown.{ShowsExchange}
 
--- A link served files from a tree to a tree, under these choices: of each run of the lanes that its log shows since it
--- was
--- `before`, the replies are those of the file machine.
+-- A link served files from one tree to another, under these choices: for each run of the lanes that its log shows since
+-- it was `before`, the replies are those of the file machine.
 abbrev pub ServesFiles : List Lane → SftpOptions → ServerConfig → List Choice → FileTree → FileTree → List Piece
     → List Piece → Type 0
 ServesFiles lanes options config choices tree left before log =
     (extensions : Extensions) (turns : List Turn) (past : List Entry)
     → IsRun (setting_of lanes options extensions past) turns past
-    → Shows (greeting extensions) past before log → Serves config choices tree past left
+    → ShowsExchange (version_reply_of extensions) past before log → ServesJournal config choices tree past left

@@ -1,8 +1,8 @@
-// What a session does by itself: the calls of its lanes, and what it hands out and takes in each phase.
+//! Calls of a session's lanes, and the frames that it hands out and takes in each phase.
 ghost use Rattle.std.specs.Prelude.{◌≡◌, None, IfOk, IfErr, MatchBool, OnErr, OnOk, false, length, nat_lt, true};
 ghost use Rattle.std.specs.Option.{option_map};
 ghost use Rattle.sftp_core.specs.Take.{IsFirst};
-ghost use Rattle.sftp_model.specs.Pieces.{joined};
+ghost use Rattle.sftp_model.specs.Pieces.{joined_pieces};
 ghost use Rattle.sftp_model.specs.ReplyReadings.{reply_at};
 ghost use Rattle.session_model.specs.Calls.{current};
 ghost use Rattle.session_model.specs.Readings.{was_let_go};
@@ -17,7 +17,7 @@ use session_driver::{Phase, Stepped};
 use sftp_core::{Chunk, TakeError};
 use ssh_encoding::OutOfMemory;
 
-/// What a call of the lanes answers; where it was refused, the session has failed.
+/// Returns the result of a call of the lanes; after an error, the session has failed.
 pub(crate) fn keep<T, E>(phase: &mut Phase, answer: Result<T, E>) -> Result<T, E>
     ensures answer { result ≡ answer }
     ensures ok { OnOk answer (phase.new ≡ phase.old) }
@@ -30,8 +30,12 @@ pub(crate) fn keep<T, E>(phase: &mut Phase, answer: Result<T, E>) -> Result<T, E
 }
 
 impl Session {
-    /// One step of a lane: its call's next request, or its end, or nothing, as before the session is open. Refused for want of memory:
-    /// the calls and the journal are as before then, and each later call is refused so.
+    /// Makes one step of a lane: its call's next request, or its end, or nothing, as before the session is open.
+    ///
+    /// # Errors
+    ///
+    /// `OutOfMemory` if an allocation fails: the calls and the journal are unchanged then, and each later call fails in
+    /// the same way.
     pub fn step(&mut self, lane: u32) -> Result<Stepped, OutOfMemory>
         ensures steps { IfOk result (λ event. StepsIn self.old.phase lane self.old self.new event) }
         ensures left { OnErr result (HasFailed self.old self.new) }
@@ -47,8 +51,12 @@ impl Session {
         }
     }
 
-    /// Cancels the call of a lane that was begun, and answers whether it was. Refused for want of memory: the calls and the journal
-    /// are as before then, and each later call is refused so.
+    /// Cancels the call of a lane that was started. Returns true if it was.
+    ///
+    /// # Errors
+    ///
+    /// `OutOfMemory` if an allocation fails: the calls and the journal are unchanged then, and each later call fails in
+    /// the same way.
     pub fn cancel(&mut self, lane: u32) -> Result<bool, OutOfMemory>
         ensures cancels { IfOk result (λ event. CancelsIn self.old.phase lane self.old self.new event) }
         ensures left { OnErr result (HasFailed self.old self.new) }
@@ -64,8 +72,12 @@ impl Session {
         }
     }
 
-    /// Lets go of all that the slots of a lane hold that has no call left and was not let go, where the lane is there. Refused for
-    /// want of memory: the calls and the journal are as before then, and each later call is refused so.
+    /// Releases all that the slots of a lane hold, if the lane exists. The lane has no call left and was not released.
+    ///
+    /// # Errors
+    ///
+    /// `OutOfMemory` if an allocation fails: the calls and the journal are unchanged then, and each later call fails in
+    /// the same way.
     pub fn let_go(&mut self, lane: u32) -> Result<(), OutOfMemory>
         requires done { current (setting_at self.old) (past_of self.old.work) lane ≡ None }
         requires held { was_let_go (past_of self.old.work) lane ≡ false }
@@ -82,7 +94,8 @@ impl Session {
         }
     }
 
-    /// Notes that a lane is let go before the session is open, where it is there: it holds nothing. Refused for want of memory.
+    /// Records the release of a lane before the session is open, if the lane exists: it holds nothing. Fails if an
+    /// allocation fails.
     fn let_idle_go(&mut self, lane: u32) -> Result<(), OutOfMemory>
         requires opens { is_opening self.old.phase ≡ true }
         requires done { current (setting_at self.old) (past_of self.old.work) lane ≡ None }
@@ -97,18 +110,18 @@ impl Session {
         keep(&mut self.phase, gone)
     }
 
-    /// The frames of all unsent requests of an open session. Refused for want of memory.
+    /// Returns the frames of all unsent requests of an open session. Fails if an allocation fails.
     pub(crate) fn hand_out_unsent(&mut self) -> Result<Option<Chunk>, OutOfMemory>
         requires open { self.old.phase ≡ phases.Open }
-        ensures hands_out { IfOk result (λ chunk. LanesDid (λ s before after. HandsAll s before after (option_map joined chunk)) self.old self.new) }
+        ensures hands_out { IfOk result (λ chunk. LanesDid (λ s before after. HandsAll s before after (option_map joined_pieces chunk)) self.old self.new) }
         ensures left { OnErr result (HasFailed self.old self.new) }
     {
         let chunk = self.work.hand_out();
         keep(&mut self.phase, chunk)
     }
 
-    /// Takes the body of a frame into an open session. Refused by the first thing that is wrong with it, which is kept, or for want of
-    /// memory.
+    /// Takes the body of a frame into an open session. Fails with the first thing that is wrong with it, which is
+    /// recorded, or if an allocation fails.
     pub(crate) fn take_reply(&mut self, body: &[u8]) -> Result<(), TakeError>
         requires open { self.old.phase ≡ phases.Open }
         ensures takes { OnOk result (LanesDid (λ s before after. TakesBody s (reply_at body.now) before after) self.old self.new) }
@@ -121,11 +134,15 @@ impl Session {
 }
 
 impl Session {
-    /// The frames that are to be sent next: the hello, then the query for limits where the server offers them, and then those of all
-    /// unsent requests. None where nothing is unsent, and while VERSION or the limits are awaited. Refused for want of memory: the
-    /// calls and the journal are as before then, and each later call is refused so.
+    /// Returns the frames to send next: the hello, then the query for limits if the server offers them, and then those
+    /// of all unsent requests. Returns `None` if nothing is unsent, and while VERSION or the limits are awaited.
+    ///
+    /// # Errors
+    ///
+    /// `OutOfMemory` if an allocation fails: the calls and the journal are unchanged then, and each later call fails in
+    /// the same way.
     pub fn hand_out(&mut self) -> Result<Option<Chunk>, OutOfMemory>
-        ensures hands_out { IfOk result (λ chunk. HandsOutIn self.old.phase self.old self.new (option_map joined chunk)) }
+        ensures hands_out { IfOk result (λ chunk. HandsOutIn self.old.phase self.old self.new (option_map joined_pieces chunk)) }
         ensures left { OnErr result (HasFailed self.old self.new) }
         ensures some { OnErr result (takes_memory self.old.phase ≡ true) }
     {
@@ -145,16 +162,20 @@ impl Session {
         }
     }
 
-    /// Takes a chunk back that was handed out, so that its list is used for the next one. It changes nothing else.
+    /// Takes back a chunk that was handed out, so that its list is used for the next one. It changes nothing else.
     pub fn give_back(&mut self, chunk: Chunk)
         ensures { self.new ≡ self.old }
     {
         self.work.core.give_back(chunk);
     }
 
-    /// Takes the body of a frame that came: VERSION, then the reply to the query for limits where it was made, and then the replies to
-    /// requests; while the query stands in the queue each frame is refused. Refused by the first thing that is wrong with it, which is
-    /// kept, or for want of memory. After want of memory each later call is refused so.
+    /// Takes the body of a frame that came: VERSION, then the reply to the query for limits if it was made, and then
+    /// the replies to requests. While the query is in the queue each frame is refused.
+    ///
+    /// # Errors
+    ///
+    /// The first thing that is wrong with the frame, which is recorded, or `OutOfMemory` if an allocation fails. After
+    /// `OutOfMemory` each later call fails in the same way.
     pub fn take(&mut self, body: &[u8]) -> Result<(), TakeError>
         requires unfailed { self.old.work.core.fault ≡ None }
         requires sent { takes_frames self.old.phase ≡ true }
@@ -175,7 +196,7 @@ impl Session {
         }
     }
 
-    /// Whether a frame may be taken: the hello was handed out.
+    /// Returns true if a frame may be taken: the hello was handed out.
     pub fn takes_frames(&self) -> bool
         ensures { result ≡ takes_frames self.now.phase }
     {

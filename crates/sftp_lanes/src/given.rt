@@ -1,4 +1,4 @@
-// The lanes that a session was given.
+//! The lanes that a session was given.
 ghost use Rattle.std.specs.Prelude.{◌≡◌, ◌<◌, ◌^◌, length};
 
 use session_model::Lane;
@@ -7,10 +7,12 @@ use std::marker::Model;
 use std::snapshot::Snapshot;
 
 /// The lanes that a session was given. Only their count is kept; a contract sees the lanes themselves.
+///
+/// Used in `crates/sftp_lanes/src/session.rt`.
 #[derive(Drop)]
 pub struct GivenLanes {
     count: u32,
-    // What clauses alone read.
+    // Read by clauses alone.
     lanes: Snapshot<Items<Lane>>,
 }
 
@@ -26,7 +28,7 @@ impl Model for GivenLanes {
 }
 
 impl GivenLanes {
-    /// What is kept of these lanes.
+    /// Returns the record of these lanes.
     pub fn of(lanes: &Items<Lane>) -> GivenLanes
         requires { length lanes.now < 2 ^ 32 }
         ensures { result ≡ lanes.now }
@@ -37,7 +39,7 @@ impl GivenLanes {
         }
     }
 
-    /// How many there are.
+    /// Returns how many lanes there are.
     pub fn count(&self) -> u32
         ensures { result ≡ length self.now }
     {

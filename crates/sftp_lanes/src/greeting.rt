@@ -1,7 +1,7 @@
-// How a session opens: the hello and its VERSION, and the query for limits.
+//! The opening of a session: the hello and its VERSION, and the query for limits.
 ghost use Rattle.std.specs.Prelude.{◌≡◌, IfOk, IfErr, OnErr, OnOk};
 ghost use Rattle.sftp_core.specs.Take.{IsFirst};
-ghost use Rattle.sftp_model.specs.Pieces.{joined};
+ghost use Rattle.sftp_model.specs.Pieces.{joined_pieces};
 ghost use Rattle.sftp_model.specs.ReplyReadings.{reply_at};
 ghost use Rattle.session_model.specs.Readings.{unsent_bytes};
 ghost use Rattle.session_model.specs.Shown.{hello_frame};
@@ -18,10 +18,10 @@ use sftp_core::{Chunk, TakeError, Taken};
 use ssh_encoding::OutOfMemory;
 
 impl Session {
-    /// Hands the hello out. Refused for want of memory.
+    /// Hands the hello out. Fails if an allocation fails.
     pub(crate) fn hand_hello(&mut self) -> Result<Chunk, OutOfMemory>
         requires fresh { self.old.phase ≡ phases.Fresh }
-        ensures hello { IfOk result (λ chunk. joined chunk ≡ hello_frame) }
+        ensures hello { IfOk result (λ chunk. joined_pieces chunk ≡ hello_frame) }
         ensures hands { OnOk result (HandsHello self.old self.new) }
         ensures left { OnErr result (HasFailed self.old self.new) }
     {
@@ -37,8 +37,8 @@ impl Session {
         }
     }
 
-    /// Takes the body of VERSION, and answers whether the limits are to be asked for. Refused by the first thing that is wrong with it,
-    /// which is kept, or for want of memory.
+    /// Takes the body of VERSION. Returns true if the limits are to be asked for. Fails with the first thing that is
+    /// wrong with it, which is recorded, or if an allocation fails.
     pub(crate) fn take_hello(&mut self, body: &[u8]) -> Result<bool, TakeError>
         requires greeted { self.old.phase ≡ phases.Greeted }
         ensures takes { IfOk result (λ asks. TakesVersion (reply_at body.now) asks self.old self.new) }
@@ -67,8 +67,8 @@ impl Session {
         }
     }
 
-    /// Refuses a frame that comes while the query for limits is unsent, since none may come then: by the first thing that is wrong with
-    /// it, which is kept, or for want of memory.
+    /// Refuses a frame that comes while the query for limits is unsent, since none may come then. The error is the
+    /// first thing that is wrong with it, which is recorded, or `OutOfMemory` if an allocation fails.
     pub(crate) fn refuse_reply(&mut self, body: &[u8]) -> TakeError
         requires asking { self.old.phase ≡ phases.Asking }
         ensures refused { IsFirst result (refuses (past_of self.old.work) (reply_at body.now)) }
@@ -83,10 +83,10 @@ impl Session {
         }
     }
 
-    /// Hands the query for limits out. Refused for want of memory.
+    /// Hands the query for limits out. Fails if an allocation fails.
     pub(crate) fn hand_query(&mut self) -> Result<Chunk, OutOfMemory>
         requires asking { self.old.phase ≡ phases.Asking }
-        ensures query { IfOk result (λ chunk. joined chunk ≡ unsent_bytes (past_of self.old.work)) }
+        ensures query { IfOk result (λ chunk. joined_pieces chunk ≡ unsent_bytes (past_of self.old.work)) }
         ensures hands { OnOk result (HandsQuery self.old self.new) }
         ensures left { OnErr result (HasFailed self.old self.new) }
     {
@@ -107,8 +107,8 @@ impl Session {
         }
     }
 
-    /// Takes the body of the reply to the query for limits. Refused by the first thing that is wrong with it, which is kept, or for want
-    /// of memory.
+    /// Takes the body of the reply to the query for limits. Fails with the first thing that is wrong with it, which is
+    /// recorded, or if an allocation fails.
     pub(crate) fn take_told(&mut self, body: &[u8]) -> Result<(), TakeError>
         requires queried { self.old.phase ≡ phases.Queried }
         ensures takes { OnOk result (TakesLimits (reply_at body.now) self.old self.new) }

@@ -1,4 +1,4 @@
-// Laws of the definitions. The functions do nothing: what they ensure holds of all values.
+//! Laws of the definitions. The functions do nothing: their postconditions hold of all values.
 ghost use Rattle.std.specs.Prelude.{List, Some};
 ghost use Rattle.sftp_model.specs.declared.options.SftpOptions.{SftpOptions};
 ghost use Rattle.sftp_model.specs.declared.config.Choice.{Choice};
@@ -14,8 +14,8 @@ ghost use Rattle.run_laws.specs.KeepsFiles.{KeepsFiles};
 ghost use Rattle.sftp_lanes.specs.Reported.{IsReport};
 ghost use Rattle.sftp_lanes.specs.ServesFiles.{ServesFiles};
 
-/// What `run_lanes` reports of a run over a link that served files, as its log tells, gives what was written, and the files are
-/// left so.
+/// If `run_lanes` reports a run over a link that served files, according to its log, the report has what was written,
+/// and the files are left so.
 pub fn serving_links_keep_files()
     ensures { (lanes : List Lane) (options : SftpOptions) (schedule : List Turn) (before log : List Piece) (report : Report)
         (config : ServerConfig) (choices : List Choice) (tree left : FileTree)

@@ -1,4 +1,4 @@
-// A session of lanes: its opening, and each call of its lanes.
+//! Sessions of lanes: the opening, and each call of the lanes.
 ghost use Rattle.std.specs.Prelude.{◌≡◌, ◌≢◌, [], None, Some, true, IfOk, MatchBool, reverse, ◌<◌, ◌≤◌, false, length, OnErr, OnOk, vec_capacity};
 ghost use Rattle.std.specs.Option.{unwrap_or};
 ghost use Rattle.sftp_core.specs.Core.{failed_with};
@@ -11,7 +11,7 @@ ghost use Rattle.session_driver.specs.declared.session.Phase.TheVariants as phas
 ghost use Rattle.sftp_lanes.specs.Adding.{AddsCall, CanAdd, CannotAdd, IsSame};
 ghost use Rattle.session_driver.specs.Adding.{with_call};
 ghost use Rattle.session_driver.specs.Session.{IsFixed};
-ghost use Rattle.sftp_lanes.specs.Seen.{HasCalls, IsNew, Reports, given_of, is_opening, setting_at};
+ghost use Rattle.sftp_lanes.specs.Seen.{HasCalls, IsNew, ReportsSession, given_of, is_opening, setting_at};
 ghost use Rattle.session_work.specs.SoFar.{kept_in, kept_past};
 ghost use Rattle.session_work.specs.Working.{past_of};
 
@@ -27,9 +27,11 @@ use std::alloc::Global;
 use std::marker::Model;
 
 /// A session that runs the lanes that it was given, and the calls that are added to them. After an error of `step`,
-/// `cancel`, `let_go`, `hand_out` or `take` no call of its lanes can be made any more, and it tells what happened still.
-/// Its journal is a run so far in every phase, and has the kept fault. Dropped, it lets all go that its lanes hold, and
-/// sends nothing.
+/// `cancel`, `let_go`, `hand_out` or `take` no call of its lanes can be made any more, but it still reports what
+/// happened. Its journal is a run so far in every phase, and has the recorded fault. When it is dropped, it releases
+/// all that its lanes hold, and sends nothing.
+///
+/// Example: `crates/test_session/src/lanes.rt`.
 #[derive(Drop)]
 pub struct Session {
     pub(crate) alloc: Global,
@@ -56,7 +58,11 @@ impl Model for Session {
 }
 
 impl Session {
-    /// A session whose hello stands in the queue. Refused for want of memory.
+    /// Returns a session with its hello in the queue.
+    ///
+    /// # Errors
+    ///
+    /// `OutOfMemory` if an allocation fails.
     pub fn new(alloc: Global, lanes: &[Lane], options: &SftpOptions) -> Result<Session, OutOfMemory>
         requires { are_ok lanes.now ≡ true }
         ensures { IfOk result (λ session. IsNew lanes.now options.now session) }
@@ -74,7 +80,7 @@ impl Session {
         })
     }
 
-    /// What VERSION and the limits told of the server: nothing before the session is open.
+    /// Returns what VERSION and the limits reported of the server, or `None` before the session is open.
     pub fn info(&self) -> Option<Info>
         ensures value { result ≡ self.now.info }
         ensures told { self.now.phase ≡ phases.Open → result ≢ None }
@@ -83,7 +89,7 @@ impl Session {
         self.info
     }
 
-    /// The kept fault, which is the first one. The journal has its entry exactly where one is kept.
+    /// Returns the recorded fault, which is the first one. The journal has its entry exactly if one is recorded.
     pub fn fault(&self) -> Option<Fault>
         ensures value { result ≡ self.now.work.core.fault }
         ensures entry { result ≡ kept_in (past_of self.now.work) }
@@ -91,8 +97,8 @@ impl Session {
         self.work.core.fault()
     }
 
-    /// What happened so far, the first entry first: a run so far in every phase, of the setting that VERSION and the limits
-    /// fix. While the session is open, no grant is to be closed.
+    /// Returns the journal so far, the first entry first: a run so far in every phase, of the setting that VERSION and
+    /// the limits fix. While the session is open, no grant is to be closed.
     pub fn journal(&self) -> &[Entry]
         ensures value { reverse result.now ≡ past_of self.now.work }
         ensures so_far { IsJournal (setting_at self.now) (past_of self.now.work) }
@@ -102,28 +108,28 @@ impl Session {
         self.work.journal.as_slice()
     }
 
-    /// The outcomes of the calls of a lane that have ended, in their order; none where the lane isn't there.
+    /// Returns the outcomes of the calls of a lane that have ended, in their order; none if the lane doesn't exist.
     pub fn outcomes(&self, lane: u32) -> &[Outcome]
         ensures { result.now ≡ of_lane (past_of self.now.work) lane }
     {
         self.work.outcomes(lane)
     }
 
-    /// Whether a lane was let go.
+    /// Returns true if a lane was released.
     pub fn was_let_go(&self, lane: u32) -> bool
         ensures { result ≡ was_let_go (past_of self.now.work) lane }
     {
         self.work.was_let_go(lane)
     }
 
-    /// How far its opening has come.
+    /// Returns the phase of the session's opening.
     pub fn phase(&self) -> Phase
         ensures { result ≡ self.now.phase }
     {
         self.phase
     }
 
-    /// The calls of each lane: those that it was given, and then those that were added.
+    /// Returns the calls of each lane: those that it was given, and then those that were added.
     pub fn calls(&self) -> &[Lane]
         ensures value { result.now ≡ self.now.work.calls }
         ensures each { HasCalls self.now.lanes self.now.work }
@@ -131,8 +137,8 @@ impl Session {
         self.work.calls.as_slice()
     }
 
-    /// Whether a call may be put behind those of a lane: the lane is there and was not let go, and the lanes with the call
-    /// are ones that a session can be given, as `lanes_ok` tells of them. Nothing is copied.
+    /// Returns true if a call may be appended to those of a lane: the lane exists and was not released, and the lanes
+    /// with the call are ones that a session can be given, as `lanes_ok` decides for them. Nothing is copied.
     pub fn can_add(&self, lane: u32, call: &Call) -> bool
         ensures { MatchBool result (CanAdd lane call.now self.now) (CannotAdd lane call.now self.now) }
     {
@@ -142,9 +148,14 @@ impl Session {
         self.work.calls.may_have(call)
     }
 
-    /// Puts a call behind those of a lane that is there and was not let go, and notes it in the journal. Before the session
-    /// is open the call waits for a later step. `can_add` tells whether a session can have its lanes with the call. Refused for want of memory, as always once the session has failed; nothing has changed then, and a session
-    /// goes on.
+    /// Appends a call to those of an existing lane that was not released, and records it in the journal. Before the
+    /// session is open the call waits for a later step. `can_add` returns true if a session can have its lanes with the
+    /// call.
+    ///
+    /// # Errors
+    ///
+    /// `OutOfMemory` if an allocation fails, and always once the session has failed. Nothing has changed then, and the
+    /// session continues.
     pub fn push_call(&mut self, lane: u32, call: Call) -> Result<(), OutOfMemory>
         requires there { lane < length self.old.work.calls }
         requires held { was_let_go (past_of self.old.work) lane ≡ false }
@@ -158,8 +169,8 @@ impl Session {
         }
     }
 
-    /// Keeps a fault, also as the last entry of the journal; where one is kept already, that one stays, and nothing is
-    /// added. No call of the lanes can be made any more. Takes no memory.
+    /// Records a fault, also as the last entry of the journal; if one is recorded already, that one stays, and nothing
+    /// is added. No call of the lanes can be made any more. No memory is allocated.
     pub fn fail(&mut self, fault: Fault)
         ensures rest { self.new ≡ record self.old {
           phase = phases.Failed;
@@ -173,28 +184,32 @@ impl Session {
         self.phase = Phase::Failed;
     }
 
-    /// Fails the session for want of memory, as where a link found none: no call of the lanes can be made any more. Nothing
-    /// is added to the journal.
+    /// Fails the session for lack of memory, as when a link runs out of it: no call of the lanes can be made any more.
+    /// Nothing is added to the journal.
     pub fn give_up(&mut self)
         ensures { self.new ≡ record self.old { phase = phases.Failed } }
     {
         self.phase = Phase::Failed;
     }
 
-    /// Ends the session, and reports what it did. Refused for want of memory. Nothing is sent.
+    /// Ends the session, and reports what it did. Nothing is sent.
+    ///
+    /// # Errors
+    ///
+    /// `OutOfMemory` if an allocation fails.
     pub fn into_report(self) -> Result<Report, OutOfMemory>
-        ensures { IfOk result (λ report. Reports self report) }
+        ensures { IfOk result (λ report. ReportsSession self report) }
     {
         let trace = Vec::with_capacity(self.alloc, self.journal().len())?;
         Ok(self.report_into(trace))
     }
 
-    /// Ends the session, and reports what it did, its events in an empty list that has room for the journal. Takes no memory. Nothing is
-    /// sent.
+    /// Ends the session, and reports what it did, with its events in an empty list that has room for the journal. No
+    /// memory is allocated. Nothing is sent.
     pub fn report_into(self, trace: Vec<Event>) -> Report
         requires empty { trace.items ≡ [] }
         requires room { length (past_of self.work) ≤ vec_capacity trace }
-        ensures { Reports self result }
+        ensures { ReportsSession self result }
     {
         let Session {
             alloc: _,

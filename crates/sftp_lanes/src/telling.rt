@@ -1,4 +1,4 @@
-// What a server tells as a session opens.
+//! Reports of a server while a session opens.
 ghost use Rattle.std.specs.Prelude.{◌≡◌, Some, IfSome};
 ghost use Rattle.sftp_model.specs.declared.flags.Extensions.{Extensions as ExtensionsValue};
 ghost use Rattle.plan_model.specs.GoodMoves.{FitsFacts};
@@ -8,7 +8,7 @@ ghost use Rattle.session_model.specs.declared.entry.Entry.TheVariants as entry;
 ghost use Rattle.session_model.specs.declared.event.Event.TheVariants.{Submit};
 ghost use Rattle.session_model.specs.declared.event.Owner.TheVariants as owner;
 ghost use Rattle.sftp_model.specs.declared.request.Request.TheVariants as request;
-ghost use Rattle.session_driver.specs.NoLanes.{offered};
+ghost use Rattle.session_driver.specs.NoLanes.{offered_extensions};
 ghost use Rattle.sftp_lanes.specs.Seen.{facts_by};
 
 use bitflags::Flags;
@@ -17,9 +17,9 @@ use session_work::Lanes;
 use sftp_core::Info;
 use sftp_model::{Extensions, Facts, Reply, Request, SftpOptions};
 
-/// Whether a VERSION offers the query for limits.
+/// Returns true if a VERSION offers the query for limits.
 pub(crate) fn offers_limits(reply: &Reply) -> bool
-    ensures { result ≡ offers (offered (Some reply.now)) }
+    ensures { result ≡ offers (offered_extensions (Some reply.now)) }
 {
     match reply {
         Reply::Version { extensions, .. } => extensions.contains(Extensions::LIMITS),
@@ -27,7 +27,7 @@ pub(crate) fn offers_limits(reply: &Reply) -> bool
     }
 }
 
-/// The query for limits was submitted.
+/// Returns the entry of the query for limits.
 pub(crate) fn query_entry() -> Entry
     ensures { result ≡ entry.Event (Submit owner.Setup 0 request.LimitsQuery) }
 {
@@ -38,7 +38,7 @@ pub(crate) fn query_entry() -> Entry
     })
 }
 
-/// What plans go by where this is known of the server: lengths, a limit and a window that they may go by.
+/// Returns the facts that plans use if this is known of the server: lengths, a limit and a window that plans may use.
 fn facts_by(info: &Info, options: &SftpOptions) -> Facts
     requires lengths { HasLengths info.now }
     ensures value { (extensions : ExtensionsValue) → result ≡ facts_by options.now extensions (Some info.now) }
@@ -53,7 +53,7 @@ fn facts_by(info: &Info, options: &SftpOptions) -> Facts
     }
 }
 
-/// What is known of the server, which plans go by from now on.
+/// Records what is known of the server as the facts that plans use from now on.
 pub(crate) fn tell(work: &mut Lanes, options: &SftpOptions) -> Option<Info>
     ensures info { result ≡ info_of work.old.core.phase }
     ensures rest { work.new ≡ record work.old { facts = work.new.facts } }

@@ -1,3 +1,3 @@
-pub mod FramesPassed
-pub mod ScriptSteps
+mod FramesPassed
+mod ScriptSteps
 pub mod Telling

@@ -1,4 +1,4 @@
--- A scripted link, and what each of its calls answers.
+-- A scripted link, and the results of its calls.
 use Rattle.std.specs.Prelude.{
   ◌≡◌,
   ℕ,
@@ -32,70 +32,70 @@ use Rattle.sftp_link.specs.declared.piece.Scripted.TheVariants.{Raw, To}
 use Rattle.sftp_link.specs.Calls.{Counted, fails_next, after_call}
 use Rattle.sftp_link.specs.Frames.{item_bytes}
 
--- what a link has still to give: what is left of the item that was begun, and the items behind it
-pub record Ahead : Type 0 where
+-- The items that a link has still to send: the rest of the item that was started, and the items after it.
+pub record ScriptAhead : Type 0 where
   pub rest : List ℕ
   pub items : List Scripted
 
--- an item without bytes is passed over
+-- True if the item has bytes or may have some; an item without bytes is passed over.
 abbrev pub has_bytes : Scripted → Bool
 has_bytes (Raw []) = false
 has_bytes (Raw (x ∷ bytes)) = true
 has_bytes (To request flip kind fields) = true
 
--- before the first call
-abbrev pub ahead_of : List Scripted → Ahead
+-- The state before the first call.
+abbrev pub ahead_of : List Scripted → ScriptAhead
 ahead_of items = record { rest = []; items = filter has_bytes items }
 
--- the item is begun where it has its bytes
-abbrev pub beginning : Option (List ℕ) → Scripted → List Scripted → Ahead
-beginning None item items = record { rest = []; items = item ∷ items }
-beginning (Some bytes) item items = record { rest = bytes; items = items }
+-- The item is started if it has its bytes.
+abbrev pub ahead_of_items : Option (List ℕ) → Scripted → List Scripted → ScriptAhead
+ahead_of_items None item items = record { rest = []; items = item ∷ items }
+ahead_of_items (Some bytes) item items = record { rest = bytes; items = items }
 
--- the next item is begun where nothing is left of the one before
-abbrev pub begun_from : List ℕ → List ℕ → List Scripted → Ahead
+-- The next item is started if nothing is left of the one before.
+abbrev pub begun_from : List ℕ → List ℕ → List Scripted → ScriptAhead
 begun_from sent (x ∷ rest) items = record { rest = x ∷ rest; items = items }
 begun_from sent [] [] = record { rest = []; items = [] }
-begun_from sent [] (item ∷ items) = beginning (item_bytes sent item) item items
+begun_from sent [] (item ∷ items) = ahead_of_items (item_bytes sent item) item items
 
-abbrev pub begun : List ℕ → Ahead → Ahead
-begun sent ahead = begun_from sent ahead.rest ahead.items
+abbrev pub with_item_begun : List ℕ → ScriptAhead → ScriptAhead
+with_item_begun sent ahead = begun_from sent ahead.rest ahead.items
 
--- after n bytes were given
-abbrev pub given : ℕ → Ahead → Ahead
-given n ahead = record { rest = drop n ahead.rest; items = ahead.items }
+-- The state after n bytes were received.
+abbrev pub after_bytes_given : ℕ → ScriptAhead → ScriptAhead
+after_bytes_given n ahead = record { rest = drop n ahead.rest; items = ahead.items }
 
--- all the bytes that were sent; the pieces have the oldest first
+-- All the bytes that were sent. The pieces have the oldest first.
 abbrev pub bytes_sent : List Piece → List ℕ
 bytes_sent [] = []
 bytes_sent (Sent piece ∷ later) = piece ++ bytes_sent later
 bytes_sent (Got piece ∷ later) = bytes_sent later
 
--- a scripted link; its pieces have the oldest first
-pub record Play : Type 0 where
-  pub ahead : Ahead
+-- A scripted link. Its pieces have the oldest first.
+pub record ScriptState : Type 0 where
+  pub ahead : ScriptAhead
   pub cut : ℕ
   pub pieces : List Piece
   pub ended : Bool
   pub calls : Counted
 
--- no call was made on it
-pub record IsUncalled (link : Play) : Type 0 where
+-- No call was made on the link.
+pub record IsUncalled (link : ScriptState) : Type 0 where
   pub pieces : link.pieces ≡ []
   pub ended : link.ended ≡ false
   pub made : link.calls.made ≡ 0
   pub faults : link.calls.faults ≡ 0
 
--- at most as many as the cut; 0 is no limit
-abbrev pub limited : ℕ → ℕ → ℕ
-limited cut n = if cut == 0 then n else min n cut
+-- The number of bytes limited by the cut; 0 is no limit.
+abbrev pub length_cut_at : ℕ → ℕ → ℕ
+length_cut_at cut n = if cut == 0 then n else min n cut
 
--- what is given next: the rest of the item that was begun, or the next item where it has its bytes
-abbrev pub coming : Play → Ahead
-coming link = begun (bytes_sent link.pieces) link.ahead
+-- The bytes that come next: the rest of the item that was started, or the next item if it has its bytes.
+abbrev pub next_bytes : ScriptState → ScriptAhead
+next_bytes link = with_item_begun (bytes_sent link.pieces) link.ahead
 
--- after a call that moved nothing
-abbrev pub after_error : Play → Play
+-- The state after a call that moved no bytes.
+abbrev pub after_error : ScriptState → ScriptState
 after_error link = record {
   ahead = link.ahead;
   cut = link.cut;
@@ -104,8 +104,8 @@ after_error link = record {
   calls = after_call link.calls;
 }
 
--- after a send of these bytes
-abbrev pub after_send : Play → List ℕ → Play
+-- The state after a send of these bytes.
+abbrev pub after_send : ScriptState → List ℕ → ScriptState
 after_send link bytes = record {
   ahead = link.ahead;
   cut = link.cut;
@@ -114,29 +114,30 @@ after_send link bytes = record {
   calls = after_call link.calls;
 }
 
--- after a recv of n bytes
-abbrev pub after_recv : Play → ℕ → Play
+-- The state after a recv of n bytes.
+abbrev pub after_recv : ScriptState → ℕ → ScriptState
 after_recv link n = record {
-  ahead = given n (coming link);
+  ahead = after_bytes_given n (next_bytes link);
   cut = link.cut;
-  pieces = link.pieces ++ Got (take n (coming link).rest) ∷ [];
+  pieces = link.pieces ++ Got (take n (next_bytes link).rest) ∷ [];
   ended = n == 0;
   calls = after_call link.calls;
 }
 
--- a send fails exactly where its number is listed; else it takes the bytes up to the cut, or there was no memory
-unfoldable pub SendsNext : Play → Play → List ℕ → Result ℕ DeviceError → Type 0
+-- A send fails exactly if its number is listed. Otherwise it takes the bytes up to the cut, or an allocation failed.
+unfoldable pub SendsNext : ScriptState → ScriptState → List ℕ → Result ℕ DeviceError → Type 0
 SendsNext before now bytes (Ok n) =
-    (fails_next before.calls ≡ false) × (n ≡ limited before.cut (length bytes))
+    (fails_next before.calls ≡ false) × (n ≡ length_cut_at before.cut (length bytes))
     × (now ≡ after_send before (take n bytes))
 SendsNext before now bytes (Err Failed) = (fails_next before.calls ≡ true) × (now ≡ after_error before)
 SendsNext before now bytes (Err OutOfMemory) = (fails_next before.calls ≡ false) × (now ≡ after_error before)
 
--- a recv fails exactly where its number is listed; else it gives what comes next up to the cut and the room, or there
--- was no memory
-unfoldable pub ReceivesNext : Play → Play → List ℕ → Result ℕ DeviceError → Type 0
+-- A recv fails exactly if its number is listed. Otherwise it returns the bytes that come next, up to the cut and the
+-- room, or an allocation failed.
+unfoldable pub ReceivesNext : ScriptState → ScriptState → List ℕ → Result ℕ DeviceError → Type 0
 ReceivesNext before now room (Ok n) =
-    (fails_next before.calls ≡ false) × (n ≡ min (limited before.cut (length room)) (length (coming before).rest))
-    × (take n room ≡ take n (coming before).rest) × (now ≡ after_recv before n)
+    (fails_next before.calls ≡ false) × (n ≡ min (length_cut_at before.cut (length room))
+    (length (next_bytes before).rest))
+    × (take n room ≡ take n (next_bytes before).rest) × (now ≡ after_recv before n)
 ReceivesNext before now room (Err Failed) = (fails_next before.calls ≡ true) × (now ≡ after_error before)
 ReceivesNext before now room (Err OutOfMemory) = (fails_next before.calls ≡ false) × (now ≡ after_error before)

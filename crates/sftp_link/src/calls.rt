@@ -1,6 +1,7 @@
+//! The calls of an object in memory, counted.
 ghost use Rattle.std.specs.Prelude.{◌≡◌, ◌==◌, ◌<◌, ◌-◌, ◌^◌};
 ghost use Rattle.std.specs.List.{list_any};
-ghost use Rattle.sftp_link.specs.Calls.{uncalled, fails_next, after_call};
+ghost use Rattle.sftp_link.specs.Calls.{before_first_call, fails_next, after_call};
 
 use std::marker::Model;
 
@@ -20,7 +21,7 @@ impl Model for Calls {
     ghost view = { λ c. record { fails = c.fails.items; made = c.made; faults = c.faults } };
 }
 
-// Whether this number stands in the list.
+// Returns true if this number is in the list.
 fn is_listed(numbers: &[u32], number: u64) -> bool
     ensures { result ≡ list_any (λ k. k == number) numbers.now }
 {
@@ -28,9 +29,9 @@ fn is_listed(numbers: &[u32], number: u64) -> bool
 }
 
 impl Calls {
-    /// No call was made yet; those with these numbers, from 0, will fail.
+    /// Creates the counter before the first call. The calls with these numbers, from 0, will fail.
     pub(crate) fn new(fails: Vec<u32>) -> Calls
-        ensures { result ≡ uncalled fails.items }
+        ensures { result ≡ before_first_call fails.items }
     {
         Calls {
             fails,
@@ -39,7 +40,7 @@ impl Calls {
         }
     }
 
-    /// Counts a call, and answers whether it fails.
+    /// Counts a call, and returns true if it fails.
     pub(crate) fn count(&mut self) -> bool
         requires { self.old.faults < 2 ^ 64 - 1 }
         ensures fails { result ≡ fails_next self.old }

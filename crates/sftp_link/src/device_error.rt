@@ -1,13 +1,16 @@
+//! The errors of calls of the environment.
 ghost use Rattle.std.specs.Prelude.{◌≡◌};
 ghost use Rattle.sftp_link.specs.declared.device_error.DeviceError.TheVariants.{OutOfMemory};
 
 use std::alloc::{AllocError, AllocFailed};
 use thiserror::Error;
 
-/// Why a call of the outside gave nothing.
+/// The reason why a call of the environment failed.
+///
+/// Example: `crates/example_threads/src/sheet.rt`.
 #[derive(Clone, Copy, Debug, PartialEq, Eq, Error)]
 pub enum DeviceError {
-    /// The memory for the call could not be had. The object may be called again.
+    /// An allocation for the call failed. The object may be called again.
     #[error("out of memory")]
     OutOfMemory,
     /// The device failed: its count of faults rose in this call.

@@ -1,4 +1,4 @@
-// A source and a sink as one link.
+//! A source and a sink as one link.
 ghost use Rattle.std.specs.Prelude.{◌≡◌, ◌<◌, ◌+◌, ◌-◌, ◌^◌, length, false};
 ghost use Rattle.sftp_link.specs.Moves.{HasRead, HasReceived, HasSent, HasWritten};
 ghost use Rattle.sftp_link.specs.Views.{joined_view};
@@ -8,8 +8,10 @@ use crate::link::{Link, LinkIn, LinkOut, LinkState};
 use crate::stream::{Sink, Source};
 use std::marker::Model;
 
-/// A link that receives from a source and sends to a sink, as a program does over its standard input
-/// and output. It keeps no log, and its faults are those of both.
+/// A link that receives from a source and sends to a sink, as a program does over its standard input and output. It
+/// keeps no log, and its faults are those of both.
+///
+/// Example: `crates/test_files/src/link.rt`.
 #[derive(Drop)]
 pub struct Duplex<S, K> {
     source: S,
@@ -26,7 +28,7 @@ impl<S, K> Model for Duplex<S, K> {
 }
 
 impl<S: Source, K: Sink> Duplex<S, K> {
-    /// The link over a source and a sink.
+    /// Creates the link over a source and a sink.
     pub fn new(source: S, sink: K) -> Duplex<S, K>
         ensures { result ≡ record { source = source; sink = sink; ended = false } }
     {
@@ -47,7 +49,11 @@ impl<S: Source, K: Sink> LinkState for Duplex<S, K> {
 }
 
 impl<S: Source, K: Sink> LinkOut for Duplex<S, K> {
-    /// One write of the sink. The source stays.
+    /// Makes one write to the sink. The source is unchanged.
+    ///
+    /// # Errors
+    ///
+    /// The error of the sink's write.
     fn send(&mut self, bytes: &[u8]) -> Result<usize, DeviceError>
         requires some { 0 < length bytes.now }
         requires count { (S.state self.old.source).faults + (K.state self.old.sink).faults < 2 ^ 64 - 1 }
@@ -61,7 +67,11 @@ impl<S: Source, K: Sink> LinkOut for Duplex<S, K> {
 }
 
 impl<S: Source, K: Sink> LinkIn for Duplex<S, K> {
-    /// One read of the source. The sink stays.
+    /// Makes one read from the source. The sink is unchanged.
+    ///
+    /// # Errors
+    ///
+    /// The error of the source's read.
     fn recv(&mut self, room: &mut [u8]) -> Result<usize, DeviceError>
         requires some { 0 < length room.old }
         requires count { (S.state self.old.source).faults + (K.state self.old.sink).faults < 2 ^ 64 - 1 }

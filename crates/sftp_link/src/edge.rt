@@ -1,4 +1,4 @@
-// The trusted edge: a reader and a writer of std, which tell nothing of content.
+//! The trusted edge: a reader and a writer of std, which report nothing of their contents.
 ghost use Rattle.std.specs.Prelude.{◌≡◌, ◌<◌, ◌≤◌, ◌-◌, ◌+◌, ◌^◌, length, take, IfOk, OnErr, IfSome, IfNone};
 ghost use Rattle.std.specs.Io.KnownBytes.{ReadConsumes, Appends};
 ghost use Rattle.sftp_link.specs.Edge.{AppendsSome};
@@ -11,6 +11,8 @@ use std::io::{Read, Write};
 use std::marker::Model;
 
 /// A reader, and how often it failed.
+///
+/// Example: `crates/example_threads/src/socket.rt`.
 #[derive(Drop)]
 pub struct ReadSource<R> {
     inner: R,
@@ -26,7 +28,7 @@ impl<R> Model for ReadSource<R> {
 }
 
 impl<R: Read> ReadSource<R> {
-    /// The source that reads from a reader.
+    /// Creates the source that reads from a reader.
     pub fn new(inner: R) -> ReadSource<R>
         ensures { result ≡ record { inner = inner; faults = 0 } }
     {
@@ -37,7 +39,11 @@ impl<R: Read> ReadSource<R> {
 impl<R: Read> Source for ReadSource<R> {
     ghost state = { λ s. reader_view s };
 
-    /// One read of the reader; `Failed` where it answers an error.
+    /// Makes one read from the reader.
+    ///
+    /// # Errors
+    ///
+    /// `Failed` if the reader returns an error, which is counted as one fault.
     fn read(&mut self, room: &mut [u8]) -> Result<usize, DeviceError>
         requires some { 0 < length room.old }
         requires count { self.old.faults < 2 ^ 64 - 1 }
@@ -57,6 +63,8 @@ impl<R: Read> Source for ReadSource<R> {
 }
 
 /// A writer, and how often it failed. It is flushed after each write.
+///
+/// Used by the functions of this module.
 #[derive(Drop)]
 pub struct WriteSink<W> {
     inner: W,
@@ -72,7 +80,7 @@ impl<W> Model for WriteSink<W> {
 }
 
 impl<W: Write> WriteSink<W> {
-    /// The sink that writes to a writer.
+    /// Creates the sink that writes to a writer.
     pub fn new(inner: W) -> WriteSink<W>
         ensures { result ≡ record { inner = inner; faults = 0 } }
     {
@@ -80,8 +88,8 @@ impl<W: Write> WriteSink<W> {
     }
 }
 
-// One write and a flush: how many bytes were taken, and None where either was refused or none was
-// taken of some.
+// Makes one write and a flush, and returns the number of bytes taken. Returns `None` if either failed or no byte of a
+// piece that is not empty was taken.
 fn write_and_flush<W: Write>(inner: &mut W, bytes: &[u8]) -> Option<usize>
     ensures within { IfSome result (λ n. (0 < length bytes.now → 0 < n) × (n ≤ length bytes.now)) }
     ensures taken { IfSome result
@@ -104,8 +112,12 @@ fn write_and_flush<W: Write>(inner: &mut W, bytes: &[u8]) -> Option<usize>
 impl<W: Write> Sink for WriteSink<W> {
     ghost state = { λ s. writer_view s };
 
-    /// One write of the writer, and a flush; `Failed` where either answers an error or nothing of
-    /// some bytes was taken, after which the writer may have taken some of the first bytes.
+    /// Makes one write to the writer, and a flush.
+    ///
+    /// # Errors
+    ///
+    /// `Failed` if either returns an error, or if no byte of a piece that is not empty was taken. The writer may have
+    /// taken some of the first bytes.
     fn write(&mut self, bytes: &[u8]) -> Result<usize, DeviceError>
         requires { self.old.faults < 2 ^ 64 - 1 }
         ensures writes { HasWritten bytes.now (writer_view self.old) (writer_view self.new) result }

@@ -1,14 +1,14 @@
-// The frames among the bytes that a scripted link was sent, and those that it answers.
+//! The frames among the bytes that a scripted link was sent, and those that it replies with.
 ghost use Rattle.std.specs.Prelude.{◌≡◌, ◌+◌, ◌<◌, ◌≤◌, ◌^◌, Some, None, length, IfOk, MatchOption};
 ghost use Rattle.sftp_link.specs.Frames.{number_of, first_frame, frame_at, id_of_frame, id_in, frame_of_fields, item_bytes};
 
 use crate::piece::Scripted;
 use std::alloc::{AllocError, Global};
 
-/// The most bytes of fields that a frame has place for beside its kind and its id.
+/// The most bytes of fields that a frame has room for beside its kind and its id.
 const MOST_FIELDS: usize = 4294967290;
 
-// The number in the first four bytes, the most significant first.
+// Returns the number in the first four bytes, the most significant first.
 #[tactic(auto, unfolding(crate::specs::Frames::number_of))]
 fn number_of(bytes: &[u8]) -> u32
     requires { 4 ≤ length bytes.now }
@@ -17,7 +17,7 @@ fn number_of(bytes: &[u8]) -> u32
     u32::from_be_bytes([bytes[0], bytes[1], bytes[2], bytes[3]])
 }
 
-// The first frame's body and the bytes behind it, where the frame has come whole.
+// Returns the first frame's body and the bytes after it, if the frame has come whole.
 fn first_frame(bytes: &[u8]) -> Option<(&[u8], &[u8])>
     ensures { MatchOption result
         (first_frame bytes.now ≡ None)
@@ -34,7 +34,7 @@ fn first_frame(bytes: &[u8]) -> Option<(&[u8], &[u8])>
     Some((&rest[..len], &rest[len..]))
 }
 
-// The body of the frame with this number, counted from 0, where it has come whole.
+// Returns the body of the frame with this number, counted from 0, if it has come whole.
 fn frame_at(bytes: &[u8], number: u32) -> Option<&[u8]>
     ensures { MatchOption result
         (frame_at number bytes.now ≡ None)
@@ -49,7 +49,7 @@ fn frame_at(bytes: &[u8], number: u32) -> Option<&[u8]>
     Some(body)
 }
 
-// The id of the frame with this number, where it has come whole; the hello's is 0.
+// Returns the id of the frame with this number, if it has come whole; the hello's is 0.
 fn id_of_frame(bytes: &[u8], number: u32) -> Option<u32>
     ensures { result ≡ id_of_frame number bytes.now }
 {
@@ -63,7 +63,7 @@ fn id_of_frame(bytes: &[u8], number: u32) -> Option<u32>
     Some(number_of(&body[1..]))
 }
 
-// The frame of a kind, an id and fields.
+// Returns the frame of a kind, an id and fields. Fails only if an allocation fails.
 #[tactic(auto, unfolding(crate::specs::Frames::frame_of_fields))]
 fn frame_of_fields(alloc: Global, kind: u8, id: u32, fields: &[u8]) -> Result<Vec<u8>, AllocError>
     requires { length fields.now ≤ 4294967290 }
@@ -77,7 +77,7 @@ fn frame_of_fields(alloc: Global, kind: u8, id: u32, fields: &[u8]) -> Result<Ve
     Ok(frame)
 }
 
-/// The bytes of an item, once these bytes were sent.
+/// Returns the bytes of an item after these bytes were sent. Fails only if an allocation fails.
 pub(crate) fn item_bytes(
     alloc: Global,
     sent: &[u8],

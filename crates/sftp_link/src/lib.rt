@@ -1,4 +1,4 @@
-//! The outside as traits, with what they tell and how often they failed, and its ends in memory.
+//! The environment as traits, with what they report and how often they failed, and implementations in memory.
 #![tactic(auto)]
 
 mod calls;

@@ -1,5 +1,6 @@
+//! A source and a sink in memory.
 ghost use Rattle.std.specs.Prelude.{◌≡◌, ◌<◌, ◌-◌, ◌^◌, [], length};
-ghost use Rattle.sftp_link.specs.Calls.{uncalled};
+ghost use Rattle.sftp_link.specs.Calls.{before_first_call};
 ghost use Rattle.sftp_link.specs.Memory.{ReadsNext, WritesNext};
 ghost use Rattle.sftp_link.specs.Moves.{HasRead, HasWritten};
 ghost use Rattle.sftp_link.specs.Views.{store_view, supply_view};
@@ -10,7 +11,9 @@ use crate::stream::{Sink, Source};
 use std::alloc::Global;
 use std::marker::Model;
 
-/// A source in memory, of which the calls with listed numbers fail.
+/// A source in memory. Its calls with listed numbers fail.
+///
+/// Example: `crates/sftp_cli/src/tests/socket.rt`.
 #[derive(Drop)]
 pub struct MemorySource {
     bytes: Vec<u8>,
@@ -30,9 +33,9 @@ impl Model for MemorySource {
 }
 
 impl MemorySource {
-    /// A source of these bytes. `fails` lists the numbers, from 0, of the reads that fail.
+    /// Creates a source of these bytes. `fails` lists the numbers, from 0, of the reads that fail.
     pub fn new(bytes: Vec<u8>, fails: Vec<u32>) -> MemorySource
-        ensures { result ≡ record { left = bytes.items; calls = uncalled fails.items } }
+        ensures { result ≡ record { left = bytes.items; calls = before_first_call fails.items } }
     {
         MemorySource {
             bytes,
@@ -45,8 +48,11 @@ impl MemorySource {
 impl Source for MemorySource {
     ghost state = { λ s. supply_view s };
 
-    /// As many bytes as are left and the room has place for; `Failed` exactly where the read's
-    /// number is listed.
+    /// Reads the bytes that are left, up to the size of the room.
+    ///
+    /// # Errors
+    ///
+    /// `Failed` exactly if the read's number is listed.
     #[tactic(auto, unfolding(crate::specs::Memory::ReadsNext))]
     fn read(&mut self, room: &mut [u8]) -> Result<usize, DeviceError>
         requires some { 0 < length room.old }
@@ -64,7 +70,9 @@ impl Source for MemorySource {
     }
 }
 
-/// A sink in memory, of which the calls with listed numbers fail.
+/// A sink in memory. Its calls with listed numbers fail.
+///
+/// Example: `crates/sftp_cli/src/tests/socket.rt`.
 #[derive(Drop)]
 pub struct MemorySink {
     bytes: Vec<u8>,
@@ -80,9 +88,9 @@ impl Model for MemorySink {
 }
 
 impl MemorySink {
-    /// An empty sink. `fails` lists the numbers, from 0, of the writes that fail.
+    /// Creates an empty sink. `fails` lists the numbers, from 0, of the writes that fail.
     pub fn new(alloc: Global, fails: Vec<u32>) -> MemorySink
-        ensures { result ≡ record { written = []; calls = uncalled fails.items } }
+        ensures { result ≡ record { written = []; calls = before_first_call fails.items } }
     {
         MemorySink {
             bytes: Vec::new(alloc),
@@ -90,7 +98,7 @@ impl MemorySink {
         }
     }
 
-    /// The bytes that were written, in order.
+    /// Returns the bytes that were written, in order.
     pub fn bytes(&self) -> &[u8]
         ensures { result.now ≡ self.now.written }
     {
@@ -101,8 +109,11 @@ impl MemorySink {
 impl Sink for MemorySink {
     ghost state = { λ s. store_view s };
 
-    /// Takes all the bytes, or answers `OutOfMemory`; `Failed` exactly where the write's number is
-    /// listed.
+    /// Takes all the bytes.
+    ///
+    /// # Errors
+    ///
+    /// `OutOfMemory` if an allocation fails, and `Failed` exactly if the write's number is listed.
     #[tactic(auto, unfolding(crate::specs::Memory::WritesNext))]
     fn write(&mut self, bytes: &[u8]) -> Result<usize, DeviceError>
         requires { self.old.calls.faults < 2 ^ 64 - 1 }

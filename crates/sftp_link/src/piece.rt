@@ -1,26 +1,33 @@
+//! The pieces that a link moves, and the items of a scripted link.
 ghost use Rattle.std.specs.Prelude.{◌≡◌, ◌<◌, ◌∷◌, ◌++◌, [], vec_len, vec_capacity};
 ghost use Rattle.sftp_link.specs.Same.{piece_decides, scripted_decides};
 
 use sftp_values::{ByteText, Same};
 
 /// The bytes that one call moved over a link.
+///
+/// Example: `crates/sftp_serve/src/tests.rt`.
 #[derive(Debug, Drop, PartialEq, Eq)]
 pub enum Piece {
-    /// Bytes that the peer was sent.
+    /// Bytes that were sent to the peer.
     Sent(ByteText),
-    /// Bytes that came from the peer; none where its end was met.
+    /// Bytes that came from the peer; none if its end was found.
     Got(ByteText),
 }
 
-/// What a scripted link gives next.
+/// The next item of a scripted link.
+///
+/// Example: `crates/test_session/src/lanes.rt`.
 #[derive(Debug, Drop, PartialEq, Eq)]
 pub enum Scripted {
     /// These bytes.
     Raw(ByteText),
-    /// The frame of a kind and fields whose id is that of the sent frame with the number `request`,
-    /// combined with `flip` by exclusive or. The frames sent are numbered from 0, which is the
-    /// hello and has the id 0. Until that frame has come whole, and where it is too short for an id
-    /// or the fields are more than 4294967290 bytes, the link ends here.
+    /// The frame of a kind and fields whose id is that of the sent frame with the number `request`, combined with
+    /// `flip` by exclusive or.
+    ///
+    /// The frames sent are numbered from 0, which is the hello and has the id 0. The link ends here until that frame
+    /// has come whole. It also ends here if that frame is too short for an id, or if the fields are more than
+    /// 4294967290 bytes.
     To {
         request: u32,
         flip: u32,

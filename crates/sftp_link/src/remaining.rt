@@ -1,5 +1,6 @@
+//! The items that a scripted link has still to send.
 ghost use Rattle.std.specs.Prelude.{◌≡◌, ◌≤◌, ◌∷◌, ◌++◌, [], length, take, min, OnOk, OnErr, IfOk, MatchOption, Some, None};
-ghost use Rattle.sftp_link.specs.Script.{has_bytes, ahead_of, begun, given, begun_from, beginning};
+ghost use Rattle.sftp_link.specs.Script.{has_bytes, ahead_of, with_item_begun, after_bytes_given, begun_from, ahead_of_items};
 ghost use Rattle.sftp_link.specs.declared.piece.Scripted.{Scripted};
 ghost use Rattle.sftp_link.specs.Frames.{item_bytes};
 
@@ -9,7 +10,7 @@ use std::alloc::{AllocError, Global};
 use std::collections::VecDeque;
 use std::marker::Model;
 
-/// What a scripted link has still to give.
+/// The bytes and items that a scripted link has still to send.
 #[derive(Drop)]
 pub(crate) struct Remaining {
     items: VecDeque<Scripted>,
@@ -19,16 +20,16 @@ pub(crate) struct Remaining {
 
 impl Model for Remaining {
     ghost use Rattle.std.specs.Prelude.{◌≤◌, drop, length};
-    ghost use Rattle.sftp_link.specs.Script.{Ahead};
+    ghost use Rattle.sftp_link.specs.Script.{ScriptAhead};
 
-    ghost Value = { Ahead };
+    ghost Value = { ScriptAhead };
 
     ghost view = { λ s. record { rest = drop s.at s.begun.items; items = s.items.items } };
 
     ghost invariant = { λ s. s.at ≤ length s.begun.items };
 }
 
-// Whether an item has bytes to give.
+// Returns true if an item has bytes to send.
 fn has_bytes(item: &Scripted) -> bool
     ensures { result ≡ has_bytes item.now }
 {
@@ -38,8 +39,8 @@ fn has_bytes(item: &Scripted) -> bool
     }
 }
 
-// The bytes of the first item, which leaves the others; None where there is no item or it has no
-// bytes yet.
+// Returns the bytes of the first item and removes it. Returns `None` if there is no item or it has no bytes yet. Fails
+// only if an allocation fails; `items` is unchanged.
 fn begin_next(
     alloc: Global,
     sent: &[u8],
@@ -49,7 +50,7 @@ fn begin_next(
         (begun_from sent.now [] items.old.items ≡ record { rest = []; items = items.new.items })
         (λ v. begun_from sent.now [] items.old.items
         ≡ record { rest = v.items; items = items.new.items })) }
-    ensures err { OnErr result (items.new.items ≡ items.old.items) }
+    ensures unchanged { OnErr result (items.new.items ≡ items.old.items) }
 {
     let Some(item) = items.front() else {
         return Ok(None);
@@ -62,7 +63,7 @@ fn begin_next(
 }
 
 impl Remaining {
-    /// The script of these items. Those without bytes are passed over.
+    /// Creates the script of these items. Items without bytes are passed over.
     pub(crate) fn new(alloc: Global, mut items: Vec<Scripted>) -> Remaining
         ensures { result ≡ ahead_of items.items }
     {
@@ -74,10 +75,10 @@ impl Remaining {
         }
     }
 
-    /// Begins the next item where nothing is left of the one before. Unchanged after an error.
+    /// Starts the next item if nothing is left of the one before. After an error it is unchanged.
     pub(crate) fn begin(&mut self, alloc: Global, sent: &[u8]) -> Result<(), AllocError>
-        ensures ok { OnOk result (self.new ≡ begun sent.now self.old) }
-        ensures err { OnErr result (self.new ≡ self.old) }
+        ensures ok { OnOk result (self.new ≡ with_item_begun sent.now self.old) }
+        ensures unchanged { OnErr result (self.new ≡ self.old) }
     {
         if self.at < self.begun.len() {
             return Ok(());
@@ -89,11 +90,11 @@ impl Remaining {
         Ok(())
     }
 
-    /// Gives what is left of the item that was begun, up to the room, and answers how many bytes.
+    /// Copies the rest of the started item into the room, up to its length, and returns the number of bytes.
     pub(crate) fn give(&mut self, room: &mut [u8]) -> usize
         ensures count { result ≡ min (length room.new) (length self.old.rest) }
         ensures bytes { take result room.new ≡ take result self.old.rest }
-        ensures given { self.new ≡ given result self.old }
+        ensures given { self.new ≡ after_bytes_given result self.old }
     {
         let n = room.len().min(self.begun.len() - self.at);
         room[..n].copy_from_slice(&self.begun[self.at..self.at + n]);

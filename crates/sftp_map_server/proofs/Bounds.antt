@@ -22,7 +22,7 @@ use Rattle.machine_model.proofs.FirstFits.{first_fits}
 use Rattle.machine_model.proofs.ReplyFits.{body_within}
 use Rattle.machine_model.proofs.ReplyLaws.{tree_replies}
 use Rattle.machine_tree.specs.Numbers.{numbered_handle}
-use Rattle.sftp_machine.specs.MachineState.{MachineState, answer, with_grant, with_tree, MAX_HANDLES}
+use Rattle.machine_answers.specs.MachineState.{MachineState, answer, with_grant, with_tree, MAX_HANDLES}
 use Rattle.sftp_map_server.specs.Serving.{gives_within, is_query, told_bits, version_reply}
 
 -- ---- what is served
@@ -36,7 +36,8 @@ of_within : (r : Request) (choice : Choice) → GivesWithin choice.cap r → giv
 of_within (request.Read handle offset len) choice h = grind (arith, nat_tests)
 of_within other choice h = refl
 
-not_within : (r : Request) (choice : Choice) (b : Bool) → gives_within r choice ≡ b → (GivesWithin choice.cap r → ⊥) → false ≡ b
+not_within : (r : Request) (choice : Choice) (b : Bool) → gives_within r choice ≡ b → (GivesWithin choice.cap r → ⊥)
+    → false ≡ b
 not_within r choice true e over = absurd (over (within_of r choice e))
 not_within r choice false e over = refl
 
@@ -61,7 +62,8 @@ pub served_within : (state : MachineState) (r : Request) (choice : Choice) (id :
 served_within state r choice id fit code within =
     let x : Answer = apply state.tree state.config r choice (numbered_handle state.grants) in
     let refused = body_within (status SSH_FX_FAILURE) id (lit< tt, refl, refl) in
-    let said = body_within x.0 id (tree_replies state.tree state.config r choice (numbered_handle state.grants) fit (omega arith) code within).said in
+    let said = body_within x.0 id (tree_replies state.tree state.config r choice (numbered_handle state.grants) fit
+    (omega arith) code within).said in
     by_flags state x (is_handle x.0) (state.grants == MAX_HANDLES) id refused said
 
 -- ---- limits
@@ -85,7 +87,8 @@ query_answered state request.LimitsQuery e = counted_limits state state.config.l
 query_answered state other e = absurd cc
 
 -- their body is within the bound
-pub limits_within : (config : ServerConfig) (id : ℕ) → length (reply_body (limits_reply config.limits) id) ≤ MAX_BODY_LEN
+pub limits_within : (config : ServerConfig) (id : ℕ) → length (reply_body (limits_reply config.limits) id) ≤
+    MAX_BODY_LEN
 limits_within config id = body_within (limits_reply config.limits) id
     (tree_replies (first_tree [] []) config request.LimitsQuery open_choice [] (first_fits [] [] refl) (omega arith)
     (lit< tt) tt).said
@@ -100,7 +103,8 @@ len_string : (s : List ℕ) → length (string s) ≡ 4 + length s
 unfolding string
 len_string s = let l = length-append (uint32 (length s)) s in let n = len_number (length s) in omega (arith, l, n)
 
-pair_within : (b : Bool) (name : List ℕ) → length (if b then [] else string name ++ string (codes "1")) ≤ 9 + length name
+pair_within : (b : Bool) (name : List ℕ) → length (if b then [] else string name ++ string (codes "1")) ≤ 9 + length
+    name
 pair_within true name = omega arith
 pair_within false name = let a = length-append (string name) (string (codes "1")) in let l = len_string name in
     let m : length (string (codes "1")) ≡ 5 = len_string (codes "1") in omega (arith, a, l, m)

@@ -42,9 +42,9 @@ use Rattle.ssh_encoding.specs.Writing.{string, uint32}
 use Rattle.sftp_model.specs.declared.frame_error.FormatKind.{FormatKind}
 use Rattle.sftp_model.specs.declared.frame_error.FormatKind.TheVariants as kinds
 use Rattle.sftp_model.specs.Numbers.{MAX_BODY_LEN}
-use Rattle.sftp_wire.specs.FrameReader.{told_len, missing, missing_with, fault_of, fault_of_len}
-use Rattle.sftp_machine.specs.WaitingFrames.{WaitingFrames}
-use Rattle.sftp_map_server.specs.Serving.{ServerState, Replies, Absorbs, after_frames, both, nothing, server_of, step, over_at, with_said}
+use Rattle.sftp_wire.specs.FrameReader.{told_len, missing_bytes, missing_with, fault_of, fault_of_len}
+use Rattle.machine_answers.specs.WaitingFrames.{WaitingFrames}
+use Rattle.sftp_map_server.specs.Serving.{ServerState, Replies, AbsorbsBytes, after_frames, both, nothing, server_of, step, over_at, with_said}
 
 take_bytes : (n : ℕ) (bytes : List ℕ) → ((i : ℕ) → get_or bytes i 0 < 256) → (i : ℕ) → get_or (take n bytes) i 0 < 256
 take_bytes n bytes fits i =
@@ -54,28 +54,33 @@ take_bytes n bytes fits i =
     ]
 
 -- a length and as many bytes spell those bytes
-pub spelled : (bytes : List ℕ) → ((i : ℕ) → get_or bytes i 0 < 256) → 4 ≤ length bytes → length bytes ≡ 4 + told_len bytes → bytes ≡ string (drop 4 bytes)
+pub spelled : (bytes : List ℕ) → ((i : ℕ) → get_or bytes i 0 < 256) → 4 ≤ length bytes → length bytes
+    ≡ 4 + told_len bytes → bytes ≡ string (drop 4 bytes)
 unfolding string uint32
 spelled bytes fits some whole =
     let len : told_len bytes ≡ length (drop 4 bytes) = omega (arith, length-drop 4 bytes) in
     let four : length (take 4 bytes) ≡ 4 = omega (arith, length-take 4 bytes) in
-    let back : uint32 (told_len bytes) ≡ take 4 bytes = be_bytes_4 (take 4 bytes) (told_len bytes) four (take_bytes 4 bytes fits) refl in
+    let back : uint32 (told_len bytes) ≡ take 4 bytes = be_bytes_4 (take 4 bytes) (told_len bytes) four
+    (take_bytes 4 bytes fits) refl in
     sym (take-append-drop 4 bytes) ∙ ap (λ (w : List ℕ). w ++ drop 4 bytes) (sym back ∙ ap uint32 len)
 
 -- ---- how much is missing
 
-missing_short : (xs : List ℕ) → length xs < 4 → missing xs ≡ 4 - length xs
-missing_short xs h = ap (λ (b : Bool). missing_with (if b then None else Some (told_len xs)) (length xs)) (lt-ltb (length xs) 4 h)
+missing_short : (xs : List ℕ) → length xs < 4 → missing_bytes xs ≡ 4 - length xs
+missing_short xs h = ap (λ (b : Bool). missing_with (if b then None else Some (told_len xs)) (length xs))
+    (lt-ltb (length xs) 4 h)
 
-missing_long : (xs : List ℕ) → 4 ≤ length xs → missing xs ≡ (4 + told_len xs) - length xs
-missing_long xs h = ap (λ (b : Bool). missing_with (if b then None else Some (told_len xs)) (length xs)) (le-ltb (length xs) 4 h)
+missing_long : (xs : List ℕ) → 4 ≤ length xs → missing_bytes xs ≡ (4 + told_len xs) - length xs
+missing_long xs h = ap (λ (b : Bool). missing_with (if b then None else Some (told_len xs)) (length xs))
+    (le-ltb (length xs) 4 h)
 
 -- the input with the bytes that came is a frame where nothing is missing
 pub record IsWhole (xs : List ℕ) : Type 0 where
   pub four : 4 ≤ length xs
   pub len : length xs ≡ 4 + told_len xs
 
-pub exact : (i bytes all : List ℕ) → all ≡ i ++ bytes → 0 < missing i → length bytes ≤ missing i → missing all ≡ 0 → IsWhole all
+pub exact : (i bytes all : List ℕ) → all ≡ i ++ bytes → 0 < missing_bytes i → length bytes ≤ missing_bytes i
+    → missing_bytes all ≡ 0 → IsWhole all
 exact i bytes all is some within none =
     let total : length all ≡ length i + length bytes = ap length is ∙ length-append i bytes in
     let four : 4 ≤ length all = elim (cases_lt (length all) 4) [
@@ -95,7 +100,8 @@ exact i bytes all is some within none =
       ];
     }
 
-both_false : (a b : Bool) (x y : FormatKind) → is_some (if a then Some x else if b then Some y else None) ≡ false → (a ≡ false) × (b ≡ false)
+both_false : (a b : Bool) (x y : FormatKind) → is_some (if a then Some x else if b then Some y else None) ≡ false
+    → (a ≡ false) × (b ≡ false)
 both_false true b x y e = absurd cc
 both_false false true x y e = absurd cc
 both_false false false x y e = (refl, refl)
@@ -112,7 +118,8 @@ good_len n e =
       l,
     )
 
-good_told : (xs : List ℕ) → 4 ≤ length xs → is_some (fault_of xs) ≡ false → (0 < told_len xs) × (told_len xs ≤ MAX_BODY_LEN)
+good_told : (xs : List ℕ) → 4 ≤ length xs → is_some (fault_of xs) ≡ false → (0 < told_len xs)
+    × (told_len xs ≤ MAX_BODY_LEN)
 good_told xs h e = good_len (told_len xs) (ap (λ (b : Bool). is_some
     (fault_of_len (if b then None else Some (told_len xs)))) (sym (le-ltb (length xs) 4 h)) ∙ e)
 
@@ -121,8 +128,10 @@ good_told xs h e = good_len (told_len xs) (ap (λ (b : Bool). is_some
 -- what is said to no body
 said_nothing : (o : WaitingFrames) → o ≡ with_said o nothing
 said_nothing o =
-    ap (λ (w : List ℕ). let q : WaitingFrames = record { ready = w; waiting = o.waiting; picks = o.picks } in q) (sym (append-nil o.ready))
-    ∙ ap (λ (w : List (List ℕ)). let q : WaitingFrames = record { ready = o.ready ++ []; waiting = w; picks = o.picks } in q) (sym (append-nil o.waiting))
+    ap (λ (w : List ℕ). let q : WaitingFrames = record { ready = w; waiting = o.waiting; picks = o.picks } in q)
+    (sym (append-nil o.ready))
+    ∙ ap (λ (w : List (List ℕ)). let q : WaitingFrames = record { ready = o.ready ++ []; waiting = w; picks = o.picks }
+    in q) (sym (append-nil o.waiting))
 
 -- what is said to one body
 said_once : (o : WaitingFrames) (said : Replies) → with_said o said ≡ with_said o (both said nothing)
@@ -136,7 +145,8 @@ said_once o said =
     { ready = o.ready ++ (said.at_once ++ []); waiting = o.waiting ++ w; picks = o.picks } in q)
     (sym (append-nil said.later))
 
-pub absorb_over : (d : ServerState) (i bytes left : List ℕ) (o : WaitingFrames) → d.over ≡ true → left ≡ [] → Absorbs (server_of d i o) bytes (server_of d left o)
+pub absorb_over : (d : ServerState) (i bytes left : List ℕ) (o : WaitingFrames) → d.over ≡ true → left ≡ []
+    → AbsorbsBytes (server_of d i o) bytes (server_of d left o)
 absorb_over d i bytes left o e none = record {
   bodies = [];
   rest = i ++ bytes;
@@ -148,9 +158,10 @@ absorb_over d i bytes left o e none = record {
   output = said_nothing o;
 }
 
-pub absorb_bad : (d after : ServerState) (i bytes all left : List ℕ) (o : WaitingFrames) → d.over ≡ false → all ≡ i ++ bytes
+pub absorb_bad : (d after : ServerState) (i bytes all left : List ℕ) (o : WaitingFrames) → d.over ≡ false → all ≡ i
+    ++ bytes
     → is_some (fault_of all) ≡ true → after ≡ over_at d → left ≡ []
-    → Absorbs (server_of d i o) bytes (server_of after left o)
+    → AbsorbsBytes (server_of d i o) bytes (server_of after left o)
 absorb_bad d after i bytes all left o e is bad over none = record {
   bodies = [];
   rest = all;
@@ -163,7 +174,7 @@ absorb_bad d after i bytes all left o e is bad over none = record {
 }
 
 pub absorb_part : (d : ServerState) (i bytes all : List ℕ) (o : WaitingFrames) → d.over ≡ false → all ≡ i ++ bytes
-    → is_some (fault_of all) ≡ false → 0 < missing all → Absorbs (server_of d i o) bytes (server_of d all o)
+    → is_some (fault_of all) ≡ false → 0 < missing_bytes all → AbsorbsBytes (server_of d i o) bytes (server_of d all o)
 absorb_part d i bytes all o e is good some = record {
   bodies = [];
   rest = all;
@@ -175,7 +186,8 @@ absorb_part d i bytes all o e is good some = record {
   output = said_nothing o;
 }
 
-if_same : (b : Bool) (d : ServerState) → (if b then (let p : ServerState × List ℕ = (d, []) in p) else (d, [])) ≡ (d, [])
+if_same : (b : Bool) (d : ServerState) → (if b then (let p : ServerState × List ℕ = (d, []) in p) else (d, []))
+    ≡ (d, [])
 if_same true d = refl
 if_same false d = refl
 
@@ -184,7 +196,8 @@ behind_nothing d = if_same d.over d
 
 pub absorb_whole : (d after : ServerState) (i bytes all body left : List ℕ) (o out : WaitingFrames) → all ≡ i ++ bytes
     → IsWhole all → is_some (fault_of all) ≡ false → all ≡ string body → body ≡ drop 4 all
-    → after ≡ (step d body).1 → out ≡ with_said o (step d body).0 → left ≡ [] → Absorbs (server_of d i o) bytes (server_of after left out)
+    → after ≡ (step d body).1 → out ≡ with_said o (step d body).0 → left ≡ []
+    → AbsorbsBytes (server_of d i o) bytes (server_of after left out)
 absorb_whole d after i bytes all body left o out is whole good framed behind_four stepped said none =
     let len : length body ≡ length all - 4 = ap length behind_four ∙ length-drop 4 all in
     let w = whole.len in

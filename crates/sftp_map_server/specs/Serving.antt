@@ -1,4 +1,4 @@
--- A file machine behind a link: what it answers to the bytes that come, and what it gives.
+-- A file machine as a link: its replies to the bytes that come, and the bytes that it sends.
 use Rattle.std.specs.Prelude.{
   ◌≡◌,
   ◌<◌,
@@ -39,15 +39,15 @@ use Rattle.sftp_model.specs.Frames.{reply_frame}
 use Rattle.sftp_model.specs.RequestReadings.{request_at}
 use Rattle.machine_model.specs.FileTree.{FileTree}
 use Rattle.machine_model.specs.FirstTree.{FirstFile, first_tree}
-use Rattle.machine_model.specs.HandleRequests.{capped}
+use Rattle.machine_model.specs.HandleRequests.{capped_at}
 use Rattle.machine_model.specs.TreeAnswers.{first_choice, limits_reply}
-use Rattle.sftp_wire.specs.FrameReader.{fault_of, missing}
-use Rattle.sftp_machine.specs.MachineState.{MachineState, answer}
-use Rattle.sftp_machine.specs.WaitingFrames.{WaitingFrames, turned}
+use Rattle.sftp_wire.specs.FrameReader.{fault_of, missing_bytes}
+use Rattle.machine_answers.specs.MachineState.{MachineState, answer}
+use Rattle.machine_answers.specs.WaitingFrames.{WaitingFrames, with_next_picked}
 
--- ---- what is said
+-- ---- The replies
 
--- bytes that are given at once, and frames that wait until they are picked
+-- Bytes that are sent at once, and frames that wait until they are picked.
 pub record Replies : Type 0 where
   pub at_once : List ℕ
   pub later : List (List ℕ)
@@ -61,25 +61,25 @@ at_once frame = record { at_once = frame; later = [] }
 abbrev pub later : List ℕ → Replies
 later frame = record { at_once = []; later = frame ∷ [] }
 
--- one behind the other
+-- The replies of one followed by those of the other.
 abbrev pub both : Replies → Replies → Replies
 both a b = record { at_once = a.at_once ++ b.at_once; later = a.later ++ b.later }
 
--- ---- one request
+-- ---- One request
 
--- the machine, the choices that are left, whether the hello came, and whether the link is over
+-- The machine, the choices that are left, whether the hello came, and whether the link is over.
 pub record ServerState : Type 0 where
   pub machine : MachineState
   pub choices : List Choice
   pub greeted : Bool
   pub over : Bool
 
--- the extensions that VERSION tells, as bits: `limits` exactly where there are some
+-- The extensions that VERSION lists, as bits: `limits` exactly if there are limits.
 abbrev pub told_bits : ℕ → Option Limits → ℕ
 told_bits bits None = bit_and bits 31
 told_bits bits (Some limits) = bit_or bits LIMITS
 
--- the answer to the hello
+-- The reply to the hello.
 abbrev pub version_reply : ServerConfig → Reply
 version_reply config = reply.Version 3 (record { 0 = told_bits config.extensions.0 config.limits })
 
@@ -91,25 +91,25 @@ abbrev pub is_query : Request → Bool
 is_query request.LimitsQuery = true
 is_query other = false
 
--- the hello has no id
+-- The id of a request; the hello has none.
 abbrev pub id_of : Option ℕ → ℕ
 id_of None = 0
 id_of (Some id) = id
 
--- the link is over: nothing is answered any more
+-- The link is over: no request is answered any more.
 abbrev pub over_at : ServerState → ServerState
 over_at d = record { machine = d.machine; choices = d.choices; greeted = d.greeted; over = true }
 
--- the next choice is taken, and this is left of the machine
+-- The next choice is taken, and the machine is in this state.
 abbrev pub after_choice : ServerState → MachineState → ServerState
 after_choice d left = record { machine = left; choices = drop 1 d.choices; greeted = d.greeted; over = d.over }
 
--- a READ gives no more than one DATA can bring: by the length asked or by the cap
+-- True if a READ returns at most the bytes that one DATA can carry: by the length asked for or by the cap.
 abbrev pub gives_within : Request → Choice → Bool
-gives_within (request.Read handle offset len) choice = nat_le (capped choice.cap len) MAX_TRANSFER_LEN
+gives_within (request.Read handle offset len) choice = nat_le (capped_at choice.cap len) MAX_TRANSFER_LEN
 gives_within other choice = true
 
--- the hello is answered by VERSION, once and at once
+-- The hello is answered by VERSION, once and at once.
 abbrev pub greet : ServerState → Replies × ServerState
 greet d =
     if d.greeted then (nothing, over_at d)
@@ -118,7 +118,7 @@ greet d =
       record { machine = d.machine; choices = d.choices; greeted = true; over = d.over },
     )
 
--- a request of the machine takes the next choice, and its answer waits
+-- A request of the machine takes the next choice, and its reply waits.
 abbrev pub serve : ServerState → Option ℕ → Request → Replies × ServerState
 serve d id r =
     if gives_within r (first_choice d.choices) then (
@@ -127,8 +127,8 @@ serve d id r =
     )
     else (nothing, over_at d)
 
--- a request: what is said to it, and what it leaves. The first is the hello; the query for limits is answered at once
--- and takes no choice
+-- The replies to a request, and the state after it. The first request is the hello; the query for limits is answered at
+-- once and takes no choice.
 abbrev pub respond : ServerState → Option ℕ → Request → Replies × ServerState
 respond d id r =
     if is_hello r then greet d
@@ -136,18 +136,18 @@ respond d id r =
     (if is_query r then (at_once (reply_frame (limits_reply d.machine.config.limits) (id_of id)), d) else serve d id r)
     else (nothing, over_at d)
 
--- what was read; what reads as no request ends the link
-abbrev pub heed : ServerState → Option (Option ℕ × Request) → Replies × ServerState
-heed d (Some asked) = respond d asked.0 asked.1
-heed d None = (nothing, over_at d)
+-- The effect of a body that was read; one that cannot be read as a request ends the link.
+abbrev pub served_frame : ServerState → Option (Option ℕ × Request) → Replies × ServerState
+served_frame d (Some asked) = respond d asked.0 asked.1
+served_frame d None = (nothing, over_at d)
 
--- the body of a frame: nothing is answered once the link is over
+-- The effect of the body of a frame: no body is answered once the link is over.
 unfoldable pub step : ServerState → List ℕ → Replies × ServerState
-step d body = if d.over then (nothing, d) else heed d (result_ok (request_at body))
+step d body = if d.over then (nothing, d) else served_frame d (result_ok (request_at body))
 
--- ---- bytes that come and go
+-- ---- Bytes that come and are sent
 
--- what is said to bodies, one after another, and what they leave
+-- The replies to bodies, one after another.
 abbrev pub all_said : ServerState → List (List ℕ) → Replies
 all_said d [] = nothing
 all_said d (body ∷ more) = both (step d body).0 (all_said (step d body).1 more)
@@ -156,13 +156,13 @@ abbrev pub all_left : ServerState → List (List ℕ) → ServerState
 all_left d [] = d
 all_left d (body ∷ more) = all_left (step d body).1 more
 
--- the state, what came of the next frame, what is still to be given
+-- The state, the bytes that came of the next frame, and the frames still to be sent.
 pub record Server : Type 0 where
   pub state : ServerState
   pub input : List ℕ
   pub output : WaitingFrames
 
--- what is said stands behind what is still to be given
+-- The replies are added after the frames still to be sent.
 abbrev pub with_said : WaitingFrames → Replies → WaitingFrames
 with_said output said = record {
   ready = output.ready ++ said.at_once;
@@ -171,60 +171,60 @@ with_said output said = record {
       output.picks;
 }
 
--- the state and the input behind the frames that came whole: a length that is 0 or too great ends the link, and then
--- the bytes are dropped
+-- The state and the input after the frames that came whole. A length that is 0 or too great ends the link, and then the
+-- bytes are dropped.
 abbrev pub after_frames : ServerState → List ℕ → ServerState × List ℕ
 after_frames d rest =
     if d.over then (d, [])
     else if is_some (fault_of rest) then (over_at d, [])
     else (d, rest)
 
--- each body has a length that a frame may have
+-- Each body has a length that a frame may have.
 abbrev pub AllShort : List (List ℕ) → Type 0
 AllShort [] = Unit {0}
 AllShort (body ∷ more) = (0 < length body) × (length body ≤ MAX_BODY_LEN) × AllShort more
 
--- bytes came: the frames that are whole then are answered in order
-pub record Absorbs (before : Server) (bytes : List ℕ) (after : Server) : Type 0 where
+-- Bytes came: the frames that are then whole are answered in order.
+pub record AbsorbsBytes (before : Server) (bytes : List ℕ) (after : Server) : Type 0 where
   pub bodies : List (List ℕ)
   pub rest : List ℕ
   pub short : AllShort bodies
   pub framed : before.input ++ bytes ≡ flat_map string bodies ++ rest
   pub state : after.state ≡ (after_frames (all_left before.state bodies) rest).0
   pub input : after.input ≡ (after_frames (all_left before.state bodies) rest).1
-  pub part : 0 < missing after.input
+  pub part : 0 < missing_bytes after.input
   pub output : after.output ≡ with_said before.output (all_said before.state bodies)
 
--- bytes were given, of the frame that is being given or of the one that is picked next
+-- Bytes were sent, of the frame that is being sent or of the one that is picked next.
 pub record GivesSome (before : Server) (bytes : List ℕ) (after : Server) : Type 0 where
-  pub ready : (turned before.output).ready ≡ bytes ++ after.output.ready
-  pub waiting : after.output.waiting ≡ (turned before.output).waiting
-  pub picks : after.output.picks ≡ (turned before.output).picks
+  pub ready : (with_next_picked before.output).ready ≡ bytes ++ after.output.ready
+  pub waiting : after.output.waiting ≡ (with_next_picked before.output).waiting
+  pub picks : after.output.picks ≡ (with_next_picked before.output).picks
   pub input : after.input ≡ before.input
   pub state : after.state ≡ before.state
 
--- Bytes were given. None are given only where none are left, and then nothing changes.
+-- Bytes were sent. If none were, none are left, and nothing changes.
 abbrev pub HandsBytes : Server → List ℕ → Server → Type 0
-HandsBytes before [] after = (after ≡ before) × ((turned before.output).ready ≡ [])
+HandsBytes before [] after = (after ≡ before) × ((with_next_picked before.output).ready ≡ [])
 HandsBytes before (b ∷ bytes) after = GivesSome before (b ∷ bytes) after
 
--- a log, with its newest piece first, is that of such a server
+-- A log, with its newest piece first, is that of such a server.
 abbrev pub IsServed : Server → List Piece → Server → Type 0
 IsServed first [] now = now ≡ first
-IsServed first (Sent bytes ∷ log) now = (mid : Server) × IsServed first log mid × Absorbs mid bytes now
+IsServed first (Sent bytes ∷ log) now = (mid : Server) × IsServed first log mid × AbsorbsBytes mid bytes now
 IsServed first (Got bytes ∷ log) now = (mid : Server) × IsServed first log mid × HandsBytes mid bytes now
 
--- ---- a server in memory
+-- ---- A server in memory
 
--- a server's state by its parts
+-- A server's state by its parts.
 abbrev pub server_of : ServerState → List ℕ → WaitingFrames → Server
 server_of state input output = record { state = state; input = input; output = output }
 
--- a server before anything came, which is to give its replies by these picks
-abbrev pub opened : ServerState → List ℕ → Server
-opened d picks = server_of d [] (record { ready = []; waiting = []; picks = picks })
+-- A server to which no bytes were sent yet, with the picks for its replies.
+abbrev pub fresh_server : ServerState → List ℕ → Server
+fresh_server d picks = server_of d [] (record { ready = []; waiting = []; picks = picks })
 
--- the state of these files and directories before the first request
+-- The state of these files and directories before the first request.
 abbrev pub first_state : List FirstFile → List (List ℕ) → ServerConfig → List Choice → ServerState
 first_state files dirs config choices = record {
   machine = record { tree = first_tree files dirs; config = config; grants = 0 };
@@ -233,27 +233,28 @@ first_state files dirs config choices = record {
   over = false;
 }
 
--- a server with its log, of which the newest piece stands first, and the flag of the end
+-- A server with its log, the newest piece first, and the flag of the end.
 pub record Serving : Type 0 where
   pub first : Server
   pub now : Server
   pub log : List Piece
   pub ended : Bool
 
--- the files and directories that are left
+-- The files and directories that are left.
 abbrev pub tree_left : Serving → FileTree
 tree_left s = s.now.state.machine.tree
 
--- what it offers
+-- The extensions and limits that it offers.
 abbrev pub config_of : Serving → ServerConfig
 config_of s = s.first.state.machine.config
 
--- what it says of itself as a link: it never fails, and serves from its first state
+-- Its view as a link: it never fails, and serves from its first state.
 abbrev pub server_view : Serving → LinkView Server
 server_view s = record { log = Some s.log; faults = 0; ended = s.ended; service = s.first }
 
--- what it keeps: its log is that of such a server from the first on, and it ends only where nothing is left to be given
+-- Its invariant: its log is that of such a server from the first state on, and it ends only if no bytes are left to be
+-- sent.
 pub record IsServing (first now : Server) (log : List Piece) (ended : Bool) : Type 0 where
   pub served : IsServed first log now
-  pub part : 0 < missing now.input
-  pub end : ended ≡ true → (turned now.output).ready ≡ []
+  pub part : 0 < missing_bytes now.input
+  pub end : ended ≡ true → (with_next_picked now.output).ready ≡ []

@@ -1,4 +1,4 @@
-// What is said to the body of a frame.
+//! The replies to the bodies of frames.
 ghost use Rattle.std.specs.Prelude.{◌≡◌, ◌≤◌, Some, false, true, length, IfOk, OnOk, OnErr};
 ghost use Rattle.std.specs.Result.{result_ok};
 ghost use Rattle.sftp_model.specs.Answers.{IsAfterHello};
@@ -10,7 +10,7 @@ ghost use Rattle.machine_model.specs.TreeAnswers.{first_choice, limits_reply};
 ghost use Rattle.sftp_map_server.specs.Serving.{at_once, gives_within as gives_within_by, greet, id_of as id_by, is_hello as is_hello_by, is_query as is_query_by, over_at, respond, serve, after_choice, step, version_reply, with_said};
 
 use bitflags::Flags;
-use sftp_machine::{Machine, Outbox, gives_within};
+use machine_answers::{Machine, Outbox, gives_within};
 use sftp_model::{Choice, Extensions, FrameError, Reply, Request, ServerConfig};
 use sftp_values::{ByteText, Items};
 use sftp_wire::{read_request, write_reply};
@@ -18,7 +18,7 @@ use ssh_encoding::OutOfMemory;
 use std::alloc::Global;
 use std::marker::Model;
 
-/// A machine, its choices, and where the link stands.
+/// A machine, its choices, and the state of the link.
 #[derive(Drop)]
 pub(crate) struct ServerState {
     alloc: Global,
@@ -43,11 +43,11 @@ impl Model for ServerState {
       over = d.over;
     } };
 
-    // replies fit a frame
+    // Replies fit a frame.
     ghost invariant = { λ d. (d.used ≤ length d.choices) × IsFit d.machine.tree };
 }
 
-/// Whether a request is the hello.
+/// Returns true if a request is the hello.
 fn is_hello(request: &Request) -> bool
     ensures { result ≡ is_hello_by request.now }
 {
@@ -57,7 +57,7 @@ fn is_hello(request: &Request) -> bool
     }
 }
 
-/// Whether a request is the query for limits.
+/// Returns true if a request is the query for limits.
 fn is_query(request: &Request) -> bool
     ensures { result ≡ is_query_by request.now }
 {
@@ -67,14 +67,14 @@ fn is_query(request: &Request) -> bool
     }
 }
 
-/// Whether the answer to a request has no more bytes than one DATA can bring.
+/// Returns true if the reply to a request has at most the bytes that one DATA can carry.
 fn may_serve(request: &Request, choice: Choice) -> bool
     ensures { result ≡ gives_within_by request.now choice }
 {
     gives_within(request, choice.cap)
 }
 
-/// The request that a body spells, with its id; None where it spells none.
+/// Returns the request that a body spells, with its id; None if it spells none.
 fn asked(alloc: Global, body: &[u8]) -> Result<Option<(Option<u32>, Request)>, OutOfMemory>
     ensures { IfOk result (λ asked. asked ≡ result_ok (request_at body.now)) }
 {
@@ -85,7 +85,7 @@ fn asked(alloc: Global, body: &[u8]) -> Result<Option<(Option<u32>, Request)>, O
     }
 }
 
-/// The answer to the hello.
+/// Returns the reply to the hello.
 pub fn version(config: ServerConfig) -> Reply
     ensures { result ≡ version_reply config }
 {
@@ -99,7 +99,11 @@ pub fn version(config: ServerConfig) -> Reply
     }
 }
 
-/// The frame of a reply that fits one.
+/// Returns the frame of a reply that fits one.
+///
+/// # Errors
+///
+/// `OutOfMemory` if an allocation fails.
 pub fn frame_of(alloc: Global, reply: &Reply, id: u32) -> Result<Vec<u8>, OutOfMemory>
     requires { length (reply_body reply.now id) ≤ MAX_BODY_LEN }
     ensures { IfOk result (λ frame. frame.items ≡ reply_frame reply.now id) }
@@ -112,7 +116,7 @@ pub fn frame_of(alloc: Global, reply: &Reply, id: u32) -> Result<Vec<u8>, OutOfM
     }
 }
 
-/// The id of a request; the hello has none.
+/// Returns the id of a request; the hello has none.
 fn id_of(id: Option<u32>) -> u32
     ensures { result ≡ id_by id }
 {
@@ -123,7 +127,7 @@ fn id_of(id: Option<u32>) -> u32
 }
 
 impl ServerState {
-    /// Before the first request.
+    /// Creates the state before the first request.
     pub(crate) fn new(alloc: Global, machine: Machine, choices: Items<Choice>) -> ServerState
         requires { IsFit machine.tree }
         ensures { result ≡ record { machine = machine; choices = choices; greeted = false; over = false } }
@@ -138,35 +142,35 @@ impl ServerState {
         }
     }
 
-    /// The machine.
+    /// Returns the machine.
     pub(crate) fn machine(&self) -> &Machine
         ensures { result.now ≡ self.now.machine }
     {
         &self.machine
     }
 
-    /// The most bytes that one call moves; 0 is no limit.
+    /// Returns the most bytes that one call moves; 0 is no limit.
     pub(crate) fn cut(&self) -> u32
         ensures { result ≡ self.now.machine.config.cut }
     {
         self.machine.config().cut
     }
 
-    /// Whether the link is over.
+    /// Returns true if the link is over.
     pub(crate) fn is_over(&self) -> bool
         ensures { result ≡ self.now.over }
     {
         self.over
     }
 
-    /// The link is over.
+    /// Ends the link.
     pub(crate) fn end(&mut self)
         ensures { self.new ≡ over_at self.old }
     {
         self.over = true;
     }
 
-    // The choice for the next request.
+    // Returns the choice for the next request.
     fn choice(&self) -> Choice
         ensures { result ≡ first_choice self.now.choices }
     {
@@ -176,12 +180,12 @@ impl ServerState {
         }
     }
 
-    // The hello is answered by VERSION, once.
+    // Answers the hello by VERSION, once.
     fn greet(&mut self, outbox: &mut Outbox) -> Result<(), OutOfMemory>
         ensures left { OnOk result (self.new ≡ (greet self.old).1) }
         ensures said { OnOk result (outbox.new ≡ with_said outbox.old (greet self.old).0) }
-        ensures kept { OnErr result (self.new ≡ self.old) }
-        ensures same { OnErr result (outbox.new ≡ outbox.old) }
+        ensures unchanged { OnErr result (self.new ≡ self.old) }
+        ensures outbox { OnErr result (outbox.new ≡ outbox.old) }
     {
         if self.greeted {
             self.over = true;
@@ -193,19 +197,19 @@ impl ServerState {
         Ok(())
     }
 
-    // The query for limits is answered at once, and takes no choice.
+    // Answers the query for limits at once; it takes no choice.
     fn tell(&self, id: Option<u32>, query: &Request, outbox: &mut Outbox) -> Result<(), OutOfMemory>
         requires { is_query_by query.now ≡ true }
         ensures said { OnOk result (outbox.new ≡ with_said outbox.old
             (at_once (reply_frame (limits_reply self.now.machine.config.limits) (id_by id)))) }
-        ensures same { OnErr result (outbox.new ≡ outbox.old) }
+        ensures outbox { OnErr result (outbox.new ≡ outbox.old) }
     {
         let answered = self.machine.answer(query, Choice { refuse: 0, cap: 0 })?;
         let frame = frame_of(self.alloc, answered.reply(), id_of(id))?;
         outbox.say(&frame)
     }
 
-    // A request of the machine takes the next choice, and its answer waits.
+    // Answers a request of the machine, which takes the next choice; the reply waits.
     fn serve(
         &mut self,
         id: Option<u32>,
@@ -215,8 +219,8 @@ impl ServerState {
         requires { IsAfterHello request.now }
         ensures left { OnOk result (self.new ≡ (serve self.old id request.now).1) }
         ensures said { OnOk result (outbox.new ≡ with_said outbox.old (serve self.old id request.now).0) }
-        ensures kept { OnErr result (self.new ≡ self.old) }
-        ensures same { OnErr result (outbox.new ≡ outbox.old) }
+        ensures unchanged { OnErr result (self.new ≡ self.old) }
+        ensures outbox { OnErr result (outbox.new ≡ outbox.old) }
     {
         let choice = self.choice();
         if !may_serve(request, choice) {
@@ -234,7 +238,7 @@ impl ServerState {
         Ok(())
     }
 
-    // The next choice is taken.
+    // Takes the next choice.
     fn spend(&mut self)
         ensures { self.new ≡ after_choice self.old self.old.machine }
     {
@@ -243,7 +247,7 @@ impl ServerState {
         }
     }
 
-    // Answers a request, of which the first is the hello.
+    // Answers a request; the first one must be the hello.
     fn respond(
         &mut self,
         id: Option<u32>,
@@ -252,8 +256,8 @@ impl ServerState {
     ) -> Result<(), OutOfMemory>
         ensures left { OnOk result (self.new ≡ (respond self.old id request.now).1) }
         ensures said { OnOk result (outbox.new ≡ with_said outbox.old (respond self.old id request.now).0) }
-        ensures kept { OnErr result (self.new ≡ self.old) }
-        ensures same { OnErr result (outbox.new ≡ outbox.old) }
+        ensures unchanged { OnErr result (self.new ≡ self.old) }
+        ensures outbox { OnErr result (outbox.new ≡ outbox.old) }
     {
         if is_hello(request) {
             return self.greet(outbox);
@@ -268,14 +272,14 @@ impl ServerState {
         self.serve(id, request, outbox)
     }
 
-    /// Answers the body of a frame: VERSION and the limits are said at once, and the frame of another answer waits. An
-    /// Err comes only for want of memory, and nothing is changed.
+    /// Answers the body of a frame: VERSION and the limits are sent at once, and the frame of any other reply waits.
+    /// Fails only if an allocation fails; nothing is changed.
     #[tactic(auto, unfolding(crate::specs::Serving::step))]
     pub(crate) fn answer(&mut self, body: &[u8], outbox: &mut Outbox) -> Result<(), OutOfMemory>
         ensures left { OnOk result (self.new ≡ (step self.old body.now).1) }
         ensures said { OnOk result (outbox.new ≡ with_said outbox.old (step self.old body.now).0) }
-        ensures kept { OnErr result (self.new ≡ self.old) }
-        ensures same { OnErr result (outbox.new ≡ outbox.old) }
+        ensures unchanged { OnErr result (self.new ≡ self.old) }
+        ensures outbox { OnErr result (outbox.new ≡ outbox.old) }
     {
         if self.over {
             return Ok(());

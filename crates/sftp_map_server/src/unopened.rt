@@ -1,8 +1,8 @@
-//! A server of files and directories that can tell what it offers.
+//! A server of files and directories whose VERSION can list its offer.
 ghost use Rattle.std.specs.Prelude.{◌≡◌, All, IfOk, true};
 ghost use Rattle.sftp_model.specs.Fits.{FitsNumber, FitsSet};
 ghost use Rattle.machine_model.specs.FirstTree.{may_begin};
-ghost use Rattle.sftp_map_server.specs.Unopened.{IsUnopened, unopened};
+ghost use Rattle.sftp_map_server.specs.Unopened.{IsUnopened, unopened_server};
 
 use crate::map_server::MapServer;
 use sftp_model::{Choice, ServerConfig};
@@ -10,8 +10,12 @@ use sftp_values::{ByteText, Items};
 use ssh_encoding::OutOfMemory;
 use std::alloc::Global;
 
-/// A server of these files, each a path and its bytes, and these directories, each a path, whose k-th request takes the k-th
-/// choice, and which gives its replies by these picks. It offers no unknown extension. Refused only for want of memory.
+/// Creates a server of these files, each a path and its bytes, and these directories, each a path. Its k-th request
+/// takes the k-th choice, and it sends its replies by these picks. It offers no unknown extension.
+///
+/// # Errors
+///
+/// `OutOfMemory` if an allocation fails.
 pub fn new_server(
     alloc: Global,
     files: &[(ByteText, ByteText)],
@@ -22,10 +26,10 @@ pub fn new_server(
 ) -> Result<MapServer, OutOfMemory>
     requires may { may_begin files.now dirs.now ≡ true }
     requires known { FitsSet config.extensions.0 }
-    ensures ok { IfOk result (λ server. server ≡ unopened files.now dirs.now config choices picks) }
+    ensures ok { IfOk result (λ server. server ≡ unopened_server files.now dirs.now config choices picks) }
     ensures unopened { IfOk result (λ server. IsUnopened server.first) }
 {
-    // for the contract: the code of each choice is a u32
+    // For the contract: the code of each choice is a u32.
     codes_fit(choices.as_slice());
     MapServer::new_tree(alloc, files, dirs, config, choices, picks)
 }

@@ -19,9 +19,14 @@ digit-with_bit : (bits k : ℕ) (value : Bool) → k < 32 → (bit_at (with_bit 
 digit-with_bit bits k true small =
     rw (bit_at_or bits (2 ^ k) k, bit_at-pow_same k) (grind (arith, bit_at-lt bits k))
 digit-with_bit bits k false small =
-    rw (bit_at_and bits (2 ^ 32 - 1 - 2 ^ k) k, bit_at_not w32 (2 ^ k) k (pow_below k 32 small) small, bit_at-pow_same k) (grind arith)
+    rw (
+      bit_at_and bits (2 ^ 32 - 1 - 2 ^ k) k,
+      bit_at_not w32 (2 ^ k) k (pow_below k 32 small) small,
+      bit_at-pow_same k,
+    ) (grind arith)
 
-digit-with_bit_other : (bits j k : ℕ) (value : Bool) → j < 32 → k < 32 → j ≢ k → bit_at (with_bit bits (2 ^ k) value) j ≡ bit_at bits j
+digit-with_bit_other : (bits j k : ℕ) (value : Bool) → j < 32 → k < 32 → j ≢ k → bit_at (with_bit bits (2 ^ k) value) j
+    ≡ bit_at bits j
 digit-with_bit_other bits j k true within small apart =
     rw (bit_at_or bits (2 ^ k) j, bit_at-pow_other k j apart) (omega arith)
 digit-with_bit_other bits j k false within small apart =
@@ -36,7 +41,8 @@ pub has_bit-with_bit : (bits k : ℕ) (value : Bool) → k < 32 → has_bit (wit
 has_bit-with_bit bits k value small = has_bit-digit (with_bit bits (2 ^ k) value) k ∙ digit-with_bit bits k value small
 
 -- every other bit stays
-pub has_bit-with_bit_other : (bits j k : ℕ) (value : Bool) → j < 32 → k < 32 → j ≢ k → has_bit (with_bit bits (2 ^ k) value) (2 ^ j) ≡ has_bit bits (2 ^ j)
+pub has_bit-with_bit_other : (bits j k : ℕ) (value : Bool) → j < 32 → k < 32 → j ≢ k
+    → has_bit (with_bit bits (2 ^ k) value) (2 ^ j) ≡ has_bit bits (2 ^ j)
 has_bit-with_bit_other bits j k value within small apart =
     has_bit-digit (with_bit bits (2 ^ k) value) j
     ∙ ap (λ digit. digit == 1) (digit-with_bit_other bits j k value within small apart)
@@ -46,27 +52,34 @@ has_bit-with_bit_other bits j k value within small apart =
 pub has_bit-permission_bits : (mode k : ℕ) → k < 12 → has_bit (permission_bits mode) (2 ^ k) ≡ has_bit mode (2 ^ k)
 has_bit-permission_bits mode k small =
     has_bit-digit (permission_bits mode) k
-    ∙ ap (λ digit. digit == 1) (bit_at_and mode (2 ^ 12 - 1) k ∙ rw (bit_at_ones 12 k small) (omega (arith, bit_at-lt mode k)))
+    ∙ ap (λ digit. digit == 1) (bit_at_and mode (2 ^ 12 - 1) k
+    ∙ rw (bit_at_ones 12 k small) (omega (arith, bit_at-lt mode k)))
     ∙ sym (has_bit-digit mode k)
 
 -- the three bits of writing, once each was set
-others_may_write : (bits : ℕ) (value : Bool) → has_bit (with_bit (with_bit (with_bit bits 0o200 value) 0o20 value) 0o2 value) 0o2 ≡ value
+others_may_write : (bits : ℕ) (value : Bool) → has_bit (with_bit (with_bit (with_bit bits 0o200 value) 0o20 value) 0o2
+    value) 0o2 ≡ value
 others_may_write bits value = has_bit-with_bit (with_bit (with_bit bits 0o200 value) 0o20 value) 1 value (omega arith)
 
-group_may_write : (bits : ℕ) (value : Bool) → has_bit (with_bit (with_bit (with_bit bits 0o200 value) 0o20 value) 0o2 value) 0o20 ≡ value
+group_may_write : (bits : ℕ) (value : Bool) → has_bit (with_bit (with_bit (with_bit bits 0o200 value) 0o20 value) 0o2
+    value) 0o20 ≡ value
 group_may_write bits value =
-    has_bit-with_bit_other (with_bit (with_bit bits 0o200 value) 0o20 value) 4 1 value (omega arith) (omega arith) (λ e. absurd cc)
+    has_bit-with_bit_other (with_bit (with_bit bits 0o200 value) 0o20 value) 4 1 value (omega arith) (omega arith)
+    (λ e. absurd cc)
     ∙ has_bit-with_bit (with_bit bits 0o200 value) 4 value (omega arith)
 
-owner_may_write : (bits : ℕ) (value : Bool) → has_bit (with_bit (with_bit (with_bit bits 0o200 value) 0o20 value) 0o2 value) 0o200 ≡ value
+owner_may_write : (bits : ℕ) (value : Bool) → has_bit (with_bit (with_bit (with_bit bits 0o200 value) 0o20 value) 0o2
+    value) 0o200 ≡ value
 owner_may_write bits value =
-    has_bit-with_bit_other (with_bit (with_bit bits 0o200 value) 0o20 value) 7 1 value (omega arith) (omega arith) (λ e. absurd cc)
+    has_bit-with_bit_other (with_bit (with_bit bits 0o200 value) 0o20 value) 7 1 value (omega arith) (omega arith)
+    (λ e. absurd cc)
     ∙ has_bit-with_bit_other (with_bit bits 0o200 value) 7 4 value (omega arith) (omega arith) (λ e. absurd cc)
     ∙ has_bit-with_bit bits 7 value (omega arith)
 
 -- `readonly` answers what was set
 pub readonly_reads_back : (bits : ℕ) (readonly : Bool) → is_readonly (with_readonly bits readonly) ≡ readonly
-readonly_reads_back bits true = rw (owner_may_write bits false, group_may_write bits false, others_may_write bits false) refl
+readonly_reads_back bits true = rw (owner_may_write bits false, group_may_write bits false, others_may_write bits false)
+    refl
 readonly_reads_back bits false = rw (owner_may_write bits true) refl
 
 -- the same of the permissions that `set_readonly` leaves

@@ -12,7 +12,7 @@ use Rattle.sftp_meta.specs.declared.file_type.RawFileType.TheVariants.{
   FIFO,
 }
 
--- the kind of file that these bits alone say
+-- The kind of file that these bits alone name.
 abbrev pub type_of_bits : ℕ → Option RawFileType
 type_of_bits bits =
     if bits == 0o140000 then Some Socket
@@ -24,6 +24,6 @@ type_of_bits bits =
     else if bits == 0o010000 then Some FIFO
     else None
 
--- the kind of file of an `st_mode`
+-- The kind of file of an `st_mode`.
 abbrev pub type_of_mode : ℕ → Option RawFileType
 type_of_mode mode = type_of_bits (bit_and mode 0o170000)

@@ -1,9 +1,12 @@
+//! The kinds of file.
 ghost use Rattle.std.specs.Prelude.{◌≡◌, ◌↔◌, IsTrue};
 ghost use Rattle.sftp_meta.specs.FileType.{type_of_mode};
 
 use std::marker::Model;
 
 /// The kinds of file, by the bits `0o170000` of POSIX's `st_mode`.
+///
+/// Example: `crates/test_wire/src/metadata.rt`.
 #[derive(Clone, Copy, Debug, PartialEq, Eq, Hash)]
 pub enum RawFileType {
     /// `0o140000`.
@@ -22,7 +25,9 @@ pub enum RawFileType {
     FIFO,
 }
 
-/// The kind of a file, as `MetaData::file_type` answers it. A contract sees the `RawFileType`.
+/// The kind of a file, as `MetaData::file_type` returns it. A contract sees the `RawFileType`.
+///
+/// Example: `crates/test_wire/src/metadata.rt`.
 #[derive(Clone, Copy, Debug, PartialEq, Eq, Hash)]
 pub struct FileType(RawFileType);
 
@@ -37,7 +42,7 @@ impl Model for FileType {
 }
 
 impl FileType {
-    /// The kind of file of an `st_mode`, where its bits `0o170000` are those of one.
+    /// Returns the kind of file of an `st_mode`, if its bits `0o170000` are those of one.
     pub(crate) fn of_mode(mode: u32) -> Option<FileType>
         ensures { result ≡ type_of_mode mode }
     {
@@ -54,56 +59,56 @@ impl FileType {
         Some(FileType(kind))
     }
 
-    /// The kind of file.
+    /// Returns the kind of file.
     pub fn as_raw(&self) -> RawFileType
         ensures { result ≡ self.now }
     {
         self.0
     }
 
-    /// Whether it is a directory.
+    /// Returns true if it is a directory.
     pub fn is_dir(&self) -> bool
         ensures { IsTrue result ↔ (self.now ≡ RawFileType.Directory) }
     {
         self.0 == RawFileType::Directory
     }
 
-    /// Whether it is a regular file.
+    /// Returns true if it is a regular file.
     pub fn is_file(&self) -> bool
         ensures { IsTrue result ↔ (self.now ≡ RawFileType.RegularFile) }
     {
         self.0 == RawFileType::RegularFile
     }
 
-    /// Whether it is a symbolic link.
+    /// Returns true if it is a symbolic link.
     pub fn is_symlink(&self) -> bool
         ensures { IsTrue result ↔ (self.now ≡ RawFileType.Symlink) }
     {
         self.0 == RawFileType::Symlink
     }
 
-    /// Whether it is a pipe with a name.
+    /// Returns true if it is a named pipe.
     pub fn is_fifo(&self) -> bool
         ensures { IsTrue result ↔ (self.now ≡ RawFileType.FIFO) }
     {
         self.0 == RawFileType::FIFO
     }
 
-    /// Whether it is a socket.
+    /// Returns true if it is a socket.
     pub fn is_socket(&self) -> bool
         ensures { IsTrue result ↔ (self.now ≡ RawFileType.Socket) }
     {
         self.0 == RawFileType::Socket
     }
 
-    /// Whether it is a block device.
+    /// Returns true if it is a block device.
     pub fn is_block_device(&self) -> bool
         ensures { IsTrue result ↔ (self.now ≡ RawFileType.BlockDevice) }
     {
         self.0 == RawFileType::BlockDevice
     }
 
-    /// Whether it is a character device.
+    /// Returns true if it is a character device.
     pub fn is_char_device(&self) -> bool
         ensures { IsTrue result ↔ (self.now ≡ RawFileType.CharacterDevice) }
     {

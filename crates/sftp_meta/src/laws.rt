@@ -1,11 +1,11 @@
-//! Laws of the definitions. The functions do nothing: what they ensure holds of all values.
+//! Laws of the definitions. The functions do nothing: what they ensure holds for all values.
 ghost use Rattle.std.specs.Prelude.{◌≡◌, ◌≢◌, ℕ, ◌<◌, ◌^◌, Bool};
 ghost use Rattle.std.specs.Int.RustNames.{bit_and};
 ghost use Rattle.sftp_model.specs.Readings.{permission_bits, has_bit};
 ghost use Rattle.sftp_meta.specs.Permissions.{with_bit, is_readonly, with_readonly};
 
-/// A setter's bit reads back as it was set, and each other bit as before. The twelve permissions are the
-/// bits `2 ^ 0` to `2 ^ 11`.
+/// A setter's bit reads back as it was set, and each other bit is unchanged. The twelve permissions are the bits `2 ^
+/// 0` to `2 ^ 11`.
 pub fn permissions_by_bit()
     ensures reads_back { (bits k : ℕ) (value : Bool) → k < 12 → has_bit (with_bit bits (2 ^ k) value) (2 ^ k) ≡ value }
     ensures others_stay { (bits j k : ℕ) (value : Bool) → j < 12 → k < 12 → j ≢ k
@@ -19,7 +19,8 @@ pub fn permissions_of_modes()
     ensures each_bit { (mode k : ℕ) → k < 12 → has_bit (permission_bits mode) (2 ^ k) ≡ has_bit mode (2 ^ k) }
 {}
 
-/// `readonly` answers what `set_readonly` was given, and the bits but the three of writing stay.
+/// `readonly` returns the value that `set_readonly` was passed, and the bits other than the three of writing are
+/// unchanged.
 pub fn readonly_by_bits()
     ensures reads_back { (bits : ℕ) (readonly : Bool) → is_readonly (with_readonly bits readonly) ≡ readonly }
     ensures others_stay { (bits k : ℕ) (readonly : Bool) → k < 12 → k ≢ 7 → k ≢ 4 → k ≢ 1

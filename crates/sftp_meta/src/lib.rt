@@ -1,5 +1,5 @@
-//! What a client of SFTP sees of a file beside its bytes: permissions, the kind of file, times, owners and
-//! length, under the names of the Rust crate `openssh-sftp-client`.
+//! The metadata of a file: permissions, the kind of file, times, owners and length, under the names of the Rust crate
+//! `openssh-sftp-client`.
 #![tactic(auto)]
 
 mod file_type;

@@ -1,3 +1,4 @@
+//! A builder of metadata.
 ghost use Rattle.std.specs.Prelude.{◌≡◌, Some};
 ghost use Rattle.sftp_model.specs.Frames.{no_attributes};
 
@@ -7,8 +8,10 @@ use crate::unix_timestamp::UnixTimeStamp;
 use sftp_model::FileAttrs;
 use std::marker::Model;
 
-/// Makes a `MetaData` part by part. A contract sees the attributes that were set so far. Each call but
-/// `create` answers the builder that it changed, so that calls are chained.
+/// A builder that makes a `MetaData` part by part. A contract sees the attributes that were set so far. Each call
+/// except `create` returns the builder that it changed, so that calls can be chained.
+///
+/// Example: `crates/test_files/src/paths/names.rt`.
 #[derive(Clone, Copy, Debug)]
 pub struct MetaDataBuilder(FileAttrs);
 
@@ -23,7 +26,7 @@ impl Model for MetaDataBuilder {
 }
 
 impl MetaDataBuilder {
-    /// A builder with nothing set.
+    /// Creates a builder with nothing set.
     pub fn new() -> MetaDataBuilder
         ensures { result ≡ no_attributes }
     {
@@ -35,7 +38,7 @@ impl MetaDataBuilder {
         })
     }
 
-    /// Takes back all that was set.
+    /// Resets everything that was set.
     pub fn reset(&mut self) -> &mut MetaDataBuilder
         ensures same_reference { result.ghost_name ≡ self.entry.ghost_name }
         ensures value { result.now ≡ no_attributes }
@@ -44,7 +47,7 @@ impl MetaDataBuilder {
         self
     }
 
-    /// Sets the numbers of the user and of the group who own the file.
+    /// Sets the numeric ids of the user and of the group who own the file.
     pub fn id(&mut self, id: (u32, u32)) -> &mut MetaDataBuilder
         ensures same_reference { result.ghost_name ≡ self.entry.ghost_name }
         ensures value { result.now ≡ record self.old { id = Some id } }
@@ -53,7 +56,7 @@ impl MetaDataBuilder {
         self
     }
 
-    /// Sets the permissions. The kind of file stays unsaid.
+    /// Sets the permissions. The kind of file stays unspecified.
     pub fn permissions(&mut self, permissions: Permissions) -> &mut MetaDataBuilder
         ensures same_reference { result.ghost_name ≡ self.entry.ghost_name }
         ensures value { result.now ≡ record self.old { permissions = Some permissions } }
@@ -71,7 +74,7 @@ impl MetaDataBuilder {
         self
     }
 
-    /// Sets when the file was last read and last written.
+    /// Sets the times of the last read and the last write of the file.
     pub fn time(&mut self, accessed: UnixTimeStamp, modified: UnixTimeStamp) -> &mut MetaDataBuilder
         ensures same_reference { result.ghost_name ≡ self.entry.ghost_name }
         ensures value { result.now ≡ record self.old { time = Some (accessed, modified) } }
@@ -80,7 +83,7 @@ impl MetaDataBuilder {
         self
     }
 
-    /// What was set so far.
+    /// Returns the metadata that was set so far.
     pub fn create(&self) -> MetaData
         ensures { result ≡ self.now }
     {
@@ -91,7 +94,7 @@ impl MetaDataBuilder {
 impl Default for MetaDataBuilder {
     ghost is_default = { λ b. b ≡ no_attributes };
 
-    /// A builder with nothing set.
+    /// Returns a builder with nothing set.
     fn default() -> MetaDataBuilder {
         MetaDataBuilder::new()
     }

@@ -1,3 +1,4 @@
+//! The permissions of a file.
 ghost use Rattle.std.specs.Prelude.{◌≡◌, ℕ};
 ghost use Rattle.sftp_model.specs.Readings.{permission_bits, has_bit};
 ghost use Rattle.sftp_meta.specs.Permissions.{with_bit, is_readonly, with_readonly};
@@ -7,9 +8,11 @@ use crate::raw_permissions::RawPermissions;
 use bitflags::Flags;
 use std::marker::Model;
 
-/// The permissions of a file, as the low twelve bits of POSIX's `st_mode`. A contract sees them as the number
-/// of their bits. Each setter changes its own bit and no other, and answers the permissions that it changed,
-/// so that setters are chained.
+/// The permissions of a file, as the low twelve bits of POSIX's `st_mode`. A contract sees them as the number of their
+/// bits. Each setter changes its own bit and no other, and returns the permissions that it changed, so that setters can
+/// be chained.
+///
+/// Example: `crates/test_wire/src/metadata.rt`.
 #[derive(Clone, Copy, Debug, PartialEq, Eq, Hash)]
 pub struct Permissions(RawPermissions);
 
@@ -22,35 +25,35 @@ impl Model for Permissions {
 }
 
 impl Permissions {
-    /// No permission.
+    /// Returns no permissions.
     pub fn new() -> Permissions
         ensures { result ≡ 0 }
     {
         Permissions(RawPermissions::empty())
     }
 
-    /// The permissions of these flags, with any bit that no flag names.
+    /// Returns the permissions of these flags, including any bit that no flag names.
     pub fn from_raw(p: RawPermissions) -> Permissions
         ensures { result ≡ bits_of p }
     {
         Permissions(p)
     }
 
-    /// The permissions of an `st_mode`, without the kind of file.
+    /// Returns the permissions of an `st_mode`, without the kind of file.
     pub(crate) fn of_mode(mode: u32) -> Permissions
         ensures { result ≡ permission_bits mode }
     {
         Permissions(RawPermissions::from_bits_retain(mode & 0o7777))
     }
 
-    /// The permissions as flags.
+    /// Returns the permissions as flags.
     pub fn as_raw(&self) -> RawPermissions
         ensures { bits_of result ≡ self.now }
     {
         self.0
     }
 
-    /// Whether the file runs as its owner (set-user-id), `0o4000`.
+    /// Returns true if the file runs as its owner (set-user-id), `0o4000`.
     pub fn suid(&self) -> bool
         ensures { result ≡ has_bit self.now 0o4000 }
     {
@@ -66,7 +69,7 @@ impl Permissions {
         self
     }
 
-    /// Whether the file runs as its group (set-group-id), `0o2000`.
+    /// Returns true if the file runs as its group (set-group-id), `0o2000`.
     pub fn sgid(&self) -> bool
         ensures { result ≡ has_bit self.now 0o2000 }
     {
@@ -82,7 +85,7 @@ impl Permissions {
         self
     }
 
-    /// Whether only owners delete files of the directory (sticky), `0o1000`.
+    /// Returns true if only owners delete files of the directory (sticky), `0o1000`.
     pub fn svtx(&self) -> bool
         ensures { result ≡ has_bit self.now 0o1000 }
     {
@@ -98,7 +101,7 @@ impl Permissions {
         self
     }
 
-    /// Whether the owner may read, `0o400`.
+    /// Returns true if the owner may read, `0o400`.
     pub fn read_by_owner(&self) -> bool
         ensures { result ≡ has_bit self.now 0o400 }
     {
@@ -114,7 +117,7 @@ impl Permissions {
         self
     }
 
-    /// Whether the owner may write, `0o200`.
+    /// Returns true if the owner may write, `0o200`.
     pub fn write_by_owner(&self) -> bool
         ensures { result ≡ has_bit self.now 0o200 }
     {
@@ -130,7 +133,7 @@ impl Permissions {
         self
     }
 
-    /// Whether the owner may execute, `0o100`.
+    /// Returns true if the owner may execute, `0o100`.
     pub fn execute_by_owner(&self) -> bool
         ensures { result ≡ has_bit self.now 0o100 }
     {
@@ -146,7 +149,7 @@ impl Permissions {
         self
     }
 
-    /// Whether the group may read, `0o40`.
+    /// Returns true if the group may read, `0o40`.
     pub fn read_by_group(&self) -> bool
         ensures { result ≡ has_bit self.now 0o40 }
     {
@@ -162,7 +165,7 @@ impl Permissions {
         self
     }
 
-    /// Whether the group may write, `0o20`.
+    /// Returns true if the group may write, `0o20`.
     pub fn write_by_group(&self) -> bool
         ensures { result ≡ has_bit self.now 0o20 }
     {
@@ -178,7 +181,7 @@ impl Permissions {
         self
     }
 
-    /// Whether the group may execute, `0o10`.
+    /// Returns true if the group may execute, `0o10`.
     pub fn execute_by_group(&self) -> bool
         ensures { result ≡ has_bit self.now 0o10 }
     {
@@ -194,7 +197,7 @@ impl Permissions {
         self
     }
 
-    /// Whether others may read, `0o4`.
+    /// Returns true if others may read, `0o4`.
     pub fn read_by_other(&self) -> bool
         ensures { result ≡ has_bit self.now 0o4 }
     {
@@ -210,7 +213,7 @@ impl Permissions {
         self
     }
 
-    /// Whether others may write, `0o2`.
+    /// Returns true if others may write, `0o2`.
     pub fn write_by_other(&self) -> bool
         ensures { result ≡ has_bit self.now 0o2 }
     {
@@ -226,7 +229,7 @@ impl Permissions {
         self
     }
 
-    /// Whether others may execute, `0o1`.
+    /// Returns true if others may execute, `0o1`.
     pub fn execute_by_other(&self) -> bool
         ensures { result ≡ has_bit self.now 0o1 }
     {
@@ -242,15 +245,15 @@ impl Permissions {
         self
     }
 
-    /// Whether nobody may write: neither the owner, nor the group, nor others.
+    /// Returns true if nobody may write: neither the owner, nor the group, nor others.
     pub fn readonly(&self) -> bool
         ensures { result ≡ is_readonly self.now }
     {
         !self.write_by_owner() && !self.write_by_group() && !self.write_by_other()
     }
 
-    /// Lets nobody write where `readonly` is true, and the owner, the group and others where it isn't. No file
-    /// changes by it.
+    /// Removes write permission from everybody if `readonly` is true, and gives it to the owner, the group and others
+    /// otherwise. No file changes by it.
     #[tactic(auto, using(crate::proofs::Bits::readonly_after))]
     pub fn set_readonly(&mut self, readonly: bool)
         ensures value { self.new ≡ with_readonly self.old readonly }
@@ -265,7 +268,7 @@ impl Permissions {
 impl Default for Permissions {
     ghost is_default = { λ p. p ≡ 0 };
 
-    /// No permission.
+    /// Returns no permissions.
     fn default() -> Permissions {
         Permissions::new()
     }
@@ -274,7 +277,7 @@ impl Default for Permissions {
 impl From<u16> for Permissions {
     ghost from_gives = { λ mode p. p ≡ permission_bits mode };
 
-    /// The permissions of an `st_mode`, as `0o755`. Bits over `0o7777` are ignored.
+    /// Returns the permissions of an `st_mode`, such as `0o755`. Bits over `0o7777` are ignored.
     fn from(mode: u16) -> Permissions {
         Permissions::of_mode(u32::from(mode))
     }

@@ -1,10 +1,11 @@
+//! The permission bits as a set of flags.
 ghost use Rattle.std.specs.Prelude.{⊤, ◌≡◌, [], ◌∷◌, codes};
 ghost use Rattle.sftp_meta.specs.RawPermissions.{bits_of};
 
 use bitflags::{Flag, Flags, bitflag_items};
 
-/// The permission bits of POSIX's `st_mode`, as a set of flags. It may hold other bits too, as what
-/// `from_bits_retain` makes.
+/// The permission bits of POSIX's `st_mode`, as a set of flags. It may hold other bits too, for example those kept by
+/// `from_bits_retain`.
 #[derive(Clone, Copy, Debug, PartialEq, Eq, Hash)]
 pub struct RawPermissions(u32);
 
@@ -38,7 +39,7 @@ bitflag_items! {
 }
 
 impl RawPermissions {
-    /// The bits as a number.
+    /// Returns the bits as a number.
     pub fn bits(&self) -> u32
         ensures { result ≡ bits_of self.now }
     {

@@ -1,3 +1,4 @@
+//! Equality of the values of metadata.
 ghost use Rattle.sftp_meta.specs.Same.{raw_permissions_decides, permissions_decides, raw_file_type_decides, file_type_decides, timestamp_decides, metadata_decides};
 
 use crate::file_type::{FileType, RawFileType};

@@ -2,10 +2,10 @@
 use Rattle.std.proofs.Common.{ℕ, List, sym, subst}
 use Rattle.std.specs.Prelude.{Option}
 use Rattle.sftp_map_server.specs.Serving.{Serving}
-use Rattle.program_ends.specs.Completed.{HasCauses}
-use Rattle.program_ends.specs.Ended.{End, status_of}
-use Rattle.program_ends.specs.Outside.{Outside}
-use Rattle.program_ends.proofs.Causing.{has_causes, memory_causes, sink_causes}
+use Rattle.program_shell.specs.Completed.{HasCauses}
+use Rattle.program_shell.specs.Ended.{End, status_of}
+use Rattle.program_shell.specs.Outside.{Outside}
+use Rattle.program_shell.proofs.Causing.{has_causes, memory_causes, sink_causes}
 use Rattle.sftp_mirror.specs.Ended.{EndsSo, ProgramEnds}
 use Rattle.sftp_mirror.specs.Lists.{list_of}
 use Rattle.sftp_mirror.specs.Printed.{IsCopied}

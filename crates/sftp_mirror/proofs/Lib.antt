@@ -1,9 +1,9 @@
-pub mod SizeLaws
-pub mod ListLaws
-pub mod CopyLaws
-pub mod Running
-pub mod Reading
-pub mod AskedLaws
-pub mod Linked
-pub mod Completing
-pub mod Causing
+mod SizeLaws
+mod ListLaws
+mod CopyLaws
+mod Running
+mod Reading
+mod AskedLaws
+mod Linked
+mod Completing
+mod Causing

@@ -9,12 +9,12 @@ use Rattle.sftp_model.specs.declared.outcome.Outcome.{Outcome}
 use Rattle.sftp_model.specs.declared.reply.Reply.{Reply}
 use Rattle.plan_model.specs.declared.call.Lane.{Lane}
 use Rattle.session_model.specs.declared.turn.Turn.{Turn}
-use Rattle.session_model.specs.Settings.{greeting, setting_of}
-use Rattle.session_model.specs.Shown.{Shows}
-use Rattle.session_driver.specs.Session.{Given, IsFixed}
+use Rattle.session_model.specs.Settings.{version_reply_of, setting_of}
+use Rattle.session_model.specs.Shown.{ShowsExchange}
+use Rattle.session_driver.specs.Session.{SessionInputs, IsFixed}
 use Rattle.sftp_map_server.specs.Serving.{IsServing, Serving, version_reply}
 use Rattle.sftp_map_server.specs.Unopened.{IsUnopened}
-use Rattle.map_server_laws.proofs.Whole.{version_is_told, run_is_served}
+use Rattle.machine_laws.proofs.Whole.{version_is_told, run_is_served}
 use Rattle.mirror_jobs.specs.declared.job.Job.{Job}
 use Rattle.mirror_jobs.specs.JobLanes.{lanes_of, turns_of}
 use Rattle.mirror_jobs.specs.Verdicts.{verdicts_of}
@@ -22,8 +22,8 @@ use Rattle.sftp_mirror.specs.declared.copy.CopyReport.{CopyReport}
 use Rattle.sftp_mirror.specs.declared.list.CopyList.{CopyList}
 use Rattle.sftp_mirror.specs.declared.schedule.Schedule.{Schedule}
 use Rattle.sftp_mirror.specs.Copies.{IsCopyReport, MayCopy}
-use Rattle.program_ends.specs.Ended.{IsServerOf}
-use Rattle.program_ends.proofs.Stopping.{begins_well, from_empty}
+use Rattle.program_shell.specs.Ended.{IsServerOf}
+use Rattle.program_shell.proofs.Stopping.{begins_well, from_empty}
 use Rattle.sftp_mirror.specs.Printed.{IsCopied, IsServedCopy, copy_text}
 
 -- a value in Some
@@ -33,25 +33,26 @@ some_is x y e = ap (λ o. unwrap_or o x) e
 pub served_copy : (schedule : Schedule) (jobs : List Job) (options : SftpOptions) (old now : Serving) (r : CopyReport)
     → MayCopy schedule.width schedule.rounds jobs → IsUnopened old.first → old.log ≡ [] → now.first ≡ old.first
     → IsServing now.first now.now now.log now.ended
-    → IsCopyReport schedule.width schedule.rounds jobs options (Some old.log) (Some now.log) r → IsServedCopy schedule jobs options now r
+    → IsCopyReport schedule.width schedule.rounds jobs options (Some old.log) (Some now.log) r
+    → IsServedCopy schedule jobs options now r
 served_copy schedule jobs options old now r may new none same serving copied =
     let lanes : List Lane = lanes_of schedule.width jobs in
     let turns : List Turn = turns_of schedule.width schedule.rounds jobs in
     let report = copied.report in
-    let given : Given = record { lanes = lanes; options = options } in
-    let hello : Option Reply = Some (greeting report.extensions) in
+    let given : SessionInputs = record { lanes = lanes; options = options } in
+    let hello : Option Reply = Some (version_reply_of report.extensions) in
     let s = setting_of lanes options report.extensions report.past in
     let fixed : IsFixed given hello report.past s = (report.extensions, (refl, refl)) in
     let fresh : IsUnopened now.first = subst IsUnopened (sym same) new in
-    let shown : Shows (greeting report.extensions) report.past [] now.log =
-    from_empty (Shows (greeting report.extensions) report.past) old.log now.log none report.log in
+    let shown : ShowsExchange (version_reply_of report.extensions) report.past [] now.log =
+    from_empty (ShowsExchange (version_reply_of report.extensions) report.past) old.log now.log none report.log in
     let told = version_is_told given hello s report.past now fresh serving fixed shown in
     let served = run_is_served given hello s turns report.past now fresh serving may.lanes report.run fixed shown in
     record {
       extensions = report.extensions;
       past = report.past;
       run = report.run;
-      version = some_is (greeting report.extensions) (version_reply now.first.state.machine.config) told;
+      version = some_is (version_reply_of report.extensions) (version_reply now.first.state.machine.config) told;
       shown = shown;
       served = served;
       closed = report.closed;

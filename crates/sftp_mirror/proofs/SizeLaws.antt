@@ -33,16 +33,16 @@ use Rattle.std.proofs.lemmas.List.{length-append}
 use Rattle.std.proofs.lemmas.List.Folds.{list_all-append}
 use Rattle.std.proofs.lemmas.List.Sums.{sum_by-append, sum_by-cons}
 use Rattle.sftp_model.specs.Paths.{slash}
-use Rattle.machine_model.specs.Components.{Name, components, entered, parent_of, parts_of, walked, with_byte}
+use Rattle.machine_model.specs.Components.{Name, components, step_into, parent_of, parts_of, walk_from, with_byte}
 use Rattle.plan_model.specs.declared.call.Lane.{Lane}
 use Rattle.plan_model.specs.Lanes.{are_ok, is_within, lane_weight, weight, weight_limit}
-use Rattle.sftp_script.specs.Scripts.{MAX_SCRIPT_LEN}
+use Rattle.script_grammar.specs.Scripts.{MAX_SCRIPT_LEN}
 use Rattle.mirror_jobs.specs.declared.directory.Directory.{Directory}
 use Rattle.mirror_jobs.specs.declared.job.Job.{Job}
 use Rattle.mirror_jobs.specs.declared.job.Job.TheVariants as job
-use Rattle.mirror_jobs.specs.JobLanes.{calls_of, copy_lane, copy_lanes, dealt, lanes_of, mkdir_call}
+use Rattle.mirror_jobs.specs.JobLanes.{calls_of, copy_lane, copy_lanes, jobs_of_lane, lanes_of, mkdir_call}
 use Rattle.mirror_jobs.specs.Jobs.{is_bounded}
-use Rattle.mirror_jobs.specs.Parents.{all_inserted, directories_above, inserted, is_made_before, leading_slash, parents, parents_of}
+use Rattle.mirror_jobs.specs.Parents.{all_inserted, directories_above, insert_directory, is_made_before, leading_slash, parents, parents_of}
 
 -- what a file may count: its calls, and a MKDIR for each byte of its path
 abbrev pub job_cost : Job → ℕ
@@ -83,18 +83,19 @@ take_len n name = omega (arith, length-take_most (length name - 1) name)
     length-take_most (suc k) [] = omega arith
     length-take_most (suc k) (x ∷ xs) = let rest = length-take_most k xs in omega (arith, rest)
 
-entered_len : (at : Name) (part : List ℕ) → length (entered at part) ≤ length at + 1
+entered_len : (at : Name) (part : List ℕ) → length (step_into at part) ≤ length at + 1
 entered_len at part = by_tests (bytes_eq part [] || bytes_eq part (codes ".")) (bytes_eq part (codes ".."))
   where
-    by_tests : (here up : Bool) → length (if here then at else if up then parent_of at else at ++ part ∷ []) ≤ length at + 1
+    by_tests : (here up : Bool) → length (if here then at else if up then parent_of at else at ++ part ∷ []) ≤ length at
+        + 1
     by_tests true up = omega arith
     by_tests false true = let fewer = take_len 0 at in omega (arith, fewer)
     by_tests false false = let one = length-append at (part ∷ []) in omega (arith, one)
 
-walked_len : (at : Name) (parts : List (List ℕ)) → length (walked at parts) ≤ length at + length parts
+walked_len : (at : Name) (parts : List (List ℕ)) → length (walk_from at parts) ≤ length at + length parts
 walked_len at [] = omega arith
 walked_len at (part ∷ parts) =
-    let first = entered_len at part in let rest = walked_len (entered at part) parts in omega (arith, first, rest)
+    let first = entered_len at part in let rest = walked_len (step_into at part) parts in omega (arith, first, rest)
 
 components_len : (path : List ℕ) → length (components path) ≤ length path + 1
 unfolding components
@@ -103,18 +104,20 @@ components_len path = let a = walked_len [] (parts_of path) in let b = parts_len
 above_len : (leading : List ℕ) (at parts : Name) → length (directories_above leading at parts) ≤ length parts - 1
 above_len leading at [] = omega arith
 above_len leading at (part ∷ []) = omega arith
-above_len leading at (part ∷ next ∷ parts) = let rest = above_len leading (at ++ part ∷ []) (next ∷ parts) in omega (arith, rest)
+above_len leading at (part ∷ next ∷ parts) = let rest = above_len leading (at ++ part ∷ []) (next ∷ parts) in
+    omega (arith, rest)
 
 parents_of_len : (path content : List ℕ) → length (parents_of (job.Up path content)) ≤ length path
 parents_of_len path content =
     let a = above_len (leading_slash path) [] (components path) in let b = components_len path in omega (arith, a, b)
 
-inserted_len : (d : Directory) (ds : List Directory) → length (inserted d ds) ≤ length ds + 1
+inserted_len : (d : Directory) (ds : List Directory) → length (insert_directory d ds) ≤ length ds + 1
 inserted_len d [] = omega arith
 inserted_len d (other ∷ ds) = by_tests (bytes_eq d.path other.path) (is_made_before d other) (inserted_len d ds)
   where
-    by_tests : (same before : Bool) → length (inserted d ds) ≤ length ds + 1
-        → length (if same then other ∷ ds else if before then d ∷ other ∷ ds else other ∷ inserted d ds) ≤ suc (length ds) + 1
+    by_tests : (same before : Bool) → length (insert_directory d ds) ≤ length ds + 1
+        → length (if same then other ∷ ds else if before then d ∷ other ∷ ds else other ∷ insert_directory d ds) ≤ suc
+        (length ds) + 1
     by_tests true before h = omega arith
     by_tests false true h = omega arith
     by_tests false false h = omega (arith, h)
@@ -146,7 +149,7 @@ cost_is (job.Down path bound ∷ jobs) = let rest = cost_is jobs in omega (arith
 
 -- what lane k of so many counts for files of which the first has number n
 abbrev lane_of : ℕ → ℕ → ℕ → List Job → ℕ
-lane_of width k n jobs = sum_by weight (flat_map calls_of (dealt width k n jobs))
+lane_of width k n jobs = sum_by weight (flat_map calls_of (jobs_of_lane width k n jobs))
 
 -- and m lanes from lane k on
 abbrev lanes_from : ℕ → ℕ → ℕ → ℕ → List Job → ℕ
@@ -180,9 +183,10 @@ lane_more : (width k n : ℕ) (j : Job) (jobs : List Job) → lane_of width k n 
     ≡ (if n % width == k then calls_weight j else 0) + lane_of width k (n + 1) jobs
 lane_more width k n j jobs = by_test (n % width == k)
   where
-    by_test : (t : Bool) → sum_by weight (flat_map calls_of (if t then j ∷ dealt width k (n + 1) jobs else dealt width k (n + 1) jobs))
+    by_test : (t : Bool) → sum_by weight (flat_map calls_of (if t then j ∷ jobs_of_lane width k (n + 1) jobs else
+        jobs_of_lane width k (n + 1) jobs))
         ≡ (if t then calls_weight j else 0) + lane_of width k (n + 1) jobs
-    by_test true = sum_by-append weight (calls_of j) (flat_map calls_of (dealt width k (n + 1) jobs))
+    by_test true = sum_by-append weight (calls_of j) (flat_map calls_of (jobs_of_lane width k (n + 1) jobs))
     by_test false = omega arith
 
 lanes_more : (width k m n : ℕ) (j : Job) (jobs : List Job)
@@ -203,7 +207,8 @@ lanes_most width k m n (j ∷ jobs) =
     let rest = lanes_most width k m (n + 1) jobs in
     omega (arith, here, one, rest)
 
-copy_weight : (width k m : ℕ) (jobs : List Job) → sum_by lane_weight (copy_lanes width jobs k m) ≡ m + lanes_from width k m 0 jobs
+copy_weight : (width k m : ℕ) (jobs : List Job) → sum_by lane_weight (copy_lanes width jobs k m)
+    ≡ m + lanes_from width k m 0 jobs
 copy_weight width k zero jobs = refl
 copy_weight width k (suc m) jobs =
     let here = sum_by-cons lane_weight (copy_lane width jobs k) (copy_lanes width jobs (k + 1) m) in
@@ -213,11 +218,13 @@ copy_weight width k (suc m) jobs =
 mkdirs_weight : (ds : List Directory) → sum_by weight (map mkdir_call ds) ≡ 2 * length ds
 mkdirs_weight [] = refl
 mkdirs_weight (d ∷ ds) =
-    let here = sum_by-cons weight (mkdir_call d) (map mkdir_call ds) in let rest = mkdirs_weight ds in omega (arith, here, rest)
+    let here = sum_by-cons weight (mkdir_call d) (map mkdir_call ds) in let rest = mkdirs_weight ds in
+    omega (arith, here, rest)
 
 all_lanes_weight : (width : ℕ) (jobs : List Job) → sum_by lane_weight (lanes_of width jobs) ≤ 1 + width + jobs_cost jobs
 all_lanes_weight width jobs =
-    let here = sum_by-cons lane_weight (record { calls = map mkdir_call (parents jobs) }) (copy_lanes width jobs 0 width) in
+    let here = sum_by-cons lane_weight (record { calls = map mkdir_call (parents jobs) })
+    (copy_lanes width jobs 0 width) in
     let dirs = mkdirs_weight (parents jobs) in
     let copies = copy_weight width 0 width jobs in
     let most = lanes_most width 0 width 0 jobs in
@@ -237,15 +244,23 @@ calls_within : (j : Job) → is_bounded j ≡ true → list_all is_within (calls
 calls_within (job.Up path content) h = rw (bound_within (length content) h) refl
 calls_within (job.Down path bound) h = rw h refl
 
-dealt_within : (width k n : ℕ) (jobs : List Job) → list_all is_bounded jobs ≡ true → list_all is_within (flat_map calls_of (dealt width k n jobs)) ≡ true
+dealt_within : (width k n : ℕ) (jobs : List Job) → list_all is_bounded jobs ≡ true
+    → list_all is_within (flat_map calls_of (jobs_of_lane width k n jobs)) ≡ true
 dealt_within width k n [] h = refl
 dealt_within width k n (j ∷ jobs) h =
     let both = and_parts (is_bounded j) (list_all is_bounded jobs) h in
     by_test (n % width == k) (calls_within j both.0) (dealt_within width k (n + 1) jobs both.1)
   where
-    by_test : (t : Bool) → list_all is_within (calls_of j) ≡ true → list_all is_within (flat_map calls_of (dealt width k (n + 1) jobs)) ≡ true
-        → list_all is_within (flat_map calls_of (if t then j ∷ dealt width k (n + 1) jobs else dealt width k (n + 1) jobs)) ≡ true
-    by_test true here rest = rw (list_all-append is_within (calls_of j) (flat_map calls_of (dealt width k (n + 1) jobs)), here, rest) refl
+    by_test : (t : Bool) → list_all is_within (calls_of j) ≡ true
+        → list_all is_within (flat_map calls_of (jobs_of_lane width k (n + 1) jobs)) ≡ true
+        → list_all is_within (flat_map calls_of (if t then j ∷ jobs_of_lane width k (n + 1) jobs else
+        jobs_of_lane width k (n + 1) jobs)) ≡ true
+    by_test true here rest = rw (
+      list_all-append is_within (calls_of j)
+          (flat_map calls_of (jobs_of_lane width k (n + 1) jobs)),
+      here,
+      rest,
+    ) refl
     by_test false here rest = rest
 
 copies_within : (width k m : ℕ) (jobs : List Job) → list_all is_bounded jobs ≡ true

@@ -2,7 +2,7 @@
 ghost use Rattle.std.specs.Prelude.{◌≡◌};
 ghost use Rattle.sftp_mirror.specs.Words.{help_text};
 
-/// What `--help` writes.
+/// Returns the text of `--help`.
 #[tactic(auto, unfolding(crate::specs::Words::help_text))]
 pub(crate) fn help_text() -> &'static str
     ensures { result.now ≡ help_text }
@@ -11,24 +11,31 @@ pub(crate) fn help_text() -> &'static str
 Usage: sftp_mirror copy WIDTH ROUNDS | unix PATH WIDTH ROUNDS | --help | --version
 
   copy WIDTH ROUNDS
-               copies the files that standard input lists, over a server in memory
+               copy the files listed on standard input, over a server in memory
   unix PATH WIDTH ROUNDS
-               copies them over the SFTP server that listens on the Unix socket PATH
-  --help       writes this text
-  --version    writes the version
+               copy them over the SFTP server that listens on the Unix socket PATH
+  --help       print this help
+  --version    print the version
 
-WIDTH is how many files are copied at once, 1 to 64. ROUNDS, 0 to 4096, is how often all of
-them get a turn before the rest is done file by file. A line of the list is one of
+WIDTH is the number of files copied at once, 1 to 64. ROUNDS, 0 to 4096, is the number of
+turns that all of them get before the rest is copied file by file. A line of the list is
 
-  up NAME CONTENT    writes a file on the server, and reads it back
-  down NAME BOUND    reads a file by at most BOUND requests that bring bytes
+  up NAME CONTENT    write a file on the server, and read it back
+  down NAME BOUND    read a file with at most BOUND requests that return bytes
 
 or a line option, server, file, dir, choice or pick of docs/SPEC.md. NAME and CONTENT are
 hexadecimal, or - for no bytes.
 
-For each file a line copied, got, differs, givenup or refused is written, and then, with
-copy, the files and directories that are left. The status is 0 where all was done, 1 where
-the session failed, 2 for a list or words that can't be used, 3 where the input failed, 4
-where the output failed, 5 where memory ran out, and 6 where nothing answers at PATH.
+The program writes a line copied, got, differs, givenup or refused for each file, and then,
+with copy, the files and directories left on the server.
+
+Exit status:
+  0  everything was done
+  1  the session failed
+  2  the list or the arguments are invalid
+  3  standard input failed
+  4  standard output failed
+  5  out of memory
+  6  no server listens at PATH
 "
 }

@@ -1,17 +1,17 @@
-//! Lists of files to copy are read from their lines.
+//! Reads lists of files to copy from their lines.
 ghost use Rattle.std.specs.Prelude.{◌≡◌, IfErr, IfOk, Ok, OnOk};
 ghost use Rattle.machine_model.specs.Components.{components};
 ghost use Rattle.mirror_jobs.specs.Jobs.{name_of};
 ghost use Rattle.script_words.specs.Lines.{two_words, words_of};
 ghost use Rattle.script_words.specs.Refusals.{RefusesLine, RefusesScript};
-ghost use Rattle.sftp_script.specs.Setup.{path_in};
+ghost use Rattle.script_grammar.specs.Setup.{path_in};
 ghost use Rattle.sftp_mirror.specs.CanCopy.{CanCopy};
 ghost use Rattle.sftp_mirror.specs.Lists.{content_in, down_line, job_line, line_by, list_of, name_in, nothing_read, up_line, with_job};
 
 use crate::names::{has_name, may_be_named, stands_beside_all};
+use machine_answers::components;
 use mirror_jobs::Job;
-use sftp_machine::components;
-use sftp_script::{
+use script_grammar::{
     Draft, LineError, LineReader, Reason, Script, ScriptError, bytes_in, number_in, read_lines,
     two_words,
 };
@@ -19,14 +19,16 @@ use sftp_values::{ByteText, Items};
 use std::alloc::Global;
 use std::marker::Model;
 
-/// The most bytes of a list.
+/// The greatest length of a list in bytes.
 const MAX_LIST_LEN: usize = 16777216;
 
 const UP: &[u8] = b"up";
 
 const DOWN: &[u8] = b"down";
 
-/// What is read of a source: how the session is run, what a server in memory begins with, and the files to copy.
+/// The content of a source: the options of the session, the first content of a server in memory, and the files to copy.
+///
+/// Used in `crates/sftp_mirror/src/reply.rt`.
 #[derive(Debug, Drop)]
 pub struct CopyList {
     /// The lines of setup. It has no lanes and no turns.
@@ -35,7 +37,7 @@ pub struct CopyList {
     pub jobs: Items<Job>,
 }
 
-/// What was read so far.
+/// The part that was read so far.
 #[derive(Drop)]
 pub(crate) struct ListDraft {
     draft: Draft,
@@ -56,7 +58,7 @@ impl Model for ListDraft {
     ghost invariant = { λ d. d.names.items ≡ map name_of d.jobs.items };
 }
 
-/// A path of a name that may be there, and the name.
+/// Returns a path of a permitted name, and the name.
 fn path_in(alloc: Global, word: &[u8]) -> Result<(ByteText, Items<ByteText>), LineError>
     ensures ok { IfOk result (λ p. (path_in word.now ≡ Ok p.0) × (p.1 ≡ components p.0)) }
     ensures refused { IfErr result (λ e. RefusesLine (path_in word.now) e) }
@@ -69,7 +71,7 @@ fn path_in(alloc: Global, word: &[u8]) -> Result<(ByteText, Items<ByteText>), Li
     Ok((path, name))
 }
 
-/// Bytes that are fewer than the greatest bound of a read.
+/// Returns bytes that are fewer than the greatest bound of a read.
 fn content_in(alloc: Global, word: &[u8]) -> Result<ByteText, LineError>
     ensures ok { IfOk result (λ content. content_in word.now ≡ Ok content) }
     ensures refused { IfErr result (λ e. RefusesLine (content_in word.now) e) }
@@ -82,7 +84,7 @@ fn content_in(alloc: Global, word: &[u8]) -> Result<ByteText, LineError>
 }
 
 impl ListDraft {
-    /// Nothing read.
+    /// Returns the draft before any line.
     fn new(alloc: Global) -> ListDraft
         ensures { result ≡ nothing_read }
     {
@@ -93,7 +95,7 @@ impl ListDraft {
         }
     }
 
-    /// What was read.
+    /// Returns the list that was read.
     fn into_list(self) -> CopyList
         ensures { result ≡ record { script = self.draft.script; jobs = self.jobs } }
     {
@@ -103,7 +105,7 @@ impl ListDraft {
         }
     }
 
-    /// A path of a file more, and its name.
+    /// Returns a path of another file, and its name.
     fn name_in(&self, alloc: Global, word: &[u8]) -> Result<(ByteText, Items<ByteText>), LineError>
         ensures ok { IfOk result (λ p. (name_in self.now.jobs word.now ≡ Ok p.0) × (p.1 ≡ components p.0)) }
         ensures refused { IfErr result (λ e. RefusesLine (name_in self.now.jobs word.now) e) }
@@ -115,7 +117,7 @@ impl ListDraft {
         Ok((path, name))
     }
 
-    /// One file more, unless its name was given before.
+    /// Adds a file, unless its name was given before.
     fn add_job(&mut self, job: Job, name: Items<ByteText>) -> Result<(), LineError>
         requires { name ≡ name_of job }
         ensures ok { OnOk result (with_job self.old job ≡ Ok self.new) }
@@ -130,7 +132,7 @@ impl ListDraft {
         Ok(())
     }
 
-    /// One file more that goes up.
+    /// Adds an upload.
     fn add_up(&mut self, alloc: Global, name: &[u8], content: &[u8]) -> Result<(), LineError>
         ensures ok { OnOk result (up_line self.old name.now content.now ≡ Ok self.new) }
         ensures refused { IfErr result (λ e. RefusesLine (up_line self.old name.now content.now) e) }
@@ -146,7 +148,7 @@ impl ListDraft {
         )
     }
 
-    /// One file more that comes down.
+    /// Adds a download.
     fn add_down(&mut self, alloc: Global, name: &[u8], bound: &[u8]) -> Result<(), LineError>
         ensures ok { OnOk result (down_line self.old name.now bound.now ≡ Ok self.new) }
         ensures refused { IfErr result (λ e. RefusesLine (down_line self.old name.now bound.now) e) }
@@ -156,7 +158,7 @@ impl ListDraft {
         self.add_job(Job::Down { name: path, bound }, name)
     }
 
-    /// The words after `up`.
+    /// Reads the words after `up`.
     #[tactic(auto, using(script_words::proofs::Counts::not_two))]
     fn up_line(&mut self, alloc: Global, line: &[u8]) -> Result<(), LineError>
         ensures ok { OnOk result (two_words (up_line self.old) (words_of line.now) ≡ Ok self.new) }
@@ -166,7 +168,7 @@ impl ListDraft {
         self.add_up(alloc, name, content)
     }
 
-    /// The words after `down`.
+    /// Reads the words after `down`.
     #[tactic(auto, using(script_words::proofs::Counts::not_two))]
     fn down_line(&mut self, alloc: Global, line: &[u8]) -> Result<(), LineError>
         ensures ok { OnOk result (two_words (down_line self.old) (words_of line.now) ≡ Ok self.new) }
@@ -176,7 +178,7 @@ impl ListDraft {
         self.add_down(alloc, name, bound)
     }
 
-    /// A line that names a file to copy, by its first word.
+    /// Reads a line that names a file to copy, by its first word.
     fn job_line(&mut self, alloc: Global, word: &[u8], line: &[u8]) -> Result<(), LineError>
         ensures ok { OnOk result (job_line self.old word.now (words_of line.now) ≡ Ok self.new) }
         ensures refused { IfErr result (λ e. RefusesLine (job_line self.old word.now (words_of line.now)) e) }
@@ -203,9 +205,13 @@ impl LineReader for ListDraft {
     }
 }
 
-/// Reads a list of files to copy: the lines `option`, `server`, `file`, `dir`, `choice` and `pick` of a
-/// script, and a line `up` or `down` for each file. Refused with the number of the first line that is none of these, counted
-/// from 1, and why; one of more than 16777216 bytes is refused at line 0. `OutOfMemory` may come in place of any answer.
+/// Reads a list of files to copy: the lines `option`, `server`, `file`, `dir`, `choice` and `pick` of a script, and a
+/// line `up` or `down` for each file.
+///
+/// # Errors
+///
+/// `Line` with the number of the first line that is none of these, counted from 1, and the reason. A list of more than
+/// 16777216 bytes is refused at line 0. `OutOfMemory` if an allocation fails; it may come in place of any other result.
 #[tactic(auto, using(crate::proofs::ListLaws::list_read, crate::proofs::ListLaws::list_refused, crate::proofs::ListLaws::draft_can_copy))]
 pub fn read_list(alloc: Global, text: &[u8]) -> Result<CopyList, ScriptError>
     ensures ok { IfOk result (λ list. list_of text.now ≡ Ok list) }

@@ -15,7 +15,7 @@ pub use copy::{CopyReport, copy_jobs};
 pub use laws::{copies_are_complete, statuses_have_causes};
 pub use list::{CopyList, read_list};
 pub use program::mirror;
-use program_ends::{OUT_OF_MEMORY, exit_with, words_given};
+use program_shell::{OUT_OF_MEMORY, exit_with, words_given};
 use sftp_link::{ReadSource, UnixDial, WriteSink};
 use ssh_encoding::OutOfMemory;
 use std::process::ExitCode;

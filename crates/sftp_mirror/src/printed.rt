@@ -1,4 +1,4 @@
-//! The files of a list are copied over a server in memory, and the text of what became of them is made.
+//! Copies the files of a list over a server in memory, and makes the text of the results.
 ghost use Rattle.std.specs.Prelude.{◌≡◌, [], IfOk};
 ghost use Rattle.sftp_map_server.specs.Unopened.{IsUnopened};
 ghost use Rattle.sftp_mirror.specs.Copies.{MayCopy};
@@ -7,13 +7,13 @@ ghost use Rattle.sftp_mirror.specs.Printed.{IsServedCopy, copy_text};
 use crate::copy::{CopyReport, copy_jobs};
 use crate::schedule::Schedule;
 use mirror_jobs::{Job, Verdict, write_verdicts};
-use program_ends::{want_of_memory, write_dirs, write_files};
+use program_shell::{want_of_memory, write_dirs, write_files};
 use sftp_map_server::MapServer;
 use sftp_model::SftpOptions;
 use ssh_encoding::OutOfMemory;
 use std::alloc::Global;
 
-/// Copies files over a server that nothing was sent to.
+/// Copies files over a server to which nothing was sent.
 #[tactic(auto, using(crate::proofs::Running::served_copy))]
 pub(crate) fn copy_served(
     alloc: Global,
@@ -36,7 +36,7 @@ pub(crate) fn copy_served(
         schedule.rounds,
         options,
     );
-    // for the contract: its log is that of a server
+    // For the contract: its log is that of a server.
     let _ended = server.is_ended();
     match result {
         Ok(report) => Ok(report),
@@ -44,7 +44,7 @@ pub(crate) fn copy_served(
     }
 }
 
-/// What became of each file, and the files and directories that a server has.
+/// Returns the text of the result of each file, and of the files and directories that a server has.
 pub(crate) fn copy_text(
     alloc: Global,
     jobs: &[Job],

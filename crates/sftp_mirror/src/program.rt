@@ -1,30 +1,38 @@
+//! The whole run of the program.
 ghost use Rattle.std.specs.Prelude.{map};
 ghost use Rattle.std.specs.String.{string_bytes};
 ghost use Rattle.sftp_mirror.specs.Ended.{ProgramEnds};
-ghost use Rattle.program_ends.specs.Outside.{MayFail};
+ghost use Rattle.program_shell.specs.Outside.{MayFail};
 ghost use Rattle.sftp_mirror.specs.Words.{asked_by};
 
 use crate::answer::help_text;
 use crate::schedule::{copy_schedule, path_of, unix_schedule};
-use program_ends::{answer_in_memory, answer_over_link, answer_to, status_of, write_answer};
+use program_shell::{answer_in_memory, answer_over_link, answer_to, status_of, write_answer};
 use sftp_link::{Dial, Sink, Source};
 use sftp_map_server::MapServer;
 use std::alloc::Global;
 
-/// Does all that the program does, by the words of its command line without its name, and answers the status to end with.
+/// Runs the program with the arguments of its command line, without its name, and returns the exit status.
 ///
-/// With `copy` and two numbers it reads the source to its end and copies the files that it lists over a server of the list's
-/// files and directories in memory, by the list's choices and picks. The server is left in `kept`, and its log shows the
-/// frames of the run; where there was no run nothing is left there.
-/// With `unix`, a path and two numbers it copies them over a link to the server that listens there. That is dialled once,
-/// after the list, whose files, server, choices and picks are passed over; the link is given back to the dial, whatever came
-/// of the run.
+/// With `copy` and two numbers it reads the source to its end and copies the files that it lists over a server in
+/// memory. The server has the list's files and directories, and follows its choices and picks. It is left in `kept`,
+/// and its log shows the frames of the run. If there was no run, nothing is left there.
+///
+/// With `unix`, a path and two numbers it copies them over a link to the server that listens there. The link is dialled
+/// once, after the list was read. The list's files, server, choices and picks are ignored. The link is given back to
+/// the dial, whether or not the run succeeded.
+///
 /// `--help` and `--version` are answered with their texts.
 ///
-/// The status is 0 where the whole text was written; 1, with `unix` alone, where an error stopped the run and the line that
-/// names it was written; 2 where the bytes are no list or the words are others, and the line that says why was written. It is
-/// 3 where the source failed, 4 where the sink failed, 5 where there was no memory, and 6 where the dial failed; with 4 and 5
-/// a prefix of the text was written, or nothing.
+/// The status is:
+///
+/// - 0: the whole text was written.
+/// - 1, only with `unix`: an error stopped the run, and the line that names it was written.
+/// - 2: the bytes are no list or the arguments are not known, and the line with the reason was written.
+/// - 3: the source failed.
+/// - 4: the sink failed; a prefix of the text was written, or nothing.
+/// - 5: an allocation failed; a prefix of the text was written, or nothing.
+/// - 6: the dial failed.
 pub fn mirror<S: Source, K: Sink, D: Dial>(
     alloc: Global,
     words: &[String],

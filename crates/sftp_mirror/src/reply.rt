@@ -1,4 +1,4 @@
-//! How the files of a list are copied by a schedule, over a server in memory or over a link, and what is written of it.
+//! Copies the files of a list by a schedule, over a server in memory or over a link, and returns the text.
 ghost use Rattle.sftp_mirror.specs.CanCopy.{CanCopy};
 ghost use Rattle.sftp_mirror.specs.Dialled.{RunsOver};
 ghost use Rattle.sftp_mirror.specs.Lists.{list_of};
@@ -10,10 +10,10 @@ use crate::list::{CopyList, read_list};
 use crate::printed::{copy_served, copy_text};
 use crate::schedule::Schedule;
 use mirror_jobs::write_verdicts;
-use program_ends::{Answered, LinkProgram, Printed, Program, stop_reply};
+use program_shell::{Answered, LinkProgram, Printed, Program, stop_reply};
+use script_grammar::{Script, ScriptError};
 use sftp_link::{Link, Logged};
 use sftp_map_server::MapServer;
-use sftp_script::{Script, ScriptError};
 use ssh_encoding::OutOfMemory;
 use std::alloc::Global;
 
@@ -39,7 +39,8 @@ impl Program for Schedule {
         &list.script
     }
 
-    /// Copies the files, and gives the text of what became of each and of what is left.
+    /// Copies the files, and returns the text of the result of each and of the files and directories that are left.
+    /// Fails only if an allocation fails.
     #[tactic(auto, using(crate::proofs::Running::is_copied))]
     fn text_over(
         &self,
@@ -56,8 +57,8 @@ impl Program for Schedule {
 impl LinkProgram for Schedule {
     ghost over = { RunsOver };
 
-    /// Copies the files, and gives the text of what became of each, or the line of the error that stopped it. The list's files,
-    /// server, choices and picks are passed over.
+    /// Copies the files, and returns the text of the result of each, or the line of the error that stopped the run. The
+    /// list's files, server, choices and picks are ignored. Fails only if an allocation fails.
     #[tactic(auto, using(crate::proofs::Linked::is_shown))]
     fn reply_over<L: Link>(
         &self,

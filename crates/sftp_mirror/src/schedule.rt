@@ -1,10 +1,10 @@
-//! How files are spread over lanes, by the words of the command line.
+//! The schedule of the lanes and rounds that copy files, by the arguments of the command line.
 ghost use Rattle.std.specs.Prelude.{◌≡◌, map, IfOk, IfSome};
 ghost use Rattle.std.specs.Option.{option_copied};
 ghost use Rattle.std.specs.String.{string_bytes};
 ghost use Rattle.sftp_mirror.specs.Words.{IsSchedule, copy_of, path_of, schedule_in, unix_of};
 
-use sftp_script::{Reason, number_in};
+use script_grammar::{Reason, number_in};
 
 /// The most lanes that copy.
 const MAX_WIDTH: u64 = 64;
@@ -12,16 +12,18 @@ const MAX_WIDTH: u64 = 64;
 /// The most rounds.
 const MAX_ROUNDS: u64 = 4096;
 
-/// How files are spread over lanes, and how many rounds of turns they get before the rest is done.
+/// The number of lanes over which files are spread, and the number of rounds of turns before the rest is done.
+///
+/// Used in `crates/sftp_mirror/src/reply.rt`.
 #[derive(Clone, Copy, Debug, PartialEq, Eq)]
 pub struct Schedule {
-    /// How many lanes copy, from 1 to 64.
+    /// The number of lanes that copy, from 1 to 64.
     pub width: u32,
-    /// How many rounds there are, up to 4096.
+    /// The number of rounds, up to 4096.
     pub rounds: u32,
 }
 
-/// Two numbers, each within its range.
+/// Returns two numbers, each within its range.
 fn schedule_in(width: &[u8], rounds: &[u8]) -> Result<Schedule, Reason>
     ensures value { result ≡ schedule_in width.now rounds.now }
     ensures ranges { IfOk result IsSchedule }
@@ -34,7 +36,7 @@ fn schedule_in(width: &[u8], rounds: &[u8]) -> Result<Schedule, Reason>
     })
 }
 
-/// The schedule, where the words are `copy` and two numbers that may stand there.
+/// Returns the schedule, if the arguments are `copy` and two permitted numbers.
 pub(crate) fn copy_schedule(words: &[String]) -> Option<Schedule>
     ensures value { result ≡ copy_of (map string_bytes words.now) }
     ensures ranges { IfSome result IsSchedule }
@@ -51,7 +53,7 @@ pub(crate) fn copy_schedule(words: &[String]) -> Option<Schedule>
     }
 }
 
-/// The schedule, where the words are `unix`, a path and two numbers that may stand there.
+/// Returns the schedule, if the arguments are `unix`, a path and two permitted numbers.
 pub(crate) fn unix_schedule(words: &[String]) -> Option<Schedule>
     ensures value { result ≡ unix_of (map string_bytes words.now) }
     ensures ranges { IfSome result IsSchedule }
@@ -68,7 +70,7 @@ pub(crate) fn unix_schedule(words: &[String]) -> Option<Schedule>
     }
 }
 
-/// The second of the words, or nothing.
+/// Returns the second argument, or nothing.
 pub(crate) fn path_of(words: &[String]) -> &str
     ensures { result.now ≡ path_of (map string_bytes words.now) }
 {

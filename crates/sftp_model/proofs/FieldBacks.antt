@@ -40,11 +40,13 @@ use Rattle.sftp_model.specs.Frames.{where_there, two_numbers, bit, attribute_bit
 use Rattle.sftp_model.specs.Readings.{field, uint32_at, uint64_at, text_at, two_numbers_at, where_set, has_bit, attributes_at}
 
 -- a text reads as a value, whatever follows
-pub record ReadsBack {A : Type 0} (reading : List ℕ → Result (A × List ℕ) FrameError) (text : List ℕ) (v : A) : Type 0 where
-  pub back : (rest : List ℕ) → reading (text ++ rest) ≡ Ok (v, rest)
+pub record ReadsBack {A : Type 0} (reading : List ℕ → Result (A × List ℕ) FrameError) (text : List ℕ) (v : A) : Type 0
+  where
+    pub back : (rest : List ℕ) → reading (text ++ rest) ≡ Ok (v, rest)
 
 -- with nothing after it
-pub whole_back : {A : Type 0} (reading : List ℕ → Result (A × List ℕ) FrameError) (text : List ℕ) (v : A) → ReadsBack reading text v → reading text ≡ Ok (v, [])
+pub whole_back : {A : Type 0} (reading : List ℕ → Result (A × List ℕ) FrameError) (text : List ℕ) (v : A)
+    → ReadsBack reading text v → reading text ≡ Ok (v, [])
 whole_back reading text v b = ap reading (sym (append-nil text)) ∙ b.back []
 
 uint32_len : (n : ℕ) → length (uint32 n) ≡ 4
@@ -64,9 +66,11 @@ unfolding uint64
 uint64_value n h = from_be_bytes-to_be_bytes_8 n h
 
 -- the bytes of a number, by what they spell
-number_is : (w : Width) (text rest : List ℕ) (n : ℕ) → length text ≡ byte_len w → from_be_bytes w text ≡ n → field (number_at w (text ++ rest)) ≡ Ok (n, rest)
+number_is : (w : Width) (text rest : List ℕ) (n : ℕ) → length text ≡ byte_len w → from_be_bytes w text ≡ n
+    → field (number_at w (text ++ rest)) ≡ Ok (n, rest)
 number_is w text rest n len value =
-    let long : ltb (length (text ++ rest)) (byte_len w) ≡ false = le-ltb _ _ (omega (arith, length-append text rest, len)) in
+    let long : ltb (length (text ++ rest)) (byte_len w) ≡ false =
+    le-ltb _ _ (omega (arith, length-append text rest, len)) in
     rw (long, take_at text rest (byte_len w) len, drop_at text rest (byte_len w) len, value) refl
 
 pub number_back : (n : ℕ) → FitsNumber n → ReadsBack uint32_at (uint32 n) n
@@ -76,12 +80,14 @@ pub long_back : (n : ℕ) → FitsLong n → ReadsBack uint64_at (uint64 n) n
 long_back n h = record { back = λ rest. number_is w64 (uint64 n) rest n (uint64_len n) (uint64_value n h) }
 
 -- a length that was spelled, and that many bytes
-prefix_is : (head v rest : List ℕ) → length head ≡ 4 → from_be_bytes w32 head ≡ length v → FitsText v → prefix_at (head ++ (v ++ rest)) ≡ Ok (v, rest)
+prefix_is : (head v rest : List ℕ) → length head ≡ 4 → from_be_bytes w32 head ≡ length v → FitsText v
+    → prefix_at (head ++ (v ++ rest)) ≡ Ok (v, rest)
 unfolding prefix_at
 prefix_is head v rest len value h =
     let front : take 4 (head ++ (v ++ rest)) ≡ head = take_at head (v ++ rest) 4 len in
     let behind : drop 4 (head ++ (v ++ rest)) ≡ v ++ rest = drop_at head (v ++ rest) 4 len in
-    let long : ltb (length (head ++ (v ++ rest))) 4 ≡ false = le-ltb _ _ (omega (arith, length-append head (v ++ rest), len)) in
+    let long : ltb (length (head ++ (v ++ rest))) 4 ≡ false = le-ltb _ _
+    (omega (arith, length-append head (v ++ rest), len)) in
     let small : ltb MAX_LEN (length v) ≡ false = le-ltb _ _ h in
     let room : ltb (length (v ++ rest)) (length v) ≡ false = le-ltb _ _ (omega (arith, length-append v rest)) in
     rw (long, front, value, small, behind, room, take_at v rest (length v) refl, drop_at v rest (length v) refl) refl
@@ -105,7 +111,8 @@ two_back p h = record {
 }
 
 -- a field that may be missing
-where_back : {A : Type 0} (reading : List ℕ → Result (A × List ℕ) FrameError) (spelling : A → List ℕ) (Fits : A → Type 0)
+where_back : {A : Type 0} (reading : List ℕ → Result (A × List ℕ) FrameError) (spelling : A → List ℕ)
+    (Fits : A → Type 0)
     → ((x : A) → Fits x → ReadsBack reading (spelling x) x) → (o : Option A) → IfSome o Fits
     → ReadsBack (where_set (is_some o) reading) (where_there spelling o) o
 where_back reading spelling Fits h None k = record { back = λ rest. refl }
@@ -123,13 +130,65 @@ record TellBits (bits : ℕ) (size id permissions time : Bool) : Type 0 where
 tell_bits : (size : Option ℕ) (id : Option (ℕ × ℕ)) (permissions : Option ℕ) (time : Option (ℕ × ℕ))
     → TellBits (bit 1 size + bit 2 id + bit 4 permissions + bit 8 time) (is_some size) (is_some id)
     (is_some permissions) (is_some time)
-tell_bits None None None None = record { small = lit< tt; size_bit = refl; id_bit = refl; permissions_bit = refl; time_bit = refl; pairs_bit = refl }
-tell_bits None None None (Some t) = record { small = lit< tt; size_bit = refl; id_bit = refl; permissions_bit = refl; time_bit = refl; pairs_bit = refl }
-tell_bits None None (Some p) None = record { small = lit< tt; size_bit = refl; id_bit = refl; permissions_bit = refl; time_bit = refl; pairs_bit = refl }
-tell_bits None None (Some p) (Some t) = record { small = lit< tt; size_bit = refl; id_bit = refl; permissions_bit = refl; time_bit = refl; pairs_bit = refl }
-tell_bits None (Some i) None None = record { small = lit< tt; size_bit = refl; id_bit = refl; permissions_bit = refl; time_bit = refl; pairs_bit = refl }
-tell_bits None (Some i) None (Some t) = record { small = lit< tt; size_bit = refl; id_bit = refl; permissions_bit = refl; time_bit = refl; pairs_bit = refl }
-tell_bits None (Some i) (Some p) None = record { small = lit< tt; size_bit = refl; id_bit = refl; permissions_bit = refl; time_bit = refl; pairs_bit = refl }
+tell_bits None None None None = record {
+  small = lit< tt;
+  size_bit = refl;
+  id_bit = refl;
+  permissions_bit = refl;
+  time_bit = refl;
+  pairs_bit = refl;
+}
+tell_bits None None None (Some t) = record {
+  small = lit< tt;
+  size_bit = refl;
+  id_bit = refl;
+  permissions_bit = refl;
+  time_bit = refl;
+  pairs_bit = refl;
+}
+tell_bits None None (Some p) None = record {
+  small = lit< tt;
+  size_bit = refl;
+  id_bit = refl;
+  permissions_bit = refl;
+  time_bit = refl;
+  pairs_bit = refl;
+}
+tell_bits None None (Some p) (Some t) = record {
+  small = lit< tt;
+  size_bit = refl;
+  id_bit = refl;
+  permissions_bit =
+      refl;
+  time_bit = refl;
+  pairs_bit = refl;
+}
+tell_bits None (Some i) None None = record {
+  small = lit< tt;
+  size_bit = refl;
+  id_bit = refl;
+  permissions_bit = refl;
+  time_bit = refl;
+  pairs_bit = refl;
+}
+tell_bits None (Some i) None (Some t) = record {
+  small = lit< tt;
+  size_bit = refl;
+  id_bit = refl;
+  permissions_bit =
+      refl;
+  time_bit = refl;
+  pairs_bit = refl;
+}
+tell_bits None (Some i) (Some p) None = record {
+  small = lit< tt;
+  size_bit = refl;
+  id_bit = refl;
+  permissions_bit =
+      refl;
+  time_bit = refl;
+  pairs_bit = refl;
+}
 tell_bits None (Some i) (Some p) (Some t) = record {
   small = lit< tt;
   size_bit = refl;
@@ -139,9 +198,32 @@ tell_bits None (Some i) (Some p) (Some t) = record {
   time_bit = refl;
   pairs_bit = refl;
 }
-tell_bits (Some s) None None None = record { small = lit< tt; size_bit = refl; id_bit = refl; permissions_bit = refl; time_bit = refl; pairs_bit = refl }
-tell_bits (Some s) None None (Some t) = record { small = lit< tt; size_bit = refl; id_bit = refl; permissions_bit = refl; time_bit = refl; pairs_bit = refl }
-tell_bits (Some s) None (Some p) None = record { small = lit< tt; size_bit = refl; id_bit = refl; permissions_bit = refl; time_bit = refl; pairs_bit = refl }
+tell_bits (Some s) None None None = record {
+  small = lit< tt;
+  size_bit = refl;
+  id_bit = refl;
+  permissions_bit = refl;
+  time_bit = refl;
+  pairs_bit = refl;
+}
+tell_bits (Some s) None None (Some t) = record {
+  small = lit< tt;
+  size_bit = refl;
+  id_bit = refl;
+  permissions_bit =
+      refl;
+  time_bit = refl;
+  pairs_bit = refl;
+}
+tell_bits (Some s) None (Some p) None = record {
+  small = lit< tt;
+  size_bit = refl;
+  id_bit = refl;
+  permissions_bit =
+      refl;
+  time_bit = refl;
+  pairs_bit = refl;
+}
 tell_bits (Some s) None (Some p) (Some t) = record {
   small = lit< tt;
   size_bit = refl;
@@ -151,7 +233,15 @@ tell_bits (Some s) None (Some p) (Some t) = record {
   time_bit = refl;
   pairs_bit = refl;
 }
-tell_bits (Some s) (Some i) None None = record { small = lit< tt; size_bit = refl; id_bit = refl; permissions_bit = refl; time_bit = refl; pairs_bit = refl }
+tell_bits (Some s) (Some i) None None = record {
+  small = lit< tt;
+  size_bit = refl;
+  id_bit = refl;
+  permissions_bit =
+      refl;
+  time_bit = refl;
+  pairs_bit = refl;
+}
 tell_bits (Some s) (Some i) None (Some t) = record {
   small = lit< tt;
   size_bit = refl;

@@ -1,4 +1,4 @@
-pub mod Joining
+mod Joining
 pub mod FieldBacks
 pub mod ReplyBacks
 pub mod RequestBacks

@@ -63,12 +63,14 @@ use Rattle.sftp_model.specs.ReplyReadings.{
 use Rattle.sftp_model.proofs.FieldBacks.{ReadsBack, whole_back, number_back, long_back, text_back, attributes_back}
 
 -- the fields of a reply after its type byte and id
-with_id_back : (fields : List ℕ → Result (Reply × List ℕ) FrameError) (kind id : ℕ) (text : List ℕ) (r : Reply) → FitsNumber id
+with_id_back : (fields : List ℕ → Result (Reply × List ℕ) FrameError) (kind id : ℕ) (text : List ℕ) (r : Reply)
+    → FitsNumber id
     → ((bytes : List ℕ) → reply_fields_at kind bytes ≡ with_id fields bytes) → fields text ≡ Ok (r, [])
     → with_short_handles (handles_of_reply r) (let read : Option ℕ × Reply = (Some id, r) in read) ≡ Ok (Some id, r)
     → reply_at (of_type kind id text) ≡ Ok (Some id, r)
 unfolding reply_at byte_at
-with_id_back fields kind id text r h is read short = rw (is (uint32 id ++ text), (number_back id h).back text, read) short
+with_id_back fields kind id text r h is read short = rw (is (uint32 id ++ text), (number_back id h).back text, read)
+    short
 
 status_back : (code : ℕ) (message language : List ℕ) → FitsReply (reply.Status code message language)
     → ReadsBack status_at (uint32 code ++ string message ++ string language) (reply.Status code message language)
@@ -86,7 +88,8 @@ handle_back : (handle : List ℕ) → length handle ≤ 256 → ReadsBack handle
 unfolding handle_at
 handle_back handle h = record { back = λ rest. rw ((text_back handle (omega arith)).back rest) refl }
 
-content_back : (content : List ℕ) → FitsReply (reply.Content content) → ReadsBack content_at (string content) (reply.Content content)
+content_back : (content : List ℕ) → FitsReply (reply.Content content)
+    → ReadsBack content_at (string content) (reply.Content content)
 unfolding content_at
 content_back content h = record { back = λ rest. rw ((text_back content h).back rest) refl }
 
@@ -101,7 +104,8 @@ entry_back e h = record {
       ) refl);
 }
 
-entries_back : (names : List NameEntry) → All FitsEntry names → ReadsBack (entries_at (length names)) (flat_map name_entry names) names
+entries_back : (names : List NameEntry) → All FitsEntry names
+    → ReadsBack (entries_at (length names)) (flat_map name_entry names) names
 entries_back [] h = record { back = λ rest. refl }
 entries_back (e ∷ names) h = record {
   back = λ rest.
@@ -151,7 +155,8 @@ both_right false b e = absurd cc
 lt_or_is : (n set : ℕ) → set < suc n → (set < n) ⊎ (set ≡ n)
 lt_or_is n set h = grind arith
 
-each_read_back : (n set : ℕ) → are_read_back n ≡ true → set < n → is_read_back set (extensions_at (extension_pairs set extension_table)) ≡ true
+each_read_back : (n set : ℕ) → are_read_back n ≡ true → set < n
+    → is_read_back set (extensions_at (extension_pairs set extension_table)) ≡ true
 each_read_back zero set e h = absurd (omega arith)
 each_read_back (suc n) set e h =
     elim (lt_or_is n set h) [
@@ -163,10 +168,14 @@ is_ok_back : (set : ℕ) (r : Result ℕ FrameError) → is_read_back set r ≡ 
 is_ok_back set (Ok read) e = ap (λ n. Ok n) ((Decides-eqb read set).0 e)
 is_ok_back set (Err error) e = absurd cc
 
-version_back : (version set id : ℕ) → FitsReply (reply.Version version (record { 0 = set })) → ReplyReadsBack (reply.Version version (record { 0 = set })) id
+version_back : (version set id : ℕ) → FitsReply (reply.Version version (record { 0 = set }))
+    → ReplyReadsBack (reply.Version version (record { 0 = set })) id
 unfolding reply_at reply_body byte_at reply_fields_at version_at
 version_back version set id h =
-    rw ((number_back version h.0).back (extension_pairs set extension_table), is_ok_back set _ (each_read_back 64 set all_read_back h.1)) refl
+    rw (
+      (number_back version h.0).back (extension_pairs set extension_table),
+      is_ok_back set _ (each_read_back 64 set all_read_back h.1),
+    ) refl
 
 short : (handle : List ℕ) → length handle ≤ 256 → ltb 256 (length handle) ≡ false
 short handle h = le-ltb _ _ h
@@ -182,9 +191,12 @@ reply_back (reply.Status code message language) id h k = with_id_back status_at 
     (whole_back status_at _ _ (status_back code message language h)) refl
 reply_back (reply.Handle handle) id h k = with_id_back handle_at 102 id _ _ k (λ bytes. refl)
     (whole_back handle_at _ _ (handle_back handle h)) (rw (short handle h) refl)
-reply_back (reply.Content content) id h k = with_id_back content_at 103 id _ _ k (λ bytes. refl) (whole_back content_at _ _ (content_back content h)) refl
-reply_back (reply.Names names) id h k = with_id_back names_at 104 id _ _ k (λ bytes. refl) (whole_back names_at _ _ (names_back names h)) refl
-reply_back (reply.Attrs attrs) id h k = with_id_back attrs_at 105 id (attributes attrs) _ k (λ bytes. refl) (whole_back attrs_at _ _ (attrs_back attrs h)) refl
+reply_back (reply.Content content) id h k = with_id_back content_at 103 id _ _ k (λ bytes. refl)
+    (whole_back content_at _ _ (content_back content h)) refl
+reply_back (reply.Names names) id h k = with_id_back names_at 104 id _ _ k (λ bytes. refl)
+    (whole_back names_at _ _ (names_back names h)) refl
+reply_back (reply.Attrs attrs) id h k = with_id_back attrs_at 105 id (attributes attrs) _ k (λ bytes. refl)
+    (whole_back attrs_at _ _ (attrs_back attrs h)) refl
 reply_back (reply.Extended content) id h k = with_id_back extended_at 201 id content _ k (λ bytes. refl) refl refl
 
 pub limits_back : (limits : Limits) → FitsLimits limits → LimitsReadBack limits

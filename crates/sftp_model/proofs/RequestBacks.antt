@@ -39,23 +39,36 @@ use Rattle.sftp_model.specs.RequestReadings.{
 use Rattle.sftp_model.proofs.FieldBacks.{ReadsBack, whole_back, number_back, long_back, text_back, attributes_back}
 
 -- the fields of a request after its type byte and id
-with_id_back : (fields : List ℕ → Result (Request × List ℕ) FrameError) (kind id : ℕ) (text : List ℕ) (r : Request) → FitsNumber id
+with_id_back : (fields : List ℕ → Result (Request × List ℕ) FrameError) (kind id : ℕ) (text : List ℕ) (r : Request)
+    → FitsNumber id
     → ((bytes : List ℕ) → request_fields_at kind bytes ≡ with_id fields bytes) → ReadsBack fields text r
     → with_short_handles (handles_of_request r) (let read : Option ℕ × Request = (Some id, r) in read) ≡ Ok (Some id, r)
     → request_at (of_type kind id text) ≡ Ok (Some id, r)
 unfolding request_at byte_at
-with_id_back fields kind id text r h is read short = rw (is (uint32 id ++ text), (number_back id h).back text, whole_back fields text r read) short
+with_id_back fields kind id text r h is read short = rw (
+  is (uint32 id ++ text),
+  (number_back id h).back text,
+  whole_back fields text r read,
+) short
 
 -- after the name of an extension
-extended_back : (name : List ℕ) (fields : List ℕ → Result (Request × List ℕ) FrameError) (text : List ℕ) (r : Request) → FitsText name
-    → ((bytes : List ℕ) → extension_fields_at name bytes ≡ fields bytes) → ReadsBack fields text r → ReadsBack extended_request_at (string name ++ text) r
+extended_back : (name : List ℕ) (fields : List ℕ → Result (Request × List ℕ) FrameError) (text : List ℕ) (r : Request)
+    → FitsText name
+    → ((bytes : List ℕ) → extension_fields_at name bytes ≡ fields bytes) → ReadsBack fields text r
+    → ReadsBack extended_request_at (string name ++ text) r
 unfolding extended_request_at
 extended_back name fields text r h is read = record {
   back = λ rest.
-      rw (append_assoc (string name) text rest, (text_back name h).back (text ++ rest), is (text ++ rest), read.back rest) refl;
+      rw (
+        append_assoc (string name) text rest,
+        (text_back name h).back (text ++ rest),
+        is (text ++ rest),
+        read.back rest,
+      ) refl;
 }
 
-one_back : (made : List ℕ → Request) (text : List ℕ) → FitsText text → ReadsBack (one_text_at made) (string text) (made text)
+one_back : (made : List ℕ → Request) (text : List ℕ) → FitsText text
+    → ReadsBack (one_text_at made) (string text) (made text)
 unfolding one_text_at
 one_back made text h = record { back = λ rest. rw ((text_back text h).back rest) refl }
 
@@ -64,7 +77,11 @@ two_back : (made : List ℕ → List ℕ → Request) (first second : List ℕ) 
 unfolding two_texts_at
 two_back made first second h k = record {
   back = λ rest.
-      rw (append_assoc (string first) (string second) rest, (text_back first h).back (string second ++ rest), (text_back second k).back rest) refl;
+      rw (
+        append_assoc (string first) (string second) rest,
+        (text_back first h).back (string second ++ rest),
+        (text_back second k).back rest,
+      ) refl;
 }
 
 attributed_back : (made : List ℕ → FileAttrs → Request) (text : List ℕ) (attrs : FileAttrs) → FitsText text
@@ -72,7 +89,11 @@ attributed_back : (made : List ℕ → FileAttrs → Request) (text : List ℕ) 
 unfolding text_and_attributes_at
 attributed_back made text attrs h k = record {
   back = λ rest.
-      rw (append_assoc (string text) (attributes attrs) rest, (text_back text h).back (attributes attrs ++ rest), (attributes_back attrs k).back rest) refl;
+      rw (
+        append_assoc (string text) (attributes attrs) rest,
+        (text_back text h).back (attributes attrs ++ rest),
+        (attributes_back attrs k).back rest,
+      ) refl;
 }
 
 -- a handle is short for a text
@@ -116,7 +137,8 @@ write_back handle offset content h = record {
       ) refl);
 }
 
-copy_back : (from : List ℕ) (from_offset len : ℕ) (to : List ℕ) (to_offset : ℕ) → FitsRequest (request.CopyData from from_offset len to to_offset)
+copy_back : (from : List ℕ) (from_offset len : ℕ) (to : List ℕ) (to_offset : ℕ)
+    → FitsRequest (request.CopyData from from_offset len to to_offset)
     → ReadsBack copy_data_at (string from ++ uint64 from_offset ++ uint64 len ++ string to ++ uint64 to_offset)
     (request.CopyData from from_offset len to to_offset)
 unfolding copy_data_at
@@ -142,7 +164,8 @@ limits_back = record { back = λ rest. refl }
 one_short : {A : Type 0} (handle : List ℕ) (x : A) → FitsHandle handle → with_short_handles (handle ∷ []) x ≡ Ok x
 one_short handle x h = let e : ltb 256 (length handle) ≡ false = le-ltb _ _ h in rw e refl
 
-two_short : {A : Type 0} (first second : List ℕ) (x : A) → FitsHandle first → FitsHandle second → with_short_handles (first ∷ second ∷ []) x ≡ Ok x
+two_short : {A : Type 0} (first second : List ℕ) (x : A) → FitsHandle first → FitsHandle second
+    → with_short_handles (first ∷ second ∷ []) x ≡ Ok x
 two_short first second x h k =
     let e : ltb 256 (length first) ≡ false = le-ltb _ _ h in
     let d : ltb 256 (length second) ≡ false = le-ltb _ _ k in
@@ -155,13 +178,16 @@ init_back version id h = rw (whole_back uint32_at (uint32 version) version (numb
 pub request_back : (r : Request) (id : ℕ) → FitsRequest r → FitsNumber id → RequestReadsBack r id
 unfolding request_body request_fields_at extension_fields_at
 request_back (request.Init version) id h k = init_back version id h
-request_back (request.OpenFile path flags attrs) id h k = with_id_back open_at 3 id _ _ k (λ bytes. refl) (open_back path flags attrs h) refl
+request_back (request.OpenFile path flags attrs) id h k = with_id_back open_at 3 id _ _ k (λ bytes. refl)
+    (open_back path flags attrs h) refl
 request_back (request.Close handle) id h k = with_id_back (one_text_at request.Close) 4 id _ _ k (λ bytes. refl)
     (one_back request.Close handle (handle_text handle h)) (one_short handle _ h)
-request_back (request.Read handle offset len) id h k = with_id_back read_at 5 id _ _ k (λ bytes. refl) (read_back handle offset len h) (one_short handle _ h.0)
+request_back (request.Read handle offset len) id h k = with_id_back read_at 5 id _ _ k (λ bytes. refl)
+    (read_back handle offset len h) (one_short handle _ h.0)
 request_back (request.Write handle offset content) id h k = with_id_back write_at 6 id _ _ k (λ bytes. refl)
     (write_back handle offset content h) (one_short handle _ h.0)
-request_back (request.Lstat path) id h k = with_id_back (one_text_at request.Lstat) 7 id _ _ k (λ bytes. refl) (one_back request.Lstat path h) refl
+request_back (request.Lstat path) id h k = with_id_back (one_text_at request.Lstat) 7 id _ _ k (λ bytes. refl)
+    (one_back request.Lstat path h) refl
 request_back (request.Fstat handle) id h k = with_id_back (one_text_at request.Fstat) 8 id _ _ k (λ bytes. refl)
     (one_back request.Fstat handle (handle_text handle h)) (one_short handle _ h)
 request_back (request.Setstat path attrs) id h k = with_id_back (text_and_attributes_at request.Setstat) 9 id _ _ k
@@ -169,18 +195,24 @@ request_back (request.Setstat path attrs) id h k = with_id_back (text_and_attrib
 request_back (request.Fsetstat handle attrs) id h k = with_id_back (text_and_attributes_at request.Fsetstat) 10 id _ _ k
     (λ bytes. refl) (attributed_back request.Fsetstat handle attrs (handle_text handle h.0) h.1)
     (one_short handle _ h.0)
-request_back (request.Opendir path) id h k = with_id_back (one_text_at request.Opendir) 11 id _ _ k (λ bytes. refl) (one_back request.Opendir path h) refl
+request_back (request.Opendir path) id h k = with_id_back (one_text_at request.Opendir) 11 id _ _ k (λ bytes. refl)
+    (one_back request.Opendir path h) refl
 request_back (request.Readdir handle) id h k = with_id_back (one_text_at request.Readdir) 12 id _ _ k (λ bytes. refl)
     (one_back request.Readdir handle (handle_text handle h)) (one_short handle _ h)
-request_back (request.Remove path) id h k = with_id_back (one_text_at request.Remove) 13 id _ _ k (λ bytes. refl) (one_back request.Remove path h) refl
+request_back (request.Remove path) id h k = with_id_back (one_text_at request.Remove) 13 id _ _ k (λ bytes. refl)
+    (one_back request.Remove path h) refl
 request_back (request.Mkdir path attrs) id h k = with_id_back (text_and_attributes_at request.Mkdir) 14 id _ _ k
     (λ bytes. refl) (attributed_back request.Mkdir path attrs h.0 h.1) refl
-request_back (request.Rmdir path) id h k = with_id_back (one_text_at request.Rmdir) 15 id _ _ k (λ bytes. refl) (one_back request.Rmdir path h) refl
-request_back (request.Realpath path) id h k = with_id_back (one_text_at request.Realpath) 16 id _ _ k (λ bytes. refl) (one_back request.Realpath path h) refl
-request_back (request.Stat path) id h k = with_id_back (one_text_at request.Stat) 17 id _ _ k (λ bytes. refl) (one_back request.Stat path h) refl
+request_back (request.Rmdir path) id h k = with_id_back (one_text_at request.Rmdir) 15 id _ _ k (λ bytes. refl)
+    (one_back request.Rmdir path h) refl
+request_back (request.Realpath path) id h k = with_id_back (one_text_at request.Realpath) 16 id _ _ k (λ bytes. refl)
+    (one_back request.Realpath path h) refl
+request_back (request.Stat path) id h k = with_id_back (one_text_at request.Stat) 17 id _ _ k (λ bytes. refl)
+    (one_back request.Stat path h) refl
 request_back (request.Rename old to) id h k = with_id_back (two_texts_at request.Rename) 18 id _ _ k (λ bytes. refl)
     (two_back request.Rename old to h.0 h.1) refl
-request_back (request.Readlink path) id h k = with_id_back (one_text_at request.Readlink) 19 id _ _ k (λ bytes. refl) (one_back request.Readlink path h) refl
+request_back (request.Readlink path) id h k = with_id_back (one_text_at request.Readlink) 19 id _ _ k (λ bytes. refl)
+    (one_back request.Readlink path h) refl
 request_back (request.Symlink src dst) id h k = with_id_back (two_texts_at request.Symlink) 20 id _ _ k (λ bytes. refl)
     (two_back request.Symlink src dst h.0 h.1) refl
 request_back (request.PosixRename old to) id h k =

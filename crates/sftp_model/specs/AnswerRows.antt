@@ -1,17 +1,17 @@
--- Worked examples of which reply may answer which request, of session lengths and of paths, and beside each
--- what nearly is one.
+-- Worked examples of the replies that may answer a request, of session lengths and of paths, each beside a case that
+-- nearly is one.
 use Rattle.std.specs.Prelude.{ℕ, ◌≡◌, ◌-◌, ◌^◌, true, false, [], ◌∷◌, codes, Option, Some, None, refl}
 use Rattle.sftp_model.specs.declared.config.Limits.{Limits}
 use Rattle.sftp_model.specs.declared.request.Request.{Request}
 use Rattle.sftp_model.specs.declared.request.Request.TheVariants as request
 use Rattle.sftp_model.specs.declared.reply.Reply.TheVariants as reply
 use Rattle.sftp_model.specs.Numbers.{SSH_FX_OK, SSH_FX_EOF, SSH_FX_NO_SUCH_FILE}
-use Rattle.sftp_model.specs.Answers.{may_answer, ends}
+use Rattle.sftp_model.specs.Answers.{may_answer, ends_reading}
 use Rattle.sftp_model.specs.Frames.{no_attributes}
 use Rattle.sftp_model.specs.Lengths.{session_lengths}
 use Rattle.sftp_model.specs.Paths.{is_absolute_path, joined_path}
 
--- ---- answers
+-- ---- Replies to requests
 
 abbrev open_a : Request
 open_a = request.OpenFile (codes "a") (record { 0 = 1 }) no_attributes
@@ -43,10 +43,10 @@ read_by_none = refl
 pub read_by_end : may_answer read_one (reply.Status SSH_FX_EOF [] []) ≡ true
 read_by_end = refl
 
-pub read_ends : ends read_one (reply.Status SSH_FX_EOF [] []) ≡ true
+pub read_ends : ends_reading read_one (reply.Status SSH_FX_EOF [] []) ≡ true
 read_ends = refl
 
-pub open_is_refused : ends open_a (reply.Status SSH_FX_EOF [] []) ≡ false
+pub open_is_refused : ends_reading open_a (reply.Status SSH_FX_EOF [] []) ≡ false
 open_is_refused = refl
 
 pub close_by_ok : may_answer (request.Close []) (reply.Status SSH_FX_OK [] []) ≡ true
@@ -67,7 +67,7 @@ limits_by_reply = refl
 pub stat_by_ok : may_answer (request.Stat []) (reply.Status SSH_FX_OK [] []) ≡ false
 stat_by_ok = refl
 
--- ---- session lengths
+-- ---- Session lengths
 
 abbrev limits_of : ℕ → ℕ → ℕ → Option Limits
 limits_of packet read write = Some (record {
@@ -84,7 +84,7 @@ lengths_unset = refl
 pub lengths_greatest : session_lengths (limits_of (2 ^ 64 - 1) (2 ^ 64 - 1) (2 ^ 64 - 1)) None None ≡ (1048275, 1048275)
 lengths_greatest = refl
 
--- a packet length below 300 leaves nothing, and a session has at least 1
+-- A packet length below 300 leaves 0 bytes, and a session has at least 1.
 pub lengths_of_short_packet : session_lengths (limits_of 10 (2 ^ 64 - 1) 5) None None ≡ (1, 5)
 lengths_of_short_packet = refl
 
@@ -97,7 +97,7 @@ lengths_without_limits = refl
 pub lengths_of_options : session_lengths (limits_of 0 262144 5) (Some 40000) (Some 40000) ≡ (40000, 5)
 lengths_of_options = refl
 
--- ---- paths
+-- ---- Paths
 
 pub relative : joined_path (codes "/x") (codes "a") ≡ codes "/x/a"
 relative = refl

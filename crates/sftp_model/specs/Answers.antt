@@ -1,5 +1,5 @@
--- Which reply may answer which request (draft-ietf-secsh-filexfer-02, sections 6 and 7; OpenSSH's PROTOCOL,
--- section 4).
+-- The replies that may answer a request (draft-ietf-secsh-filexfer-02, sections 6 and 7; OpenSSH's PROTOCOL, section
+-- 4).
 use Rattle.std.specs.Prelude.{ℕ, ◌==◌, Bool, true, false, not, ◌&&◌, ◌||◌, [], length, nat_lt, nat_le, IsTrue}
 use Rattle.sftp_model.specs.declared.request.Request.{Request}
 use Rattle.sftp_model.specs.declared.request.Request.TheVariants as request
@@ -13,7 +13,7 @@ abbrev pub is_status : Reply → Bool
 is_status (reply.Status code message language) = true
 is_status other = false
 
--- a STATUS other than OK
+-- True if the reply is a STATUS other than OK.
 abbrev pub is_refusal : Reply → Bool
 is_refusal (reply.Status code message language) = not (code == SSH_FX_OK)
 is_refusal other = false
@@ -22,7 +22,7 @@ abbrev pub is_handle : Reply → Bool
 is_handle (reply.Handle handle) = true
 is_handle other = false
 
--- a DATA of one byte up to `len`
+-- True if the reply is a DATA of 1 to `len` bytes.
 abbrev pub is_content : ℕ → Reply → Bool
 is_content len (reply.Content bytes) = nat_lt 0 (length bytes) && nat_le (length bytes) len
 is_content len other = false
@@ -31,7 +31,7 @@ abbrev pub is_names : Reply → Bool
 is_names (reply.Names names) = true
 is_names other = false
 
--- a NAME of one entry or more
+-- True if the reply is a NAME of one entry or more.
 abbrev pub is_some_names : Reply → Bool
 is_some_names (reply.Names names) = nat_lt 0 (length names)
 is_some_names other = false
@@ -44,12 +44,12 @@ abbrev pub is_extended : Reply → Bool
 is_extended (reply.Extended content) = true
 is_extended other = false
 
--- VERSION answers the hello, and no other reply does
+-- True if the reply is VERSION, which answers the hello; no other reply does.
 abbrev pub is_version : Reply → Bool
 is_version (reply.Version version extensions) = true
 is_version other = false
 
--- what may answer a request: a reply of this kind, or for each but the last a STATUS other than OK
+-- The replies that may answer a request: a reply of this kind, or for each but the last a STATUS other than OK.
 abbrev pub expected_of : Request → Expected
 expected_of (request.Init version) = expected.Version
 expected_of (request.OpenFile path flags attrs) = expected.Handle
@@ -65,42 +65,42 @@ expected_of (request.ExpandPath path) = expected.FirstName
 expected_of request.LimitsQuery = expected.Limits
 expected_of other = expected.Status
 
-abbrev pub allows : Expected → Reply → Bool
-allows expected.Version answer = is_version answer
-allows expected.Handle answer = is_handle answer || is_refusal answer
-allows (expected.Content len) answer = is_content len answer || is_refusal answer
-allows expected.Names answer = is_names answer || is_refusal answer
-allows expected.FirstName answer = is_some_names answer || is_refusal answer
-allows expected.Attrs answer = is_attrs answer || is_refusal answer
-allows expected.Limits answer = is_extended answer || is_refusal answer
-allows expected.Status answer = is_status answer
+abbrev pub allows_reply : Expected → Reply → Bool
+allows_reply expected.Version answer = is_version answer
+allows_reply expected.Handle answer = is_handle answer || is_refusal answer
+allows_reply (expected.Content len) answer = is_content len answer || is_refusal answer
+allows_reply expected.Names answer = is_names answer || is_refusal answer
+allows_reply expected.FirstName answer = is_some_names answer || is_refusal answer
+allows_reply expected.Attrs answer = is_attrs answer || is_refusal answer
+allows_reply expected.Limits answer = is_extended answer || is_refusal answer
+allows_reply expected.Status answer = is_status answer
 
--- whether a reply may answer a request
+-- True if a reply may answer a request.
 abbrev pub may_answer : Request → Reply → Bool
-may_answer r answer = allows (expected_of r) answer
+may_answer r answer = allows_reply (expected_of r) answer
 
 abbrev pub MayAnswer : Request → Reply → Type 0
 MayAnswer r answer = IsTrue (may_answer r answer)
 
--- a STATUS of EOF
+-- True if the reply is a STATUS of EOF.
 abbrev pub is_end_of_file : Reply → Bool
 is_end_of_file (reply.Status code message language) = code == SSH_FX_EOF
 is_end_of_file other = false
 
--- Whether a reply says that nothing is left to read. To other requests than READ and READDIR a STATUS of EOF is
--- a refusal as any other.
-abbrev pub ends : Request → Reply → Bool
-ends (request.Read handle offset len) answer = is_end_of_file answer
-ends (request.Readdir handle) answer = is_end_of_file answer
-ends other answer = false
+-- True if a reply says that no bytes or names are left to read. To requests other than READ and READDIR a STATUS of EOF
+-- is a refusal like any other.
+abbrev pub ends_reading : Request → Reply → Bool
+ends_reading (request.Read handle offset len) answer = is_end_of_file answer
+ends_reading (request.Readdir handle) answer = is_end_of_file answer
+ends_reading other answer = false
 
--- ---- words for answers
+-- ---- Abbreviations of replies
 
--- a STATUS, with an empty message and language
+-- A STATUS with an empty message and language.
 abbrev pub status : ℕ → Reply
 status code = reply.Status code [] []
 
--- any request but the hello
+-- True for any request except the hello.
 abbrev pub IsAfterHello : Request → Type 0
 IsAfterHello (request.Init version) = ⊥
 IsAfterHello other = Unit {0}

@@ -1,4 +1,4 @@
--- The refusal of a field as a refusal of its frame.
+-- The error of a field as an error of its frame.
 use Rattle.ssh_encoding.specs.declared.error.Error.{Error}
 use Rattle.ssh_encoding.specs.declared.error.Error.TheVariants as encoding
 use Rattle.sftp_model.specs.declared.frame_error.FrameError.{FrameError}

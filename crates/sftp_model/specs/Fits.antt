@@ -1,5 +1,5 @@
--- The requests and replies that a frame can carry: each number fits its field, each string and each
--- handle its bound, and a set has no unknown bit.
+-- The requests and replies that a frame can carry: each number fits its field, each string and each handle its bound,
+-- and a set has no unknown bit.
 use Rattle.std.specs.Prelude.{ℕ, ◌≡◌, ◌^◌, ◌<◌, ◌≤◌, List, length, All, IfSome, Ok}
 use Rattle.sftp_model.specs.declared.config.Limits.{Limits}
 use Rattle.sftp_model.specs.declared.file_attrs.FileAttrs.{FileAttrs}
@@ -25,7 +25,7 @@ FitsText text = length text ≤ MAX_BODY_LEN
 abbrev pub FitsHandle : List ℕ → Type 0
 FitsHandle handle = length handle ≤ MAX_HANDLE_LEN
 
--- six known bits
+-- The set has only the six known bits.
 abbrev pub FitsSet : ℕ → Type 0
 FitsSet bits = bits < 64
 
@@ -86,23 +86,23 @@ pub record FitsLimits (limits : Limits) : Type 0 where
   pub write_len : FitsLong limits.write_len
   pub open_handles : FitsLong limits.open_handles
 
--- ---- round trips
+-- ---- Round trips
 
--- what is written of limits is read as them
+-- The bytes written for limits are read as the same limits.
 abbrev pub LimitsReadBack : Limits → Type 0
 LimitsReadBack limits = limits_at (limits_content limits) ≡ Ok limits
 
--- what is written of a request is read as it
+-- The bytes written for a request are read as the same request.
 abbrev pub RequestReadsBack : Request → ℕ → Type 0
 RequestReadsBack r id = request_at (request_body r id) ≡ Ok (request_id r id, r)
 
--- what is written of a reply is read as it
+-- The bytes written for a reply are read as the same reply.
 abbrev pub ReplyReadsBack : Reply → ℕ → Type 0
 ReplyReadsBack r id = reply_at (reply_body r id) ≡ Ok (reply_id r id, r)
 
--- ---- a law of the file machine
+-- ---- A law of the file machine
 
--- a READ asks for no more than one DATA can bring
+-- A READ asks for at most the bytes that one DATA can carry.
 abbrev pub AsksWithinReply : Request → Type 0
 AsksWithinReply (request.Read handle offset len) = len ≤ MAX_TRANSFER_LEN
 AsksWithinReply other = Unit {0}

@@ -10,7 +10,7 @@ use Rattle.sftp_model.specs.Hex.{hex}
 abbrev pub all_attributes : FileAttrs
 all_attributes = record { size = Some 5; id = Some (1, 2); permissions = Some 420; time = Some (3, 4) }
 
--- the hello has no id
+-- The hello has no id.
 pub hello_frame : request_frame (request.Init 3) 7 ≡ hex (codes "000000050100000003")
 unfolding request_body string uint32
 hello_frame = refl
@@ -35,14 +35,14 @@ pub write_frame : request_frame (request.Write (7 ∷ []) 258 (8 ∷ 9 ∷ [])) 
 unfolding request_body string uint32 uint64
 write_frame = refl
 
--- the fields that are there, in the order size, owner and group, permissions, times
+-- The fields that are present, in the order size, owner and group, permissions, times.
 pub setstat_frame : request_frame (request.Setstat (97 ∷ []) all_attributes) 2
     ≡ hex (codes "0000002a09000000020000000161" ++ codes "0000000f0000000000000005" ++ codes "0000000100000002"
     ++ codes "000001a4" ++ codes "0000000300000004")
 unfolding request_body string uint32 uint64 attributes
 setstat_frame = refl
 
--- what the link will name is sent first
+-- The target of the link is sent first.
 pub symlink_frame : request_frame (request.Symlink (97 ∷ []) (98 ∷ [])) 2
     ≡ hex (codes "0000000f140000000200000001610000000162")
 unfolding request_body string uint32
@@ -60,7 +60,7 @@ pub copy_data_frame : request_frame (request.CopyData (1 ∷ []) 2 3 (4 ∷ []) 
 unfolding request_body string uint32 uint64
 copy_data_frame = refl
 
--- one pair for each extension of the set, in the order of the table
+-- One pair for each extension of the set, in the order of the table.
 pub version_frame : reply_frame (reply.Version 3 (record { 0 = 32 })) 9
     ≡ hex (codes "000000200200000003" ++ codes "00000012") ++ codes "limits@openssh.com" ++ hex (codes "0000000131")
 unfolding reply_body string uint32
@@ -86,7 +86,7 @@ pub names_frame : reply_frame (reply.Names (record { filename = 120 ∷ []; long
 unfolding reply_body string uint32 attributes
 names_frame = refl
 
--- all bytes of the reply stand after the id, without a length of their own
+-- All bytes of the reply come after the id, without a length of their own.
 pub extended_frame : reply_frame (reply.Extended (1 ∷ 2 ∷ [])) 3 ≡ hex (codes "00000007c9000000030102")
 unfolding reply_body string uint32
 extended_frame = refl

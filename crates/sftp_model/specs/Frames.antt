@@ -1,5 +1,5 @@
--- Frames: a length of four bytes and a body, which is a type byte, for all but the hello and VERSION an id,
--- and the fields (draft-ietf-secsh-filexfer-02, section 3). Numbers are big-endian.
+-- Frames: a length of four bytes and a body. The body is a type byte, an id (except in the hello and VERSION), and the
+-- fields (draft-ietf-secsh-filexfer-02, section 3). Numbers are big-endian.
 use Rattle.std.specs.Prelude.{
   ℕ,
   nat_lt,
@@ -68,17 +68,17 @@ use Rattle.sftp_model.specs.Numbers.{
   LIMITS,
 }
 
--- ---- attributes (draft, section 5)
+-- ---- Attributes (draft, section 5)
 
 abbrev pub no_attributes : FileAttrs
 no_attributes = record { size = None; id = None; permissions = None; time = None }
 
--- the spelling of a field that may be missing
+-- The bytes of a field that may be missing.
 abbrev pub where_there : {A : Type 0} → (A → List ℕ) → Option A → List ℕ
 where_there spelling None = []
 where_there spelling (Some x) = spelling x
 
--- the bit of a field that may be missing
+-- The bit of a field that may be missing.
 abbrev pub bit : {A : Type 0} → ℕ → Option A → ℕ
 bit n None = 0
 bit n (Some x) = n
@@ -86,19 +86,19 @@ bit n (Some x) = n
 abbrev pub two_numbers : ℕ × ℕ → List ℕ
 two_numbers p = uint32 p.0 ++ uint32 p.1
 
--- the bits of the fields that are there
+-- The bits of the fields that are present.
 abbrev pub attribute_bits : FileAttrs → ℕ
 attribute_bits a = bit SSH_FILEXFER_ATTR_SIZE a.size + bit SSH_FILEXFER_ATTR_UIDGID a.id + bit
     SSH_FILEXFER_ATTR_PERMISSIONS a.permissions + bit SSH_FILEXFER_ATTR_ACMODTIME a.time
 
--- these bits, and then these fields
+-- The bits of the fields, followed by the fields.
 unfoldable pub attributes : FileAttrs → List ℕ
 attributes a =
     uint32 (attribute_bits a)
     ++ where_there uint64 a.size ++ where_there two_numbers a.id
     ++ where_there uint32 a.permissions ++ where_there two_numbers a.time
 
--- ---- extensions (OpenSSH's PROTOCOL, section 4)
+-- ---- Extensions (OpenSSH's PROTOCOL, section 4)
 
 abbrev pub posix_rename_name : List ℕ
 posix_rename_name = codes "posix-rename@openssh.com"
@@ -118,32 +118,32 @@ copy_data_name = codes "copy-data"
 abbrev pub limits_name : List ℕ
 limits_name = codes "limits@openssh.com"
 
--- the six names, each with its bit
+-- The six names, each with its bit.
 abbrev pub extension_table : List (List ℕ × ℕ)
 extension_table =
     (posix_rename_name, POSIX_RENAME) ∷ (hardlink_name, HARDLINK) ∷ (fsync_name, FSYNC)
     ∷ (expand_path_name, EXPAND_PATH) ∷ (copy_data_name, COPY_DATA) ∷ (limits_name, LIMITS) ∷ []
 
--- the pair of names of an extension that the set has, with the version 1
+-- The pair of strings of an extension that the set has: its name and the version 1.
 abbrev pub extension_pair : ℕ → List ℕ × ℕ → List ℕ
 extension_pair set row = if bit_and set row.1 == 0 then [] else string row.0 ++ string (codes "1")
 
--- a pair for each extension of the set, in the order of the table
+-- A pair for each extension of the set, in the order of the table.
 abbrev pub extension_pairs : ℕ → List (List ℕ × ℕ) → List ℕ
 extension_pairs set [] = []
 extension_pairs set (row ∷ table) = extension_pair set row ++ extension_pairs set table
 
--- ---- requests (draft, sections 4 and 6)
+-- ---- Requests (draft, sections 4 and 6)
 
--- a request that every server knows
+-- The body of a request that every server knows.
 abbrev pub of_type : ℕ → ℕ → List ℕ → List ℕ
 of_type kind id fields = kind ∷ uint32 id ++ fields
 
--- EXTENDED (draft, section 8)
-abbrev pub extended : List ℕ → ℕ → List ℕ → List ℕ
-extended name id fields = of_type SSH_FXP_EXTENDED id (string name ++ fields)
+-- The body of an EXTENDED (draft, section 8).
+abbrev pub extended_body : List ℕ → ℕ → List ℕ → List ℕ
+extended_body name id fields = of_type SSH_FXP_EXTENDED id (string name ++ fields)
 
--- the body of a request; the hello has no id
+-- The body of a request; the hello has no id.
 unfoldable pub request_body : Request → ℕ → List ℕ
 request_body (request.Init version) id = SSH_FXP_INIT ∷ uint32 version
 request_body (request.OpenFile path flags attrs) id = of_type SSH_FXP_OPEN id
@@ -167,20 +167,20 @@ request_body (request.Stat path) id = of_type SSH_FXP_STAT id (string path)
 request_body (request.Rename old to) id = of_type SSH_FXP_RENAME id (string old ++ string to)
 request_body (request.Readlink path) id = of_type SSH_FXP_READLINK id (string path)
 request_body (request.Symlink src dst) id = of_type SSH_FXP_SYMLINK id (string src ++ string dst)
-request_body (request.PosixRename old to) id = extended posix_rename_name id (string old ++ string to)
-request_body (request.Hardlink old to) id = extended hardlink_name id (string old ++ string to)
-request_body (request.Fsync handle) id = extended fsync_name id (string handle)
-request_body (request.ExpandPath path) id = extended expand_path_name id (string path)
+request_body (request.PosixRename old to) id = extended_body posix_rename_name id (string old ++ string to)
+request_body (request.Hardlink old to) id = extended_body hardlink_name id (string old ++ string to)
+request_body (request.Fsync handle) id = extended_body fsync_name id (string handle)
+request_body (request.ExpandPath path) id = extended_body expand_path_name id (string path)
 request_body (request.CopyData from from_offset len to to_offset) id =
-    extended copy_data_name id (string from ++ uint64 from_offset ++ uint64 len ++ string to ++ uint64 to_offset)
-request_body request.LimitsQuery id = extended limits_name id []
+    extended_body copy_data_name id (string from ++ uint64 from_offset ++ uint64 len ++ string to ++ uint64 to_offset)
+request_body request.LimitsQuery id = extended_body limits_name id []
 
--- ---- replies (draft, sections 4 and 7)
+-- ---- Replies (draft, sections 4 and 7)
 
 abbrev pub name_entry : NameEntry → List ℕ
 name_entry e = string e.filename ++ string e.longname ++ attributes e.attrs
 
--- the body of a reply; VERSION has no id
+-- The body of a reply; VERSION has no id.
 unfoldable pub reply_body : Reply → ℕ → List ℕ
 reply_body (reply.Version version extensions) id = SSH_FXP_VERSION ∷ uint32 version
     ++ extension_pairs extensions.0 extension_table
@@ -192,36 +192,36 @@ reply_body (reply.Names names) id = of_type SSH_FXP_NAME id (uint32 (length name
 reply_body (reply.Attrs attrs) id = of_type SSH_FXP_ATTRS id (attributes attrs)
 reply_body (reply.Extended content) id = of_type SSH_FXP_EXTENDED_REPLY id content
 
--- the content of the reply to the query for limits (OpenSSH's PROTOCOL, section 4.8)
+-- The content of the reply to the query for limits (OpenSSH's PROTOCOL, section 4.8).
 unfoldable pub limits_content : Limits → List ℕ
 limits_content limits = uint64 limits.packet_len ++ uint64 limits.read_len ++ uint64 limits.write_len
     ++ uint64 limits.open_handles
 
--- ---- frames
+-- ---- Frames
 
--- the length of a body, and the body
+-- The length of a body, followed by the body.
 abbrev pub frame : List ℕ → List ℕ
 frame body = string body
 
 abbrev pub request_frame : Request → ℕ → List ℕ
 request_frame r id = frame (request_body r id)
 
--- the body of a request passes the greatest length, whatever its id
+-- True if the body of a request is longer than the greatest length, whatever its id is.
 abbrev pub is_too_long : Request → Bool
 is_too_long r = nat_lt MAX_BODY_LEN (length (request_body r 0))
 
--- the frame of a request behind its id
+-- The frame of a request with its id.
 abbrev pub frame_of : ℕ × Request → List ℕ
 frame_of queued = request_frame queued.1 queued.0
 
--- the frames of these requests, one after another
+-- The frames of these requests, one after another.
 abbrev pub frames_of : List (ℕ × Request) → List ℕ
 frames_of requests = flat_map frame_of requests
 
 abbrev pub reply_frame : Reply → ℕ → List ℕ
 reply_frame r id = frame (reply_body r id)
 
--- the id that a body bears; the hello and VERSION bear none
+-- The id that a body carries; the hello and VERSION carry none.
 abbrev pub request_id : Request → ℕ → Option ℕ
 request_id (request.Init version) id = None
 request_id other id = Some id

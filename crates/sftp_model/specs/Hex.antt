@@ -4,7 +4,7 @@ use Rattle.std.specs.Prelude.{ℕ, ◌+◌, ◌-◌, ◌*◌, List, [], ◌∷�
 abbrev pub digit : ℕ → ℕ
 digit c = if nat_lt c 58 then c - 48 else c - 87
 
--- the bytes that the codes of lower-case digits spell
+-- The bytes that the codes of lower-case digits spell.
 abbrev pub hex : List ℕ → List ℕ
 hex [] = []
 hex (c ∷ []) = []

@@ -1,4 +1,4 @@
--- The flags of an OPEN by the options of its user (draft-ietf-secsh-filexfer-02, section 6.3).
+-- The flags of an OPEN by its options (draft-ietf-secsh-filexfer-02, section 6.3).
 use Rattle.std.specs.Prelude.{ℕ, ◌+◌, false, ◌&&◌, ◌||◌, if◌then◌else◌}
 use Rattle.sftp_model.specs.Numbers.{
   SSH_FXF_READ,
@@ -22,12 +22,12 @@ nothing_chosen = record {
       false;
 }
 
--- what may be done with the file; `append` writes too
+-- The access to the file; `append` writes too.
 abbrev pub rights_of : OpenOptions → ℕ
 rights_of o = (if o.read then SSH_FXF_READ else 0) + (if o.write || o.append then SSH_FXF_WRITE else 0) +
     (if o.append then SSH_FXF_APPEND else 0)
 
--- how the file is made, or emptied
+-- The flags that create or truncate the file.
 abbrev pub making_of : OpenOptions → ℕ
 making_of o =
     if o.create_new then SSH_FXF_CREAT + SSH_FXF_EXCL

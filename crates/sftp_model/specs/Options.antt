@@ -1,4 +1,4 @@
--- What a session does where its user says nothing.
+-- The default options of a session.
 use Rattle.std.specs.Prelude.{None}
 use Rattle.sftp_model.specs.declared.options.SftpOptions.{SftpOptions}
 

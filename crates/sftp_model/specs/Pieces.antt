@@ -1,7 +1,7 @@
 -- Bytes that are cut into pieces.
 use Rattle.std.specs.Prelude.{ℕ, List, [], ◌∷◌, ◌++◌}
 
--- the pieces, one after another
-abbrev pub joined : List (List ℕ) → List ℕ
-joined [] = []
-joined (piece ∷ pieces) = piece ++ joined pieces
+-- The pieces, one after another.
+abbrev pub joined_pieces : List (List ℕ) → List ℕ
+joined_pieces [] = []
+joined_pieces (piece ∷ pieces) = piece ++ joined_pieces pieces

@@ -1,5 +1,5 @@
--- What the body of a frame reads as, field by field from its first byte. The refusal is that of the first field
--- that fails (draft-ietf-secsh-filexfer-02, sections 3 to 8).
+-- The value that the body of a frame is read as, field by field from its first byte. The error is that of the first
+-- field that fails (draft-ietf-secsh-filexfer-02, sections 3 to 8).
 use Rattle.std.specs.Prelude.{
   ℕ,
   zero,
@@ -43,22 +43,22 @@ use Rattle.sftp_model.specs.Numbers.{
 use Rattle.sftp_model.specs.FieldErrors.{frame_error}
 use Rattle.sftp_model.specs.Frames.{extension_table}
 
--- a field's value or refusal as a frame's
+-- The value or error of a field, as that of its frame.
 abbrev pub field : {A : Type 0} → Result A Error → Result A FrameError
 field (Ok x) = Ok x
 field (Err e) = Err (frame_error e)
 
--- nothing may stand after the last field
+-- No bytes may follow the last field.
 abbrev pub whole : {A : Type 0} → A × List ℕ → Result A FrameError
 whole read = if length read.1 == 0 then Ok read.0 else Err (errors.Format (kinds.TrailingData (length read.1)))
 
--- no handle may be longer than the bound; the first one that is longer is told
+-- No handle may be longer than the bound; the error has the length of the first one that is longer.
 abbrev pub with_short_handles : {A : Type 0} → List (List ℕ) → A → Result A FrameError
 with_short_handles [] x = Ok x
 with_short_handles (h ∷ handles) x = if nat_lt MAX_HANDLE_LEN (length h) then Err (errors.HandleTooLong (length h)) else
     with_short_handles handles x
 
--- fields after an id
+-- The fields after an id.
 abbrev pub with_id : {A : Type 0} → (List ℕ → Result (A × List ℕ) FrameError) → List ℕ
     → Result ((Option ℕ × A) × List ℕ) FrameError
 with_id fields bytes = do
@@ -66,7 +66,7 @@ with_id fields bytes = do
   read ← fields id.1
   Ok ((Some id.0, read.0), read.1)
 
--- fields without an id
+-- The fields without an id.
 abbrev pub without_id : {A : Type 0} → (List ℕ → Result (A × List ℕ) FrameError) → List ℕ
     → Result ((Option ℕ × A) × List ℕ) FrameError
 without_id fields bytes = do
@@ -76,17 +76,17 @@ without_id fields bytes = do
 abbrev pub unknown_type : {A : Type 0} → ℕ → Result A FrameError
 unknown_type kind = Err (errors.Format (kinds.InvalidDiscriminant kind))
 
--- ---- attributes (section 5)
+-- ---- Attributes (section 5)
 
--- a bit is set
+-- True if the bit is set.
 abbrev pub has_bit : ℕ → ℕ → Bool
 has_bit flags n = not (bit_and flags n == 0)
 
--- the twelve permission bits of a mode, without those of the type of file
+-- The twelve permission bits of a mode, without those of the type of file.
 abbrev pub permission_bits : ℕ → ℕ
 permission_bits mode = bit_and mode 0o7777
 
--- a field that is there only where its bit is set
+-- A field that is present only if its bit is set.
 abbrev pub where_set : {A : Type 0} → Bool → (List ℕ → Result (A × List ℕ) FrameError) → List ℕ
     → Result (Option A × List ℕ) FrameError
 where_set false fields bytes = Ok (None, bytes)
@@ -109,7 +109,7 @@ two_numbers_at bytes = do
   second ← uint32_at first.1
   Ok ((first.0, second.0), second.1)
 
--- what stands after a count of pairs of strings, which are passed over one by one
+-- The bytes after a count of pairs of strings, which are passed over one by one.
 abbrev pub behind_pairs : ℕ → List ℕ → Result (List ℕ) FrameError
 behind_pairs zero bytes = Ok bytes
 behind_pairs (suc n) bytes = do
@@ -123,7 +123,7 @@ behind_counted_pairs bytes = do
   rest ← behind_pairs count.0 count.1
   Ok (tt, rest)
 
--- Bits, and then the fields whose bits are set; other bits carry no field. The extended pairs are dropped.
+-- Bits, followed by the fields whose bits are set. Other bits carry no field. The extended pairs are dropped.
 unfoldable pub attributes_at : List ℕ → Result (FileAttrs × List ℕ) FrameError
 attributes_at bytes = do
   flags ← uint32_at bytes
@@ -134,19 +134,19 @@ attributes_at bytes = do
   pairs ← where_set (has_bit flags.0 SSH_FILEXFER_ATTR_EXTENDED) behind_counted_pairs time.1
   Ok (record { size = size.0; id = id.0; permissions = permissions.0; time = time.0 }, pairs.1)
 
--- ---- extensions (section 4, and OpenSSH's PROTOCOL)
+-- ---- Extensions (section 4, and OpenSSH's PROTOCOL)
 
--- the bit of a name in a table, 0 where the table lacks it
+-- The bit of a name in a table, 0 if the table lacks it.
 abbrev pub named_bit : List (List ℕ × ℕ) → List ℕ → ℕ
 named_bit [] name = 0
 named_bit (row ∷ table) name = if bytes_eq name row.0 then row.1 else named_bit table name
 
--- the bit that a pair of VERSION adds: only one with the value `1` counts
+-- The bit that a pair of VERSION adds: only a pair with the value `1` counts.
 abbrev pub pair_bit : List ℕ → List ℕ → ℕ
 pair_bit name value = if bytes_eq value (codes "1") then named_bit extension_table name else 0
 
--- The set that pairs to the end add to a set. A pair takes eight bytes or more, so that `most` need not be
--- over the number of bytes.
+-- The set that the pairs up to the end add to a set. A pair takes eight bytes or more, so `most` need not be greater
+-- than the number of bytes.
 abbrev pub with_pairs : ℕ → ℕ → List ℕ → Result ℕ FrameError
 with_pairs zero set bytes = Ok set
 with_pairs (suc most) set [] = Ok set

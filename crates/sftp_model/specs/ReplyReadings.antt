@@ -1,4 +1,4 @@
--- What the body of a reply reads as (draft-ietf-secsh-filexfer-02, sections 4 and 7).
+-- The value that the body of a reply is read as (draft-ietf-secsh-filexfer-02, sections 4 and 7).
 use Rattle.std.specs.Prelude.{ℕ, zero, suc, ◌==◌, List, [], ◌∷◌, Option, Some, None, Result, Ok, Err, if◌then◌else◌}
 use Rattle.ssh_encoding.specs.Reading.{◌>>=◌, byte_at, with_prefix}
 use Rattle.sftp_model.specs.declared.config.Limits.{Limits}
@@ -59,7 +59,7 @@ entry_at bytes = do
   attrs ← attributes_at longname.1
   Ok (record { filename = filename.0; longname = longname.0; attrs = attrs.0 }, attrs.1)
 
--- so many entries, one by one
+-- This many entries, one by one.
 abbrev pub entries_at : ℕ → List ℕ → Result (List NameEntry × List ℕ) FrameError
 entries_at zero bytes = Ok ([], bytes)
 entries_at (suc n) bytes = entry_at bytes >>= λ entry. with_prefix (entry.0 ∷ []) (entries_at n entry.1)
@@ -75,11 +75,11 @@ attrs_at bytes = do
   attrs ← attributes_at bytes
   Ok (reply.Attrs attrs.0, attrs.1)
 
--- all bytes to the end
+-- All bytes up to the end.
 unfoldable pub extended_at : List ℕ → Result (Reply × List ℕ) FrameError
 extended_at bytes = Ok (reply.Extended bytes, [])
 
--- the fields after a type byte
+-- The fields after a type byte.
 unfoldable pub reply_fields_at : ℕ → List ℕ → Result ((Option ℕ × Reply) × List ℕ) FrameError
 reply_fields_at kind bytes =
     if kind == SSH_FXP_VERSION then without_id version_at bytes
@@ -95,7 +95,7 @@ abbrev pub handles_of_reply : Reply → List (List ℕ)
 handles_of_reply (reply.Handle handle) = handle ∷ []
 handles_of_reply other = []
 
--- the id, which VERSION lacks, and the reply
+-- The id, which VERSION lacks, and the reply.
 unfoldable pub reply_at : List ℕ → Result (Option ℕ × Reply) FrameError
 reply_at body = do
   kind ← field (byte_at body)
@@ -103,7 +103,7 @@ reply_at body = do
   read ← whole fields
   with_short_handles (handles_of_reply read.1) read
 
--- the four numbers of the reply to the query for limits (OpenSSH's PROTOCOL, section 4.8)
+-- The four numbers of the reply to the query for limits (OpenSSH's PROTOCOL, section 4.8).
 unfoldable pub limits_at : List ℕ → Result Limits FrameError
 limits_at bytes = do
   packet ← uint64_at bytes
@@ -116,7 +116,7 @@ abbrev pub limits_read : Result Limits FrameError → Option Limits
 limits_read (Ok limits) = Some limits
 limits_read (Err e) = None
 
--- the limits that a reply tells
+-- The limits that a reply reports.
 abbrev pub limits_in : Reply → Option Limits
 limits_in (reply.Extended content) = limits_read (limits_at content)
 limits_in other = None

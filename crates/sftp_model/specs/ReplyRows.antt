@@ -1,4 +1,4 @@
--- Worked examples of what replies read as, and beside each what nearly is one.
+-- Worked examples of the values that replies are read as, each beside a case that nearly is one.
 use Rattle.std.specs.Prelude.{ℕ, ◌≡◌, [], ◌∷◌, ◌++◌, codes, Option, Some, None, Result, Ok, Err, replicate, refl}
 use Rattle.ssh_encoding.specs.Reading.{byte_at, prefix_at}
 use Rattle.sftp_model.specs.declared.file_attrs.FileAttrs.{FileAttrs}
@@ -35,7 +35,7 @@ Read = Result (Option ℕ × Reply) FrameError
 abbrev size_alone : ℕ → FileAttrs
 size_alone n = record { size = Some n; id = None; permissions = None; time = None }
 
--- ---- the type byte
+-- ---- The type byte
 
 pub no_bytes : reply_at [] ≡ Err (Format Length)
 unfolding reply_at byte_at
@@ -45,7 +45,7 @@ pub unknown_type : reply_at (hex (codes "6a00000001")) ≡ Err (Format (InvalidD
 unfolding reply_at byte_at reply_fields_at
 unknown_type = refl
 
--- the type byte is looked at before the id
+-- The type byte is checked before the id.
 pub unknown_type_alone : reply_at (hex (codes "00")) ≡ Err (Format (InvalidDiscriminant 0))
 unfolding reply_at byte_at reply_fields_at
 unknown_type_alone = refl
@@ -85,13 +85,13 @@ pub handle_of_257 : reply_at (hex (codes "660000000100000101") ++ replicate 257 
 unfolding reply_at byte_at reply_fields_at handle_at prefix_at
 handle_of_257 = refl
 
--- a byte after it is found first
+-- A byte after it is found first.
 pub handle_of_257_and_more : reply_at (hex (codes "660000000100000101") ++ replicate 258 7)
     ≡ Err (Format (TrailingData 1))
 unfolding reply_at byte_at reply_fields_at handle_at prefix_at
 handle_of_257_and_more = refl
 
--- a length over 1048575 is refused before the bytes are looked for
+-- A length over 1048575 is refused before the bytes are looked for.
 pub length_too_great : reply_at (hex (codes "670000000100100000")) ≡ Err (Format Overflow)
 unfolding reply_at byte_at reply_fields_at content_at prefix_at
 length_too_great = refl
@@ -104,7 +104,7 @@ pub content_reply : reply_at (hex (codes "6700000001000000020102")) ≡ Ok (Some
 unfolding reply_at byte_at reply_fields_at content_at prefix_at
 content_reply = refl
 
--- the same fields under another type
+-- The same fields under another type.
 pub content_as_extended : reply_at (hex (codes "c900000001000000020102"))
     ≡ Ok (Some 1, reply.Extended (0 ∷ 0 ∷ 0 ∷ 2 ∷ 1 ∷ 2 ∷ []))
 unfolding reply_at byte_at reply_fields_at extended_at
@@ -112,7 +112,7 @@ content_as_extended = refl
 
 -- ---- ATTRS
 
--- an extended pair is dropped
+-- An extended pair is dropped.
 pub attrs_with_pair : reply_at (hex (codes "690000000280000001" ++ codes "0000000000000005"
     ++ codes "000000010000000000000000")) ≡ Ok (Some 2, reply.Attrs (size_alone 5))
 unfolding reply_at byte_at reply_fields_at attrs_at attributes_at behind_counted_pairs prefix_at
@@ -128,7 +128,7 @@ pub attrs_with_cut_pair : reply_at (hex (codes "690000000280000001" ++ codes "00
 unfolding reply_at byte_at reply_fields_at attrs_at attributes_at behind_counted_pairs prefix_at
 attrs_with_cut_pair = refl
 
--- an unknown bit carries no field
+-- An unknown bit carries no field.
 pub attrs_with_unknown_bit : reply_at (hex (codes "690000000200000010")) ≡ Ok (Some 2, reply.Attrs no_attributes)
 unfolding reply_at byte_at reply_fields_at attrs_at attributes_at
 attrs_with_unknown_bit = refl
@@ -155,7 +155,7 @@ pub names_cut_short : reply_at (hex (codes "6800000003" ++ codes "00000001000000
 unfolding reply_at byte_at reply_fields_at names_at entry_at attributes_at prefix_at
 names_cut_short = refl
 
--- a count with one entry too few after it
+-- A count of two with one entry after it.
 pub names_of_one_more : reply_at (hex (codes "6800000003" ++ codes "0000000200000001780000000000000000"))
     ≡ Err (Format Length)
 unfolding reply_at byte_at reply_fields_at names_at entry_at attributes_at prefix_at
@@ -176,13 +176,13 @@ pub version_with_limits : reply_at (hex (codes "020000000300000012") ++ codes "l
 unfolding reply_at byte_at reply_fields_at version_at extensions_at prefix_at
 version_with_limits = refl
 
--- only the value `1` counts, here it is `2`
+-- Only the value `1` counts; here it is `2`.
 pub version_with_other_value : reply_at (hex (codes "020000000300000012") ++ codes "limits@openssh.com"
     ++ hex (codes "0000000132")) ≡ Ok (None, reply.Version 3 (record { 0 = 0 }))
 unfolding reply_at byte_at reply_fields_at version_at extensions_at prefix_at
 version_with_other_value = refl
 
--- an unknown name is passed over; a name that comes twice counts once
+-- An unknown name is passed over; a name that comes twice counts once.
 pub version_with_unknown_name : reply_at (hex (codes "0200000003" ++ codes "000000017800000001310000000" ++ codes "9")
     ++ codes "copy-data" ++ hex (codes "000000013100000009") ++ codes "copy-data" ++ hex (codes "0000000131"))
     ≡ Ok (None, reply.Version 3 (record { 0 = 16 }))
@@ -193,7 +193,7 @@ pub version_with_name_alone : reply_at (hex (codes "020000000300000000")) ≡ Er
 unfolding reply_at byte_at reply_fields_at version_at extensions_at prefix_at
 version_with_name_alone = refl
 
--- ---- the content of the reply to the query for limits
+-- ---- The content of the reply to the query for limits
 
 pub limits_content : limits_at (hex (codes "00000000000000010000000000000002"
     ++ codes "00000000000000030000000000000004")) ≡ Ok (record

@@ -1,4 +1,4 @@
--- What the body of a request reads as (draft-ietf-secsh-filexfer-02, sections 4, 6 and 8).
+-- The value that the body of a request is read as (draft-ietf-secsh-filexfer-02, sections 4, 6 and 8).
 use Rattle.std.specs.Prelude.{ℕ, ◌==◌, List, [], ◌∷◌, Option, Result, Ok, if◌then◌else◌}
 use Rattle.std.specs.Str.{bytes_eq}
 use Rattle.ssh_encoding.specs.Reading.{◌>>=◌, byte_at}
@@ -75,20 +75,20 @@ write_at bytes = do
   content ← text_at offset.1
   Ok (request.Write handle.0 offset.0 content.0, content.1)
 
--- a request of one string
+-- A request of one string.
 unfoldable pub one_text_at : (List ℕ → Request) → List ℕ → Result (Request × List ℕ) FrameError
 one_text_at made bytes = do
   text ← text_at bytes
   Ok (made text.0, text.1)
 
--- a request of two strings
+-- A request of two strings.
 unfoldable pub two_texts_at : (List ℕ → List ℕ → Request) → List ℕ → Result (Request × List ℕ) FrameError
 two_texts_at made bytes = do
   first ← text_at bytes
   second ← text_at first.1
   Ok (made first.0 second.0, second.1)
 
--- a request of a string and attributes
+-- A request of a string and attributes.
 unfoldable pub text_and_attributes_at : (List ℕ → FileAttrs → Request) → List ℕ → Result (Request × List ℕ) FrameError
 text_and_attributes_at made bytes = do
   text ← text_at bytes
@@ -104,7 +104,7 @@ copy_data_at bytes = do
   to_offset ← uint64_at to.1
   Ok (request.CopyData from.0 from_offset.0 len.0 to.0 to_offset.0, to_offset.1)
 
--- the fields after the name of an extension
+-- The fields after the name of an extension.
 unfoldable pub extension_fields_at : List ℕ → List ℕ → Result (Request × List ℕ) FrameError
 extension_fields_at name bytes =
     if bytes_eq name posix_rename_name then two_texts_at request.PosixRename bytes
@@ -120,7 +120,7 @@ extended_request_at bytes = do
   name ← text_at bytes
   extension_fields_at name.0 name.1
 
--- the fields after a type byte
+-- The fields after a type byte.
 unfoldable pub request_fields_at : ℕ → List ℕ → Result ((Option ℕ × Request) × List ℕ) FrameError
 request_fields_at kind bytes =
     if kind == SSH_FXP_INIT then without_id init_at bytes
@@ -145,7 +145,7 @@ request_fields_at kind bytes =
     else if kind == SSH_FXP_EXTENDED then with_id extended_request_at bytes
     else unknown_type kind
 
--- the handles among the fields, in their order
+-- The handles among the fields, in their order.
 abbrev pub handles_of_request : Request → List (List ℕ)
 handles_of_request (request.Close handle) = handle ∷ []
 handles_of_request (request.Read handle offset len) = handle ∷ []
@@ -157,7 +157,7 @@ handles_of_request (request.Fsync handle) = handle ∷ []
 handles_of_request (request.CopyData from from_offset len to to_offset) = from ∷ to ∷ []
 handles_of_request other = []
 
--- the id, which the hello lacks, and the request
+-- The id, which the hello lacks, and the request.
 unfoldable pub request_at : List ℕ → Result (Option ℕ × Request) FrameError
 request_at body = do
   kind ← field (byte_at body)

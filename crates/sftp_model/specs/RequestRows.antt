@@ -1,4 +1,4 @@
--- Worked examples of what requests read as, and beside each what nearly is one.
+-- Worked examples of the values that requests are read as, each beside a case that nearly is one.
 use Rattle.std.specs.Prelude.{◌≡◌, [], ◌∷◌, ◌++◌, codes, Some, None, Ok, Err, replicate, refl}
 use Rattle.ssh_encoding.specs.Reading.{byte_at, prefix_at}
 use Rattle.sftp_model.specs.declared.frame_error.FrameError.TheVariants.{Format, HandleTooLong}
@@ -46,7 +46,7 @@ pub close_byte_more : request_at (hex (codes "0400000001000000040000000000")) �
 unfolding request_at byte_at request_fields_at one_text_at prefix_at
 close_byte_more = refl
 
--- the same fields under the next type but one
+-- The same fields under another type.
 pub close_as_fstat : request_at (hex (codes "08000000010000000400000000"))
     ≡ Ok (Some 1, request.Fstat (0 ∷ 0 ∷ 0 ∷ 0 ∷ []))
 unfolding request_at byte_at request_fields_at one_text_at prefix_at
@@ -66,13 +66,13 @@ pub handle_of_257 : request_at (hex (codes "0400000001" ++ codes "00000101") ++ 
 unfolding request_at byte_at request_fields_at one_text_at prefix_at
 handle_of_257 = refl
 
--- a path may be longer than a handle
+-- A path may be longer than a handle.
 pub path_of_257 : request_at (hex (codes "0700000001" ++ codes "00000101") ++ replicate 257 7)
     ≡ Ok (Some 1, request.Lstat (replicate 257 7))
 unfolding request_at byte_at request_fields_at one_text_at prefix_at
 path_of_257 = refl
 
--- the first of two long handles is told, and only where all fields read
+-- The error has the length of the first of two long handles, and only if all fields can be read.
 pub two_long_handles : request_at (hex (codes "c80000000100000009") ++ codes "copy-data" ++ hex (codes "00000101")
     ++ replicate 257 7 ++ replicate 16 0 ++ hex (codes "00000102") ++ replicate 258 7 ++ replicate 8 0)
     ≡ Err (HandleTooLong 257)
@@ -89,7 +89,7 @@ pub limits_request : request_at (hex (codes "c80000000000000012") ++ codes "limi
 unfolding request_at byte_at request_fields_at extended_request_at extension_fields_at prefix_at
 limits_request = refl
 
--- a name outside the six
+-- A name that is not one of the six.
 pub unknown_extension : request_at (hex (codes "c80000000000000012") ++ codes "limits@openssh.org")
     ≡ Err (Format (InvalidDiscriminant 200))
 unfolding request_at byte_at request_fields_at extended_request_at extension_fields_at prefix_at

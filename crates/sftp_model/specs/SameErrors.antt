@@ -33,7 +33,7 @@ use denote.Enum.Bare.{same_true, true_same}
 use denote.Enum.Compared.{Each}
 use denote.Enum.Declared.{values_one}
 
--- ---- tests of fields
+-- ---- Tests of fields
 
 abbrev same_text : List ℕ → List ℕ → Bool
 same_text = pointwise ◌==◌

@@ -89,7 +89,7 @@ none x y = true
 none_decides : (x y : Unit {0}) → Decides (none x y) (x ≡ y)
 none_decides x y = (λ e. refl, λ e. refl)
 
--- ---- requests, variant by variant
+-- ---- Requests, variant by variant
 
 abbrev tests : Each Bool the_parts
 tests = (

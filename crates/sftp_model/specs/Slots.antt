@@ -1,4 +1,4 @@
--- What a lane holds between its calls: sixteen slots and a working directory.
+-- The site of a lane between its calls: sixteen slots and a working directory.
 use Rattle.std.specs.Prelude.{ℕ, ◌+◌, ◌==◌, Bool, false, [], Option, Some, None, replicate, slice_index_or, slice_set}
 use Rattle.std.specs.List.{list_any}
 pub use Rattle.sftp_model.specs.declared.slot.FileAt.{FileAt}
@@ -7,19 +7,19 @@ pub use Rattle.sftp_model.specs.declared.slot.Slot.{Slot}
 pub use Rattle.sftp_model.specs.declared.slot.Slot.TheVariants.{Empty, File, Buffered}
 pub use Rattle.sftp_model.specs.declared.slot.Site.{Site}
 
--- a lane that has made no call
+-- The site of a lane that has made no call.
 abbrev pub fresh_site : Site
 fresh_site = record { slots = replicate 16 Empty; directory = [] }
 
--- what a slot holds; nothing where the number names none
+-- The contents of a slot; empty if no slot has the number.
 abbrev pub slot_at : Site → ℕ → Slot
 slot_at site k = slice_index_or site.slots k Empty
 
--- the site with one slot changed
+-- The site with one slot changed.
 abbrev pub with_slot : Site → ℕ → Slot → Site
 with_slot site k slot = record { slots = slice_set site.slots k slot; directory = site.directory }
 
--- the place of the OPEN whose handle a slot holds
+-- The place of the OPEN whose handle a slot holds.
 abbrev pub grant_of : Slot → Option ℕ
 grant_of Empty = None
 grant_of (File file) = Some file.grant
@@ -30,10 +30,10 @@ slot_has grant Empty = false
 slot_has grant (File file) = file.grant == grant
 slot_has grant (Buffered file buffer) = file.grant == grant
 
--- some slot has the grant
+-- True if some slot has the grant.
 abbrev pub has_grant : Site → ℕ → Bool
 has_grant site grant = list_any (slot_has grant) site.slots
 
--- a file that stands n bytes further
-abbrev pub moved : FileAt → ℕ → Slot
-moved file n = File (record file { offset = file.offset + n })
+-- A file whose offset is n bytes further.
+abbrev pub file_moved_by : FileAt → ℕ → Slot
+file_moved_by file n = File (record file { offset = file.offset + n })

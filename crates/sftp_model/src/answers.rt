@@ -1,12 +1,15 @@
+//! The replies that may answer a request.
 ghost use Rattle.std.specs.Prelude.{◌≡◌};
-ghost use Rattle.sftp_model.specs.Answers.{expected_of, allows, may_answer, ends, is_status, is_refusal, is_handle, is_content, is_names, is_some_names, is_attrs, is_extended, is_version};
+ghost use Rattle.sftp_model.specs.Answers.{expected_of, allows_reply, may_answer, ends_reading, is_status, is_refusal, is_handle, is_content, is_names, is_some_names, is_attrs, is_extended, is_version};
 
 use crate::numbers::{SSH_FX_EOF, SSH_FX_OK};
 use crate::reply::Reply;
 use crate::request::Request;
 
-/// Which replies may answer a request. Each but `Version` and `Status` allows a STATUS other than OK as well
+/// The replies that may answer a request. Each except `Version` and `Status` allows a STATUS other than OK as well
 /// (draft-ietf-secsh-filexfer-02, sections 6 and 7).
+///
+/// Used in `crates/sftp_core/src/id_record.rt`.
 #[derive(Clone, Copy, Debug, PartialEq, Eq)]
 pub enum Expected {
     /// VERSION.
@@ -15,7 +18,7 @@ pub enum Expected {
     Handle,
     /// DATA of 1 to `len` bytes.
     Content { len: u32 },
-    /// A NAME, of no entry too.
+    /// A NAME, which may have no entry.
     Names,
     /// A NAME of at least one entry, of which the first counts.
     FirstName,
@@ -28,7 +31,7 @@ pub enum Expected {
 }
 
 impl Expected {
-    /// What a request expects.
+    /// Returns the replies that a request expects.
     pub fn of(request: &Request) -> Expected
         ensures { result ≡ expected_of request.now }
     {
@@ -46,9 +49,9 @@ impl Expected {
         }
     }
 
-    /// Whether this reply is among them.
+    /// Returns true if this reply is among them.
     pub fn allows(self, reply: &Reply) -> bool
-        ensures { result ≡ allows self reply.now }
+        ensures { result ≡ allows_reply self reply.now }
     {
         match self {
             Expected::Version => is_version(reply),
@@ -63,19 +66,21 @@ impl Expected {
     }
 }
 
-/// Whether a reply may answer a request. A READ of `len` is answered by DATA of 1 to `len` bytes, and what
-/// asks for one path by a NAME of at least one entry; a STATUS of OK answers only what has nothing else to tell
-/// (draft-ietf-secsh-filexfer-02, sections 6 and 7).
+/// Returns true if a reply may answer a request.
+///
+/// DATA of 1 to `len` bytes may answer a READ of `len`. A NAME of at least one entry may answer a request for one path.
+/// A STATUS of OK may answer only a request that expects no other reply (draft-ietf-secsh-filexfer-02, sections 6 and
+/// 7).
 pub fn may_answer(request: &Request, reply: &Reply) -> bool
     ensures { result ≡ may_answer request.now reply.now }
 {
     Expected::of(request).allows(reply)
 }
 
-/// Whether a reply says that nothing is left to read: a STATUS of EOF to a READ or READDIR. To other
+/// Returns true if a reply says that no bytes or names are left to read: a STATUS of EOF to a READ or READDIR. To other
 /// requests it is a refusal.
 pub fn ends(request: &Request, reply: &Reply) -> bool
-    ensures { result ≡ ends request.now reply.now }
+    ensures { result ≡ ends_reading request.now reply.now }
 {
     match request {
         Request::Read { .. } | Request::Readdir { .. } => match reply {

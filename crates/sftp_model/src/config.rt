@@ -1,7 +1,9 @@
+//! The limits of a server, and the configuration of the server in memory.
 use crate::flags::Extensions;
 
-/// The answer to the query for limits, each number 0 where the server sets none (OpenSSH's PROTOCOL,
-/// section 4.8).
+/// The reply to the query for limits, each number 0 if the server sets none (OpenSSH's PROTOCOL, section 4.8).
+///
+/// Example: `crates/test_session/src/served.rt`.
 #[derive(Clone, Copy, Debug, PartialEq, Eq)]
 pub struct Limits {
     /// The most bytes of a frame.
@@ -14,22 +16,26 @@ pub struct Limits {
     pub open_handles: u64,
 }
 
-/// What a server offers. The extension for limits is advertised exactly where `limits` is Some, whatever
-/// the set says.
+/// The extensions and limits that a server offers. The extension for limits is advertised exactly if `limits` is Some,
+/// whatever the set says.
+///
+/// Example: `crates/example_threads/src/receipts.rt`.
 #[derive(Clone, Copy, Debug, PartialEq, Eq)]
 pub struct ServerConfig {
     /// The extensions that it advertises.
     pub extensions: Extensions,
-    /// What it answers to the query for limits.
+    /// The reply to the query for limits.
     pub limits: Option<Limits>,
     /// The most bytes that one send or receive moves; 0 is no limit.
     pub cut: u32,
 }
 
-/// What the file machine is to do with one request.
+/// The choice of the file machine for one request.
+///
+/// Example: `crates/test_session/src/map_server.rt`.
 #[derive(Clone, Copy, Debug, PartialEq, Eq)]
 pub struct Choice {
-    /// The status code to refuse it with; 0 to answer it.
+    /// The status code to refuse it with; 0 to process it.
     pub refuse: u32,
     /// The most bytes of a DATA; 0 is no limit.
     pub cap: u32,

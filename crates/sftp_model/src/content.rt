@@ -1,9 +1,10 @@
+//! Bytes to be written, as shared pieces.
 ghost use Rattle.std.specs.Prelude.{◌≡◌, ◌==◌, ◌++◌, [], List, ℕ, length, OnOk, OnErr};
 ghost use Rattle.std.specs.List.{list_all};
 ghost use Rattle.std.proofs.Common.{rules};
 ghost use Rattle.std.specs.Cmp.Lexicographic.{pointwise};
 ghost use Rattle.std.specs.Cmp.Rules.{comparing};
-ghost use Rattle.sftp_model.specs.Pieces.{joined};
+ghost use Rattle.sftp_model.specs.Pieces.{joined_pieces};
 
 use crate::copy::{TryCopy, copies_of};
 use bytes::Bytes;
@@ -11,8 +12,10 @@ use ssh_encoding::OutOfMemory;
 use std::alloc::Global;
 use std::marker::Model;
 
-/// Bytes to be written, as shared pieces in order. A contract sees the joined bytes: how they are cut
-/// into pieces is left open.
+/// Bytes to be written, as shared pieces in order. A contract sees the joined bytes: how they are cut into pieces is
+/// left open.
+///
+/// Example: `crates/test_wire/src/model.rt`.
 #[derive(Debug, Drop)]
 pub struct Content {
     pieces: Vec<Bytes>,
@@ -20,15 +23,15 @@ pub struct Content {
 
 impl Model for Content {
     ghost use Rattle.std.specs.Prelude.{List, ℕ};
-    ghost use Rattle.sftp_model.specs.Pieces.{joined};
+    ghost use Rattle.sftp_model.specs.Pieces.{joined_pieces};
 
     ghost Value = { List ℕ };
 
-    ghost view = { λ c. joined c.pieces.items };
+    ghost view = { λ c. joined_pieces c.pieces.items };
 }
 
 impl Content {
-    /// No bytes. Takes no memory.
+    /// Creates it without bytes. Does not allocate.
     pub fn new(alloc: Global) -> Content
         ensures { result ≡ [] }
     {
@@ -37,28 +40,32 @@ impl Content {
         }
     }
 
-    /// Adds a piece at the end; refused for want of memory, the content is as before.
+    /// Adds a piece at the end.
+    ///
+    /// # Errors
+    ///
+    /// `OutOfMemory` if an allocation fails; the content is unchanged.
     #[tactic(auto, using(crate::proofs::Joining::joining))]
     pub fn push(&mut self, piece: Bytes) -> Result<(), OutOfMemory>
         ensures ok { OnOk result (self.new ≡ self.old ++ piece) }
-        ensures err { OnErr result (self.new ≡ self.old) }
+        ensures unchanged { OnErr result (self.new ≡ self.old) }
     {
         self.pieces.push(piece)?;
         Ok(())
     }
 
-    /// The pieces in order; joined they are the content.
+    /// Returns the pieces in order; joined they are the content.
     pub fn pieces(&self) -> &[Bytes]
-        ensures { joined result.now ≡ self.now }
+        ensures { joined_pieces result.now ≡ self.now }
     {
         self.pieces.as_slice()
     }
 }
 
-/// Whether the pieces of both sides join to the same bytes.
+/// Returns true if the pieces of both sides join to the same bytes.
 #[tactic(auto, using(crate::proofs::Joining::joining))]
 fn are_joined_same(left: &[Bytes], right: &[Bytes]) -> bool
-    ensures { result ≡ pointwise ◌==◌ (joined left.now) (joined right.now) }
+    ensures { result ≡ pointwise ◌==◌ (joined_pieces left.now) (joined_pieces right.now) }
 {
     let (mut lefts, mut rights) = (left, right);
     let mut ours: &[u8] = &[];
@@ -90,7 +97,7 @@ fn are_joined_same(left: &[Bytes], right: &[Bytes]) -> bool
     }
 }
 
-/// Whether the pieces join to nothing.
+/// Returns true if the pieces join to no bytes.
 fn are_all_empty(pieces: &[Bytes]) -> bool
     ensures { result ≡ list_all (λ piece. length piece == 0) pieces.now }
 {

@@ -1,3 +1,4 @@
+//! A trait for values that are copied with fallible allocation.
 ghost use Rattle.std.specs.Prelude.{◌≡◌, IfOk};
 
 use bytes::Bytes;
@@ -5,14 +6,20 @@ use sftp_values::{ByteText, Items};
 use ssh_encoding::OutOfMemory;
 use std::alloc::Global;
 
-/// What can be copied where there is memory.
+/// A type whose values can be copied if an allocation succeeds.
+///
+/// Example: `crates/test_files/src/history.rt`.
 pub trait TryCopy: Sized {
-    /// A value equal to this one. Refused only for want of memory; nothing is left of it then.
+    /// Returns a value equal to this one.
+    ///
+    /// # Errors
+    ///
+    /// `OutOfMemory` if an allocation fails; nothing remains of the copy then.
     fn try_copy(&self, alloc: Global) -> Result<Self, OutOfMemory>
         ensures { IfOk result (λ copy. copy ≡ self.now) };
 }
 
-/// Copies of the values of a slice, in order.
+/// Returns copies of the values of a slice, in order. Fails only if an allocation fails.
 pub(crate) fn copies_of<T: TryCopy + Drop>(
     alloc: Global,
     items: &[T],

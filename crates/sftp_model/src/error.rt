@@ -1,3 +1,4 @@
+//! The errors of calls and of sessions.
 ghost use Rattle.std.specs.Prelude.{◌≡◌};
 
 use crate::copy::TryCopy;
@@ -7,26 +8,28 @@ use sftp_values::ByteText;
 use ssh_encoding::OutOfMemory;
 use std::alloc::Global;
 
-/// The first fault of a session, after which it can't be used.
+/// The first fault of a session, after which it cannot be used.
+///
+/// Example: `crates/test_client/src/opening.rt`.
 #[derive(Clone, Copy, Debug, PartialEq, Eq, thiserror::Error)]
 pub enum Fault {
     /// The link failed.
     #[error("the link failed")]
     Link,
-    /// The link ended while a reply was due.
+    /// The link ended before an expected reply came.
     #[error("the link ended while a reply was due")]
     Ended,
-    /// The server speaks another version of the protocol than 3.
+    /// The server uses a version of the protocol other than 3.
     #[error("the server speaks version {version} of the protocol, and only 3 is supported")]
     Protocol { version: u32 },
-    /// A frame breaks the form of a reply.
+    /// A frame does not have the form of a reply.
     #[error("{0}")]
     Format(FormatKind),
     /// A handle is longer than `MAX_HANDLE_LEN`.
     #[error("a handle has {len} bytes, and at most 256 are allowed")]
     HandleTooLong { len: u32 },
-    /// No sent request that is unanswered bears the id of a reply.
-    #[error("a reply bears the id {id}, which no unanswered request has")]
+    /// No sent request that is unanswered has the id of a reply.
+    #[error("a reply has the id {id}, which no unanswered request has")]
     ResponseId { id: u32 },
     /// The reply may not answer its request.
     #[error("a reply may not answer its request")]
@@ -36,7 +39,9 @@ pub enum Fault {
     Limits { code: u32 },
 }
 
-/// What the client finds wrong with a call on its own, without a request.
+/// The kinds of errors that the client finds in a call by itself, without a request.
+///
+/// Example: `crates/test_library/src/pieces.rt`.
 #[derive(Clone, Copy, Debug, PartialEq, Eq, thiserror::Error)]
 pub enum IoKind {
     /// The file was not opened to read.
@@ -60,29 +65,31 @@ pub enum IoKind {
     /// A path is too long for a frame.
     #[error("the path is too long for a frame")]
     PathTooLong,
-    /// The file ended before all that was to be read came.
-    #[error("the file ended too early")]
+    /// The file ended before all the bytes that were to be read came.
+    #[error("unexpected end of file")]
     UnexpectedEof,
 }
 
-/// Why a call failed.
+/// The reason why a call failed.
+///
+/// Example: `crates/example_client/src/tasks.rt`.
 #[derive(Debug, Drop, PartialEq, Eq, thiserror::Error)]
 pub enum Error {
-    /// There was no memory.
+    /// An allocation failed.
     #[error("out of memory")]
     OutOfMemory,
     /// The link failed in this call.
     #[error("the link failed")]
     LinkFault,
-    /// The link ended while a reply was due.
+    /// The link ended before an expected reply came.
     #[error("the link ended while a reply was due")]
     LinkEnded,
-    /// The server speaks another version of the protocol than 3.
+    /// The server uses a version of the protocol other than 3.
     #[error("the server speaks version {version} of the protocol, and only 3 is supported")]
     UnsupportedSftpProtocol {
         version: u32,
     },
-    /// A frame breaks the form of a reply.
+    /// A frame does not have the form of a reply.
     #[error("{0}")]
     FormatError(FormatKind),
     /// A handle is longer than `MAX_HANDLE_LEN`.
@@ -90,8 +97,8 @@ pub enum Error {
     HandleTooLong {
         len: u32,
     },
-    /// No sent request that is unanswered bears the id of a reply.
-    #[error("a reply bears the id {id}, which no unanswered request has")]
+    /// No sent request that is unanswered has the id of a reply.
+    #[error("a reply has the id {id}, which no unanswered request has")]
     InvalidResponseId {
         id: u32,
     },
@@ -107,14 +114,14 @@ pub enum Error {
         message: ByteText,
         language: ByteText,
     },
-    /// The server doesn't offer this extension.
-    #[error("the server doesn't offer a needed extension")]
+    /// The server does not offer this extension.
+    #[error("the server does not offer an extension that the call needs")]
     UnsupportedExtension(Extensions),
     /// The client found the call wrong, and sent no request for it.
     #[error("{0}")]
     IOError(IoKind),
     /// The session had failed before.
-    #[error("the session had failed before: {0}")]
+    #[error("the session failed earlier: {0}")]
     BackgroundTaskFailure(Fault),
 }
 
@@ -144,5 +151,15 @@ impl TryCopy for Error {
             Error::IOError(kind) => Ok(Error::IOError(*kind)),
             Error::BackgroundTaskFailure(fault) => Ok(Error::BackgroundTaskFailure(*fault)),
         }
+    }
+}
+
+impl From<OutOfMemory> for Error {
+    ghost use Rattle.sftp_model.specs.declared.error.Error.TheVariants as error;
+
+    ghost from_gives = { λ _ e. e ≡ error.OutOfMemory };
+
+    fn from(_: OutOfMemory) -> Error {
+        Error::OutOfMemory
     }
 }

@@ -1,12 +1,15 @@
-/// The attributes of a file, each where it is there (draft-ietf-secsh-filexfer-02, section 5).
+//! The attributes of a file.
+/// The attributes of a file, each `None` if it is not known (draft-ietf-secsh-filexfer-02, section 5).
+///
+/// Example: `crates/test_wire/src/metadata.rt`.
 #[derive(Clone, Copy, Debug, PartialEq, Eq)]
 pub struct FileAttrs {
-    /// Bytes.
+    /// The size in bytes.
     pub size: Option<u64>,
-    /// The user's and the group's number.
+    /// The numeric ids of the user and the group.
     pub id: Option<(u32, u32)>,
-    /// Type and permissions, as POSIX's `st_mode`.
+    /// The type and permissions, as POSIX's `st_mode`.
     pub permissions: Option<u32>,
-    /// The last access and the last change, in seconds since 1970.
+    /// The times of the last access and the last change, in seconds since 1970.
     pub time: Option<(u32, u32)>,
 }

@@ -1,10 +1,13 @@
+//! Sets of flags.
 ghost use Rattle.std.specs.Prelude.{⊤, ◌≡◌, [], ◌∷◌, codes};
 ghost use Rattle.sftp_model.specs.Numbers.{SSH_FXF_READ, SSH_FXF_WRITE, SSH_FXF_APPEND, SSH_FXF_CREAT, SSH_FXF_TRUNC, SSH_FXF_EXCL};
 
 use crate::numbers;
 use bitflags::{Flag, Flags, bitflag_items};
 
-/// How a file is opened (draft-ietf-secsh-filexfer-02, section 6.3).
+/// The flags of an OPEN (draft-ietf-secsh-filexfer-02, section 6.3).
+///
+/// Example: `crates/test_library/src/sites.rt`.
 #[derive(Clone, Copy, PartialEq, Eq, Debug)]
 pub struct OpenFlags(u32);
 
@@ -42,8 +45,10 @@ impl Flags for OpenFlags {
     }
 }
 
-/// The extensions that a server may offer (OpenSSH's PROTOCOL, section 4; `copy-data` is of
+/// The extensions that a server may offer (OpenSSH's PROTOCOL, section 4; `copy-data` belongs to
 /// draft-ietf-secsh-filexfer-extensions-00, section 7).
+///
+/// Example: `crates/example_threads/src/receipts.rt`.
 #[derive(Clone, Copy, PartialEq, Eq, Debug)]
 pub struct Extensions(u32);
 

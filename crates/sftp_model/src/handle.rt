@@ -1,3 +1,4 @@
+//! Handles of open files and directories.
 ghost use Rattle.std.specs.Prelude.{◌≡◌, ◌==◌, ◌<◌, ◌≤◌, List, ℕ, length, take, IfSome, IfNone};
 ghost use Rattle.std.proofs.Common.{rules};
 ghost use Rattle.std.specs.Cmp.Lexicographic.{pointwise};
@@ -10,8 +11,10 @@ use ssh_encoding::OutOfMemory;
 use std::alloc::Global;
 use std::marker::Model;
 
-/// The name that a server gives to an open file or directory: at most `MAX_HANDLE_LEN` bytes, held in place.
-/// A contract sees it as their list (draft-ietf-secsh-filexfer-02, section 7).
+/// The name that a server assigns to an open file or directory: at most `MAX_HANDLE_LEN` bytes, stored inline. A
+/// contract sees it as their list (draft-ietf-secsh-filexfer-02, section 7).
+///
+/// Example: `crates/test_session/src/text.rt`.
 #[derive(Debug, Drop)]
 pub struct Handle {
     bytes: [u8; numbers::MAX_HANDLE_LEN],
@@ -30,7 +33,7 @@ impl Model for Handle {
 }
 
 impl Handle {
-    /// The handle of these bytes; None exactly where they are more than `MAX_HANDLE_LEN`.
+    /// Creates the handle of these bytes. Returns `None` exactly if there are more than `MAX_HANDLE_LEN`.
     pub fn new(bytes: &[u8]) -> Option<Handle>
         ensures value { IfSome result (λ h. h ≡ bytes.now) }
         ensures fits { IfSome result (λ h. length h ≤ MAX_HANDLE_LEN) }
@@ -48,7 +51,7 @@ impl Handle {
         })
     }
 
-    /// The same handle once more. Takes no memory.
+    /// Returns a copy of the handle. Does not allocate.
     pub fn copied(&self) -> Handle
         ensures { result ≡ self.now }
     {
@@ -58,7 +61,7 @@ impl Handle {
         }
     }
 
-    /// The bytes, at most `MAX_HANDLE_LEN`.
+    /// Returns the bytes, at most `MAX_HANDLE_LEN`.
     pub fn as_bytes(&self) -> &[u8]
         ensures value { result.now ≡ self.now }
         ensures fits { length self.now ≤ MAX_HANDLE_LEN }

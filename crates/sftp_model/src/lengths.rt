@@ -1,3 +1,4 @@
+//! The read length and write length of a session.
 ghost use Rattle.std.specs.Prelude.{◌≡◌, ◌≤◌};
 ghost use Rattle.sftp_model.specs.Numbers.{MAX_TRANSFER_LEN};
 ghost use Rattle.sftp_model.specs.Lengths.{session_lengths, session_len, advertised_len, packet_len_of};
@@ -5,9 +6,10 @@ ghost use Rattle.sftp_model.specs.Lengths.{session_lengths, session_len, adverti
 use crate::config::Limits;
 use crate::numbers;
 
-/// A session's read length and write length, in bytes, each from 1 to `MAX_TRANSFER_LEN`: what the server's limits
-/// advertise, 32768 where they say nothing, and at most the options `max_read_len` and `max_write_len`
-/// (OpenSSH's PROTOCOL, section 4.8).
+/// Returns a session's read length and write length, in bytes, each from 1 to `MAX_TRANSFER_LEN`.
+///
+/// They are the lengths that the server's limits advertise, or 32768 if the limits say nothing. The options
+/// `max_read_len` and `max_write_len` can lower them (OpenSSH's PROTOCOL, section 4.8).
 pub fn session_lengths(
     limits: Option<Limits>,
     max_read_len: Option<u32>,
@@ -35,10 +37,10 @@ pub fn session_lengths(
     }
 }
 
-/// Bytes of a READ or WRITE where the server sets no length.
+/// The bytes of a READ or WRITE if the server sets no length.
 const DEFAULT_LEN: u32 = 32768;
 
-/// A length of the limits as a uint32.
+/// Returns a length of the limits as a uint32.
 fn advertised_len(packet_len: u64, len: u64) -> u32
     ensures { result ≡ advertised_len packet_len len }
 {
@@ -51,7 +53,7 @@ fn advertised_len(packet_len: u64, len: u64) -> u32
     len as u32
 }
 
-/// The packet length of the limits as a uint32.
+/// Returns the packet length of the limits as a uint32.
 fn packet_len_of(packet_len: u64) -> u32
     ensures { result ≡ packet_len_of packet_len }
 {
@@ -62,7 +64,7 @@ fn packet_len_of(packet_len: u64) -> u32
     }
 }
 
-/// The least of a length, the option and the greatest length, and at least 1.
+/// Returns the least of a length, the option and the greatest length, and at least 1.
 fn session_len(most: Option<u32>, len: u32) -> u32
     ensures value { result ≡ session_len most len }
     ensures range { (1 ≤ result) × (result ≤ MAX_TRANSFER_LEN) }

@@ -1,5 +1,5 @@
-//! The values that an SFTP client and server exchange, and what they mean: the frames of requests and
-//! replies, which reply may answer which request, and session lengths. The definitions stand in `specs/`.
+//! The values that an SFTP client and server exchange, and their meaning: the frames of requests and replies, the
+//! replies that may answer a request, and session lengths. The definitions are in `specs/`.
 #![tactic(auto)]
 
 mod answers;

@@ -1,3 +1,4 @@
+//! The options of an open.
 ghost use Rattle.std.specs.Prelude.{◌≡◌, ◌||◌};
 ghost use Rattle.sftp_model.specs.OpenOptions.{nothing_chosen, flags_of};
 
@@ -7,7 +8,10 @@ use crate::numbers::{
 };
 use bitflags::Flags;
 
-/// How a file is to be opened. Each setter answers the options that it changed, so that calls are chained.
+/// The options with which a file is opened. Each setter returns the options that it changed, so that calls can be
+/// chained.
+///
+/// Example: `crates/test_files/src/file/options.rt`.
 #[derive(Clone, Copy, Debug, PartialEq, Eq)]
 pub struct OpenOptions {
     read: bool,
@@ -19,7 +23,7 @@ pub struct OpenOptions {
 }
 
 impl OpenOptions {
-    /// Nothing chosen.
+    /// Creates options with nothing chosen.
     pub fn new() -> OpenOptions
         ensures { result ≡ nothing_chosen }
     {
@@ -33,7 +37,7 @@ impl OpenOptions {
         }
     }
 
-    /// Whether the file may be read.
+    /// Sets whether the file may be read.
     pub fn read(&mut self, read: bool) -> &mut OpenOptions
         ensures same_reference { result.ghost_name ≡ self.entry.ghost_name }
         ensures value { result.now ≡ record self.old { read = read } }
@@ -42,7 +46,7 @@ impl OpenOptions {
         self
     }
 
-    /// Whether the file may be written. Nothing is truncated by this alone.
+    /// Sets whether the file may be written. This alone truncates nothing.
     pub fn write(&mut self, write: bool) -> &mut OpenOptions
         ensures same_reference { result.ghost_name ≡ self.entry.ghost_name }
         ensures value { result.now ≡ record self.old { write = write } }
@@ -51,7 +55,7 @@ impl OpenOptions {
         self
     }
 
-    /// Whether each write goes to the file's end. The file may be written then.
+    /// Sets whether each write goes to the file's end. The file may then be written.
     pub fn append(&mut self, append: bool) -> &mut OpenOptions
         ensures same_reference { result.ghost_name ≡ self.entry.ghost_name }
         ensures value { result.now ≡ record self.old { append = append } }
@@ -60,7 +64,7 @@ impl OpenOptions {
         self
     }
 
-    /// Whether a file that is there is emptied. It counts only with `create`.
+    /// Sets whether a file that exists is truncated. It counts only with `create`.
     pub fn truncate(&mut self, truncate: bool) -> &mut OpenOptions
         ensures same_reference { result.ghost_name ≡ self.entry.ghost_name }
         ensures value { result.now ≡ record self.old { truncate = truncate } }
@@ -69,7 +73,7 @@ impl OpenOptions {
         self
     }
 
-    /// Whether a file that isn't there is made.
+    /// Sets whether a file that does not exist is created.
     pub fn create(&mut self, create: bool) -> &mut OpenOptions
         ensures same_reference { result.ghost_name ≡ self.entry.ghost_name }
         ensures value { result.now ≡ record self.old { create = create } }
@@ -78,7 +82,7 @@ impl OpenOptions {
         self
     }
 
-    /// Whether the file must be made by this open: one that is there is refused. `create` and `truncate` don't
+    /// Sets whether the file must be created by this open: if it exists, the open fails. `create` and `truncate` don't
     /// count then.
     pub fn create_new(&mut self, create_new: bool) -> &mut OpenOptions
         ensures same_reference { result.ghost_name ≡ self.entry.ghost_name }
@@ -88,21 +92,21 @@ impl OpenOptions {
         self
     }
 
-    /// Whether a file that is opened so may be read.
+    /// Returns true if a file opened with these options may be read.
     pub fn may_read(&self) -> bool
         ensures { result ≡ self.now.read }
     {
         self.read
     }
 
-    /// Whether a file that is opened so may be written, by `write` or by `append`.
+    /// Returns true if a file opened with these options may be written, by `write` or by `append`.
     pub fn may_write(&self) -> bool
         ensures { result ≡ (self.now.write || self.now.append) }
     {
         self.write || self.append
     }
 
-    /// The flags of the OPEN (draft-ietf-secsh-filexfer-02, section 6.3).
+    /// Returns the flags of the OPEN (draft-ietf-secsh-filexfer-02, section 6.3).
     pub fn flags(&self) -> OpenFlags
         ensures { result ≡ flags_of self.now }
     {
@@ -129,7 +133,7 @@ impl OpenOptions {
 impl Default for OpenOptions {
     ghost is_default = { λ options. options ≡ nothing_chosen };
 
-    /// As `new`.
+    /// Returns the same options as `new`.
     fn default() -> OpenOptions {
         OpenOptions::new()
     }

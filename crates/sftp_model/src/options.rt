@@ -1,7 +1,10 @@
+//! The options of a session.
 ghost use Rattle.std.specs.Prelude.{◌≡◌, ◌≤◌, Some};
 ghost use Rattle.sftp_model.specs.Options.{default_options};
 
-/// How a session is run.
+/// The options of a session.
+///
+/// Example: `crates/example_threads/src/receipts.rt`.
 #[derive(Clone, Copy, Debug, PartialEq, Eq)]
 pub struct SftpOptions {
     flush_interval: u64,
@@ -15,8 +18,9 @@ pub struct SftpOptions {
 }
 
 impl SftpOptions {
-    /// The defaults: a flush interval of 500 microseconds, 100 pending requests, first room for 100 requests and
-    /// for 1024 bytes of a reply, a write limit of 655360 bytes, no lengths beside the server's, and a window of one READ.
+    /// Returns the defaults: a flush interval of 500 microseconds, 100 pending requests, an initial capacity for 100
+    /// requests and for 1024 bytes of a reply, a write limit of 655360 bytes, no limits on lengths beside the server's,
+    /// and a window of one READ.
     pub fn new() -> SftpOptions
         ensures { result ≡ default_options }
     {
@@ -32,7 +36,7 @@ impl SftpOptions {
         }
     }
 
-    /// For how many microseconds a request may stay unsent where a task flushes in the background.
+    /// Sets for how many microseconds a request may stay unsent if a task flushes in the background.
     pub fn flush_interval(mut self, micros: u64) -> SftpOptions
         ensures { result ≡ record self { flush_interval = micros } }
     {
@@ -40,7 +44,7 @@ impl SftpOptions {
         self
     }
 
-    /// How many requests may be unsent before they are flushed at once.
+    /// Sets how many requests may be unsent before they are flushed at once.
     pub fn max_pending_requests(mut self, max_pending_requests: u16) -> SftpOptions
         requires { 1 ≤ max_pending_requests }
         ensures { result ≡ record self { max_pending_requests = max_pending_requests } }
@@ -49,7 +53,7 @@ impl SftpOptions {
         self
     }
 
-    /// For how many requests the queue asks room at first. It bounds nothing.
+    /// Sets the initial capacity of the queue, in requests. It is no bound.
     pub fn requests_buffer_size(mut self, requests: usize) -> SftpOptions
         requires { 1 ≤ requests }
         ensures { result ≡ record self { requests_buffer_size = requests } }
@@ -58,7 +62,7 @@ impl SftpOptions {
         self
     }
 
-    /// For how many bytes of a reply room is asked at first. It bounds nothing.
+    /// Sets the initial capacity for a reply, in bytes. It is no bound.
     pub fn responses_buffer_size(mut self, bytes: usize) -> SftpOptions
         requires { 1 ≤ bytes }
         ensures { result ≡ record self { responses_buffer_size = bytes } }
@@ -67,7 +71,7 @@ impl SftpOptions {
         self
     }
 
-    /// The most bytes of a buffered file's writes whose status wasn't taken.
+    /// Sets the most bytes of a buffered file's writes whose status was not taken.
     pub fn tokio_compat_file_write_limit(mut self, bytes: usize) -> SftpOptions
         requires { 1 ≤ bytes }
         ensures { result ≡ record self { tokio_compat_file_write_limit = bytes } }
@@ -76,7 +80,7 @@ impl SftpOptions {
         self
     }
 
-    /// The most bytes that one READ asks for. It can only lower the session's read length.
+    /// Sets the most bytes that one READ asks for. It can only lower the session's read length.
     pub fn max_read_len(mut self, bytes: u32) -> SftpOptions
         requires { 1 ≤ bytes }
         ensures { result ≡ record self { max_read_len = Some bytes } }
@@ -85,7 +89,7 @@ impl SftpOptions {
         self
     }
 
-    /// The most bytes that one WRITE carries. It can only lower the session's write length.
+    /// Sets the most bytes that one WRITE carries. It can only lower the session's write length.
     pub fn max_write_len(mut self, bytes: u32) -> SftpOptions
         requires { 1 ≤ bytes }
         ensures { result ≡ record self { max_write_len = Some bytes } }
@@ -94,7 +98,7 @@ impl SftpOptions {
         self
     }
 
-    /// How many READs of a whole read may be under way at once.
+    /// Sets how many READs of a whole read may be in flight at once.
     pub fn read_window(mut self, reads: u32) -> SftpOptions
         requires { (1 ≤ reads) × (reads ≤ 64) }
         ensures { result ≡ record self { read_window = reads } }
@@ -103,56 +107,56 @@ impl SftpOptions {
         self
     }
 
-    /// The flush interval, in microseconds.
+    /// Returns the flush interval, in microseconds.
     pub fn get_flush_interval(&self) -> u64
         ensures { result ≡ self.now.flush_interval }
     {
         self.flush_interval
     }
 
-    /// The most requests that stay unsent.
+    /// Returns the most requests that stay unsent.
     pub fn get_max_pending_requests(&self) -> u16
         ensures { result ≡ self.now.max_pending_requests }
     {
         self.max_pending_requests
     }
 
-    /// The queue's first room, in requests.
+    /// Returns the queue's initial capacity, in requests.
     pub fn get_requests_buffer_size(&self) -> usize
         ensures { result ≡ self.now.requests_buffer_size }
     {
         self.requests_buffer_size
     }
 
-    /// The first room for a reply, in bytes.
+    /// Returns the initial capacity for a reply, in bytes.
     pub fn get_responses_buffer_size(&self) -> usize
         ensures { result ≡ self.now.responses_buffer_size }
     {
         self.responses_buffer_size
     }
 
-    /// The write limit of a buffered file, in bytes.
+    /// Returns the write limit of a buffered file, in bytes.
     pub fn get_tokio_compat_file_write_limit(&self) -> usize
         ensures { result ≡ self.now.tokio_compat_file_write_limit }
     {
         self.tokio_compat_file_write_limit
     }
 
-    /// The most bytes that one READ asks for, where a limit was chosen.
+    /// Returns the most bytes that one READ asks for, if a limit was chosen.
     pub fn get_max_read_len(&self) -> Option<u32>
         ensures { result ≡ self.now.max_read_len }
     {
         self.max_read_len
     }
 
-    /// The most bytes that one WRITE carries, where a limit was chosen.
+    /// Returns the most bytes that one WRITE carries, if a limit was chosen.
     pub fn get_max_write_len(&self) -> Option<u32>
         ensures { result ≡ self.now.max_write_len }
     {
         self.max_write_len
     }
 
-    /// The window of a whole read, in READs.
+    /// Returns the window of a whole read, in READs.
     pub fn get_read_window(&self) -> u32
         ensures { result ≡ self.now.read_window }
     {
@@ -163,7 +167,7 @@ impl SftpOptions {
 impl Default for SftpOptions {
     ghost is_default = { λ options. options ≡ default_options };
 
-    /// As `new`.
+    /// Returns the same options as `new`.
     fn default() -> SftpOptions {
         SftpOptions::new()
     }

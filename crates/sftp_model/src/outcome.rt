@@ -1,3 +1,4 @@
+//! The outcomes of calls.
 use crate::copy::TryCopy;
 use crate::error::Error;
 use crate::file_attrs::FileAttrs;
@@ -7,10 +8,12 @@ use sftp_values::{ByteText, Items};
 use ssh_encoding::OutOfMemory;
 use std::alloc::Global;
 
-/// How a call ended.
+/// The outcome of a call.
+///
+/// Example: `crates/example_threads/src/socket.rt`.
 #[derive(Debug, Drop, PartialEq, Eq)]
 pub enum Outcome {
-    /// Done, with nothing to tell.
+    /// The call is done, and has no value to return.
     Done,
     /// A slot holds the opened file.
     Opened,
@@ -18,17 +21,17 @@ pub enum Outcome {
     Count(u64),
     /// The bytes that were read.
     Bytes(ByteText),
-    /// The file has nothing at the offset.
+    /// The file has no bytes at the offset.
     End,
-    /// Attributes.
+    /// The attributes of a file or directory.
     Meta(FileAttrs),
     /// The entries of a directory, in the server's order.
     Names(Items<NameEntry>),
     /// A path.
     Path(RemotePath),
-    /// Refused, by the server or without a request.
+    /// The call was refused, by the server or without a request.
     Refused(Error),
-    /// The slot doesn't hold what the call works on.
+    /// The slot does not hold the file or buffer that the call works on.
     NoFile,
     /// The call was cancelled.
     Cancelled,

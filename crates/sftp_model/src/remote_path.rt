@@ -1,3 +1,4 @@
+//! Paths on the server.
 ghost use Rattle.std.specs.Prelude.{◌≡◌, ◌==◌, List, ℕ, IfOk};
 ghost use Rattle.std.proofs.Common.{rules};
 ghost use Rattle.std.specs.Cmp.Lexicographic.{pointwise};
@@ -10,8 +11,9 @@ use ssh_encoding::OutOfMemory;
 use std::alloc::Global;
 use std::marker::Model;
 
-/// A path on the server, of any bytes. A contract sees it as their list
-/// (draft-ietf-secsh-filexfer-02, section 6.2).
+/// A path on the server, of any bytes. A contract sees it as their list (draft-ietf-secsh-filexfer-02, section 6.2).
+///
+/// Example: `crates/example_client/src/trees.rt`.
 #[derive(Debug, Drop)]
 pub struct RemotePath {
     text: ByteText,
@@ -24,7 +26,7 @@ impl Model for RemotePath {
 }
 
 impl RemotePath {
-    /// The path of these bytes. Takes no memory.
+    /// Creates the path of these bytes. Does not allocate.
     pub fn new(bytes: Vec<u8>) -> RemotePath
         ensures { result ≡ bytes.items }
     {
@@ -33,22 +35,28 @@ impl RemotePath {
         }
     }
 
-    /// The bytes.
+    /// Returns the bytes.
     pub fn as_bytes(&self) -> &[u8]
         ensures { result.now ≡ self.now }
     {
         self.text.as_slice()
     }
 
-    /// Whether the first byte is `/`; an empty path isn't absolute.
+    /// Returns true if the first byte is `/`; an empty path is not absolute.
     pub fn is_absolute(&self) -> bool
         ensures { result ≡ is_absolute_path self.now }
     {
         is_absolute(self.as_bytes())
     }
 
-    /// The path that `path` names from this directory: itself where it is absolute, else this path and
-    /// `path` with one `/` between them, which an empty path and one that ends in `/` do without.
+    /// Returns the path that `path` names from this directory.
+    ///
+    /// An absolute `path` is returned as it is. Otherwise the result is this path and `path` with one `/` between them.
+    /// No `/` is added if this path is empty or ends in `/`.
+    ///
+    /// # Errors
+    ///
+    /// `OutOfMemory` if an allocation fails.
     pub fn join(&self, alloc: Global, path: &[u8]) -> Result<RemotePath, OutOfMemory>
         ensures { IfOk result (λ p. p ≡ joined_path self.now path.now) }
     {
@@ -61,7 +69,7 @@ impl RemotePath {
     }
 }
 
-/// A copy of a directory, with a `/` at its end where it isn't empty.
+/// Returns a copy of a directory, with a `/` at its end if it is not empty. Fails only if an allocation fails.
 fn with_separator(alloc: Global, directory: &[u8]) -> Result<Vec<u8>, OutOfMemory>
     ensures { IfOk result (λ bytes. bytes.items ≡ with_separator directory.now) }
 {
@@ -75,7 +83,7 @@ fn with_separator(alloc: Global, directory: &[u8]) -> Result<Vec<u8>, OutOfMemor
     }
 }
 
-/// Whether the first byte is `/`.
+/// Returns true if the first byte is `/`.
 fn is_absolute(path: &[u8]) -> bool
     ensures { result ≡ is_absolute_path path.now }
 {

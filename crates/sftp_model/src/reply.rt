@@ -1,3 +1,4 @@
+//! The replies of a server.
 use crate::copy::TryCopy;
 use crate::file_attrs::FileAttrs;
 use crate::flags::Extensions;
@@ -9,20 +10,24 @@ use ssh_encoding::OutOfMemory;
 use std::alloc::Global;
 
 /// One entry of a NAME reply (draft-ietf-secsh-filexfer-02, section 7).
+///
+/// Used in `crates/machine_model/src/opened.rt`.
 #[derive(Debug, Drop, PartialEq, Eq)]
 pub struct NameEntry {
     /// The name of the file.
     pub filename: RemotePath,
-    /// A line for a listing, of no promised form.
+    /// A line for a listing; its form is not specified.
     pub longname: ByteText,
-    /// The attributes that the server told.
+    /// The attributes that the server reported.
     pub attrs: FileAttrs,
 }
 
-/// What a server answers (draft-ietf-secsh-filexfer-02, sections 4 and 7).
+/// A reply of a server (draft-ietf-secsh-filexfer-02, sections 4 and 7).
+///
+/// Example: `crates/test_files/src/history.rt`.
 #[derive(Debug, Drop, PartialEq, Eq)]
 pub enum Reply {
-    /// VERSION, the answer to the hello. It has no id.
+    /// VERSION, the reply to the hello. It has no id.
     Version {
         version: u32,
         extensions: Extensions,

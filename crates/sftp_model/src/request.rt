@@ -1,3 +1,4 @@
+//! The requests of a client.
 use crate::content::Content;
 use crate::copy::TryCopy;
 use crate::file_attrs::FileAttrs;
@@ -7,8 +8,10 @@ use crate::remote_path::RemotePath;
 use ssh_encoding::OutOfMemory;
 use std::alloc::Global;
 
-/// What a client asks of a server (draft-ietf-secsh-filexfer-02, sections 4 and 6; the last six are
-/// extensions of OpenSSH's PROTOCOL, section 4).
+/// A request of a client (draft-ietf-secsh-filexfer-02, sections 4 and 6; the last six are extensions of OpenSSH's
+/// PROTOCOL, section 4).
+///
+/// Example: `crates/example_encoding/src/frames.rt`.
 #[derive(Debug, Drop, PartialEq, Eq)]
 pub enum Request {
     /// The hello. It has no id.
@@ -37,7 +40,7 @@ pub enum Request {
         offset: u64,
         content: Content,
     },
-    /// LSTAT: attributes, of a link itself.
+    /// LSTAT: the attributes of a path; for a link, those of the link itself.
     Lstat {
         path: RemotePath,
     },
@@ -80,7 +83,7 @@ pub enum Request {
     Realpath {
         path: RemotePath,
     },
-    /// STAT: attributes, of what a link names.
+    /// STAT: the attributes of a path; for a link, those of its target.
     Stat {
         path: RemotePath,
     },
@@ -93,7 +96,7 @@ pub enum Request {
     Readlink {
         path: RemotePath,
     },
-    /// SYMLINK. `src` is what the link `dst` will name; it is sent first, as OpenSSH reads it.
+    /// SYMLINK. `src` is the target of the link `dst`. It is sent first, as OpenSSH reads it.
     Symlink {
         src: RemotePath,
         dst: RemotePath,
@@ -116,7 +119,7 @@ pub enum Request {
     ExpandPath {
         path: RemotePath,
     },
-    /// `copy-data`. A length of 0 is to the end.
+    /// `copy-data`. A length of 0 means up to the end.
     CopyData {
         from: Handle,
         from_offset: u64,

@@ -1,3 +1,4 @@
+//! Equality of the values of requests and replies.
 ghost use Rattle.std.specs.Cmp.Lexicographic.{bytes_decides};
 ghost use Rattle.sftp_model.specs.Same.{flags_decides, extensions_decides, attrs_decides, entry_decides, reply_decides, choice_decides, limits_decides, config_decides, open_options_decides};
 ghost use Rattle.sftp_model.specs.SameErrors.{io_kind_decides, format_kind_decides, frame_error_decides, fault_decides, error_decides, outcome_decides};

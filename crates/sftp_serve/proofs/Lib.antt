@@ -1,7 +1,7 @@
-pub mod Streams
-pub mod Pieces
-pub mod Steps
-pub mod Ends
-pub mod OtherExtensions
-pub mod Fitting
-pub mod RefusedWords
+mod Streams
+mod Pieces
+mod Steps
+mod Ends
+mod OtherExtensions
+mod Fitting
+mod RefusedWords

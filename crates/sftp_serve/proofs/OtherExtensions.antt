@@ -85,7 +85,7 @@ use Rattle.sftp_model.specs.RequestReadings.{
   write_at,
 }
 use Rattle.sftp_serve.specs.OtherExtensions.{AnswersNoMore, AnswersOthers, IsOther}
-use Rattle.sftp_serve.specs.Stream.{id_in, said, to_read, unknown_id}
+use Rattle.sftp_serve.specs.Stream.{id_in, answer_to_frame, to_read, unknown_id}
 
 -- ---- readings that never refuse so
 
@@ -98,10 +98,12 @@ record Plain {A : Type 0} (r : Result A FrameError) : Type 0 where
 ok_plain : {A : Type 0} (x : A) → Plain (let r : Result A FrameError = Ok x in r)
 ok_plain x = record { is = λ e. cc }
 
-same_error : {A B : Type 0} (e d : FrameError) → (let r : Result A FrameError = Err e in r) ≡ Err d → (let r : Result B FrameError = Err e in r) ≡ Err d
+same_error : {A B : Type 0} (e d : FrameError) → (let r : Result A FrameError = Err e in r) ≡ Err d
+    → (let r : Result B FrameError = Err e in r) ≡ Err d
 same_error {B = B} e d h = let is : e ≡ d = cc h in λ i. Err (is i)
 
-bind_plain : {A B : Type 0} (m : Result A FrameError) (f : A → Result B FrameError) → Plain m → ((x : A) → Plain (f x)) → Plain (m >>= f)
+bind_plain : {A B : Type 0} (m : Result A FrameError) (f : A → Result B FrameError) → Plain m → ((x : A) → Plain (f x))
+    → Plain (m >>= f)
 bind_plain (Ok x) f p q = q x
 bind_plain {A = A} {B = B} (Err e) f p q = record { is = λ h. p.is (same_error {A = B} {B = A} e refusal h) }
 
@@ -139,15 +141,18 @@ long_plain bytes = field_plain _
 
 two_plain : (bytes : List ℕ) → Plain (two_numbers_at bytes)
 unfolding two_numbers_at
-two_plain bytes = bind_plain (uint32_at bytes) _ (number_plain bytes) (λ a. bind_plain (uint32_at a.1) _ (number_plain a.1) (λ b. ok_plain _))
+two_plain bytes = bind_plain (uint32_at bytes) _ (number_plain bytes)
+    (λ a. bind_plain (uint32_at a.1) _ (number_plain a.1) (λ b. ok_plain _))
 
 pairs_plain : (n : ℕ) (bytes : List ℕ) → Plain (behind_pairs n bytes)
 pairs_plain zero bytes = ok_plain _
-pairs_plain (suc n) bytes = bind_plain (text_at bytes) _ (text_plain bytes) (λ a. bind_plain (text_at a.1) _ (text_plain a.1) (λ b. pairs_plain n b.1))
+pairs_plain (suc n) bytes = bind_plain (text_at bytes) _ (text_plain bytes)
+    (λ a. bind_plain (text_at a.1) _ (text_plain a.1) (λ b. pairs_plain n b.1))
 
 counted_plain : (bytes : List ℕ) → Plain (behind_counted_pairs bytes)
 unfolding behind_counted_pairs
-counted_plain bytes = bind_plain (uint32_at bytes) _ (number_plain bytes) (λ a. bind_plain (behind_pairs a.0 a.1) _ (pairs_plain a.0 a.1) (λ b. ok_plain _))
+counted_plain bytes = bind_plain (uint32_at bytes) _ (number_plain bytes)
+    (λ a. bind_plain (behind_pairs a.0 a.1) _ (pairs_plain a.0 a.1) (λ b. ok_plain _))
 
 attributes_plain : (bytes : List ℕ) → Plain (attributes_at bytes)
 unfolding attributes_at
@@ -193,9 +198,11 @@ one_plain made bytes = bind_plain (text_at bytes) _ (text_plain bytes) (λ a. ok
 
 both_plain : (made : List ℕ → List ℕ → Request) (bytes : List ℕ) → Plain (two_texts_at made bytes)
 unfolding two_texts_at
-both_plain made bytes = bind_plain (text_at bytes) _ (text_plain bytes) (λ a. bind_plain (text_at a.1) _ (text_plain a.1) (λ b. ok_plain _))
+both_plain made bytes = bind_plain (text_at bytes) _ (text_plain bytes)
+    (λ a. bind_plain (text_at a.1) _ (text_plain a.1) (λ b. ok_plain _))
 
-text_attributes_plain : (made : List ℕ → FileAttrs → Request) (bytes : List ℕ) → Plain (text_and_attributes_at made bytes)
+text_attributes_plain : (made : List ℕ → FileAttrs → Request) (bytes : List ℕ)
+    → Plain (text_and_attributes_at made bytes)
 unfolding text_and_attributes_at
 text_attributes_plain made bytes = bind_plain (text_at bytes) _ (text_plain bytes)
     (λ a. bind_plain (attributes_at a.1) _ (attributes_plain a.1) (λ b. ok_plain _))
@@ -207,14 +214,19 @@ copy_plain bytes =
     (λ b. bind_plain (uint64_at b.1) _ (long_plain b.1) (λ c. bind_plain (text_at c.1) _ (text_plain c.1)
     (λ d. bind_plain (uint64_at d.1) _ (long_plain d.1) (λ e. ok_plain _)))))
 
-id_plain : (f : List ℕ → Result (Request × List ℕ) FrameError) (bytes : List ℕ) → ((rest : List ℕ) → Plain (f rest)) → Plain (with_id f bytes)
-id_plain f bytes p = bind_plain (uint32_at bytes) _ (number_plain bytes) (λ a. bind_plain (f a.1) _ (p a.1) (λ b. ok_plain _))
+id_plain : (f : List ℕ → Result (Request × List ℕ) FrameError) (bytes : List ℕ) → ((rest : List ℕ) → Plain (f rest))
+    → Plain (with_id f bytes)
+id_plain f bytes p = bind_plain (uint32_at bytes) _ (number_plain bytes)
+    (λ a. bind_plain (f a.1) _ (p a.1) (λ b. ok_plain _))
 
 hello_plain : (bytes : List ℕ) → Plain (without_id init_at bytes)
 hello_plain bytes = bind_plain (init_at bytes) _ (init_plain bytes) (λ a. ok_plain _)
 
 unknown_plain : {A : Type 0} (k : ℕ) → (k == 200) ≡ false → Plain (let r : Result A FrameError = unknown_type k in r)
-unknown_plain k other = record { is = λ h. (let is : k ≡ 200 = cc h in let t : (k == 200) ≡ true = ap (λ (n : ℕ). n == 200) is in cc) }
+unknown_plain k other = record {
+  is = λ h. (let is : k ≡ 200 = cc h in let t : (k == 200) ≡ true =
+      ap (λ (n : ℕ). n == 200) is in cc);
+}
 
 -- a body of another type
 fields_plain : (k : ℕ) (bytes : List ℕ) → (k == 200) ≡ false → Plain (request_fields_at k bytes)
@@ -227,12 +239,15 @@ fields_plain k bytes other =
     (if_plain (k == 6) _ _ (id_plain write_at bytes write_plain)
     (if_plain (k == 7) _ _ (id_plain (one_text_at request.Lstat) bytes (one_plain request.Lstat))
     (if_plain (k == 8) _ _ (id_plain (one_text_at request.Fstat) bytes (one_plain request.Fstat))
-    (if_plain (k == 9) _ _ (id_plain (text_and_attributes_at request.Setstat) bytes (text_attributes_plain request.Setstat))
-    (if_plain (k == 10) _ _ (id_plain (text_and_attributes_at request.Fsetstat) bytes (text_attributes_plain request.Fsetstat))
+    (if_plain (k == 9) _ _ (id_plain (text_and_attributes_at request.Setstat) bytes
+    (text_attributes_plain request.Setstat))
+    (if_plain (k == 10) _ _ (id_plain (text_and_attributes_at request.Fsetstat) bytes
+    (text_attributes_plain request.Fsetstat))
     (if_plain (k == 11) _ _ (id_plain (one_text_at request.Opendir) bytes (one_plain request.Opendir))
     (if_plain (k == 12) _ _ (id_plain (one_text_at request.Readdir) bytes (one_plain request.Readdir))
     (if_plain (k == 13) _ _ (id_plain (one_text_at request.Remove) bytes (one_plain request.Remove))
-    (if_plain (k == 14) _ _ (id_plain (text_and_attributes_at request.Mkdir) bytes (text_attributes_plain request.Mkdir))
+    (if_plain (k == 14) _ _ (id_plain (text_and_attributes_at request.Mkdir) bytes
+    (text_attributes_plain request.Mkdir))
     (if_plain (k == 15) _ _ (id_plain (one_text_at request.Rmdir) bytes (one_plain request.Rmdir))
     (if_plain (k == 16) _ _ (id_plain (one_text_at request.Realpath) bytes (one_plain request.Realpath))
     (if_plain (k == 17) _ _ (id_plain (one_text_at request.Stat) bytes (one_plain request.Stat))
@@ -250,13 +265,15 @@ whole_plain read = if_plain (length read.1 == 0) _ _ (ok_plain read.0) (record {
 
 handles_plain : {A : Type 0} (handles : List (List ℕ)) (x : A) → Plain (with_short_handles handles x)
 handles_plain [] x = ok_plain x
-handles_plain (h ∷ handles) x = if_plain (nat_lt 256 (length h)) _ _ (record { is = λ e. cc e }) (handles_plain handles x)
+handles_plain (h ∷ handles) x = if_plain (nat_lt 256 (length h)) _ _ (record { is = λ e. cc e })
+    (handles_plain handles x)
 
 -- ---- names
 
 -- the bit of the first name that is met
 abbrev bit_by : (a b c d e f : Bool) → ℕ
-bit_by a b c d e f = if a then 1 else if b then 2 else if c then 4 else if d then 8 else if e then 16 else if f then 32 else 0
+bit_by a b c d e f = if a then 1 else if b then 2 else if c then 4 else if d then 8 else if e then 16 else if f then
+    32 else 0
 
 -- a name that is none of the table, and one that is
 fields_unknown : (a b c d e f : Bool) (p q r s t u v : Result (Request × List ℕ) FrameError)
@@ -270,8 +287,10 @@ fields_unknown false false false false true f p q r s t u v z = absurd cc
 fields_unknown false false false false false true p q r s t u v z = absurd cc
 fields_unknown false false false false false false p q r s t u v z = refl
 
-fields_known : (a b c d e f : Bool) (p q r s t u v : Result (Request × List ℕ) FrameError) → Plain p → Plain q → Plain r → Plain s → Plain t → Plain u
-    → (if a then p else if b then q else if c then r else if d then s else if e then t else if f then u else v) ≡ Err refusal
+fields_known : (a b c d e f : Bool) (p q r s t u v : Result (Request × List ℕ) FrameError) → Plain p → Plain q → Plain r
+    → Plain s → Plain t → Plain u
+    → (if a then p else if b then q else if c then r else if d then s else if e then t else if f then u else v)
+    ≡ Err refusal
     → bit_by a b c d e f ≡ 0
 fields_known true b c d e f p q r s t u v kp kq kr ks kt ku h = absurd (kp.is h)
 fields_known false true c d e f p q r s t u v kp kq kr ks kt ku h = absurd (kq.is h)
@@ -306,7 +325,8 @@ id_of_number k id fields behind e = by_len (nat_lt (length fields) 4) refl e
     by_len true is h = absurd cc
     by_len false is h =
         let long : nat_lt (length (k ∷ fields)) 5 ≡ false = grind (arith, nat_tests, is) in
-        let pair : (let p : ℕ × List ℕ = (from_be_bytes w32 (take 4 fields), drop 4 fields) in p) ≡ (id, behind) = cc h in
+        let pair : (let p : ℕ × List ℕ = (from_be_bytes w32 (take 4 fields), drop 4 fields) in p) ≡ (id, behind) = cc h
+        in
         let value : from_be_bytes w32 (take 4 fields) ≡ id = ap (λ (p : ℕ × List ℕ). p.0) pair in
         rw long (ap Some value)
 
@@ -316,10 +336,11 @@ other_reads body id o =
     rw o.kind (rw o.numbered (rw o.named (rw (other_fields o.name o.rest o.other) refl)))
 
 pub answers_others : AnswersOthers
-unfolding said
+unfolding answer_to_frame
 answers_others s body id up o =
     let read = other_reads body id o in
-    let number : id_in body ≡ Some id = ap id_in o.kind ∙ id_of_number SSH_FXP_EXTENDED id o.fields o.behind o.numbered in
+    let number : id_in body ≡ Some id = ap id_in o.kind ∙ id_of_number SSH_FXP_EXTENDED id o.fields o.behind o.numbered
+    in
     ap (to_read s body) read ∙ rw (up, number) refl
 
 -- a step that was refused so
@@ -328,11 +349,13 @@ bind_refused : {A B : Type 0} (m : Result A FrameError) (f : A → Result B Fram
 bind_refused (Ok x) f p h = (x, refl, h)
 bind_refused {A = A} {B = B} (Err e) f p h = absurd (p.is (same_error {A = B} {B = A} e refusal h))
 
-first_refused : {A B : Type 0} (m : Result A FrameError) (f : A → Result B FrameError) → ((x : A) → Plain (f x)) → (m >>= f) ≡ Err refusal → m ≡ Err refusal
+first_refused : {A B : Type 0} (m : Result A FrameError) (f : A → Result B FrameError) → ((x : A) → Plain (f x))
+    → (m >>= f) ≡ Err refusal → m ≡ Err refusal
 first_refused (Ok x) f p h = absurd ((p x).is h)
 first_refused {A = A} {B = B} (Err e) f p h = same_error {A = B} {B = A} e refusal h
 
-extended_refused : (fields : List ℕ) → with_id extended_request_at fields ≡ Err refusal → (id : ℕ) × IsOther (SSH_FXP_EXTENDED ∷ fields) id
+extended_refused : (fields : List ℕ) → with_id extended_request_at fields ≡ Err refusal → (id : ℕ)
+    × IsOther (SSH_FXP_EXTENDED ∷ fields) id
 unfolding extended_request_at
 extended_refused fields h =
     let number = bind_refused (uint32_at fields) _ (number_plain fields) h in
@@ -351,7 +374,8 @@ extended_refused fields h =
       },
     )
 
-fields_refused : (k : ℕ) (fields : List ℕ) → request_fields_at k fields ≡ Err refusal → (id : ℕ) × IsOther (k ∷ fields) id
+fields_refused : (k : ℕ) (fields : List ℕ) → request_fields_at k fields ≡ Err refusal → (id : ℕ)
+    × IsOther (k ∷ fields) id
 unfolding request_fields_at
 fields_refused k fields h = by_kind (k == 200) refl
   where
@@ -369,7 +393,8 @@ read_refused (k ∷ fields) h =
     fields_refused k fields (first_refused (request_fields_at k fields) _
     (λ x. bind_plain (whole x) _ (whole_plain x) (λ read. handles_plain (handles_of_request read.1) read)) h)
 
-by_refusal : (body : List ℕ) (e : FrameError) (id : ℕ) → unknown_id body e ≡ Some id → (e ≡ refusal) × (id_in body ≡ Some id)
+by_refusal : (body : List ℕ) (e : FrameError) (id : ℕ) → unknown_id body e ≡ Some id → (e ≡ refusal)
+    × (id_in body ≡ Some id)
 by_refusal body errors.OutOfMemory id h = absurd cc
 by_refusal body (errors.HandleTooLong len) id h = absurd cc
 by_refusal body (errors.Format kinds.Length) id h = absurd cc
@@ -386,6 +411,7 @@ pub answers_no_more : AnswersNoMore
 answers_no_more body e id read unknown =
     let by = by_refusal body e id unknown in
     let o = read_refused body (read ∙ ap Err by.0) in
-    let same : Some o.0 ≡ Some id = sym (ap id_in o.1.kind ∙ id_of_number SSH_FXP_EXTENDED o.0 o.1.fields o.1.behind o.1.numbered) ∙ by.1 in
+    let same : Some o.0 ≡ Some id = sym (ap id_in o.1.kind ∙ id_of_number SSH_FXP_EXTENDED o.0 o.1.fields o.1.behind
+    o.1.numbered) ∙ by.1 in
     let is : o.0 ≡ id = cc same in
     subst (IsOther body) is o.1

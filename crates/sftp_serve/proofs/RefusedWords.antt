@@ -3,7 +3,7 @@ use Rattle.std.proofs.Common.{◌≡◌, ◌<◌, ℕ, ◌+◌, ◌-◌, List, l
 use Rattle.std.specs.Prelude.{IsOk, map}
 use Rattle.std.proofs.lemmas.List.{length-map, take-map, take_all}
 use Rattle.script_words.specs.declared.reason.Reason.{Reason}
-use Rattle.sftp_script.specs.ServerWords.{server_of}
+use Rattle.script_grammar.specs.ServerWords.{server_of}
 use Rattle.sftp_serve.specs.Words.{IsRefusedWord}
 
 -- one word more is read
@@ -26,7 +26,8 @@ refused_next bytes words read why lt before e =
     }
 
 -- all are read
-pub all_read : {A : Type 0} (bytes : A → List ℕ) (words : List A) → IsOk (server_of (take (length words) (map bytes words)))
+pub all_read : {A : Type 0} (bytes : A → List ℕ) (words : List A)
+    → IsOk (server_of (take (length words) (map bytes words)))
     → IsOk (server_of (map bytes words))
 all_read bytes words read =
     let len : length (map bytes words) ≡ length words = length-map words bytes in

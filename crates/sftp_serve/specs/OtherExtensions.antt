@@ -5,9 +5,9 @@ use Rattle.sftp_model.specs.Frames.{extension_table}
 use Rattle.sftp_model.specs.Numbers.{SSH_FXP_EXTENDED}
 use Rattle.sftp_model.specs.Readings.{named_bit, text_at, uint32_at}
 use Rattle.sftp_model.specs.RequestReadings.{request_at}
-use Rattle.sftp_serve.specs.Stream.{ServedState, said, unknown_id, unsupported}
+use Rattle.sftp_serve.specs.Stream.{ServedState, answer_to_frame, unknown_id, unsupported_answer}
 
--- an EXTENDED with an id and a name that read, where the name is none of the six
+-- An EXTENDED with a readable id and name, where the name is none of the six.
 pub record IsOther (body : List ℕ) (id : ℕ) : Type 0 where
   pub fields : List ℕ
   pub behind : List ℕ
@@ -18,12 +18,12 @@ pub record IsOther (body : List ℕ) (id : ℕ) : Type 0 where
   pub named : text_at behind ≡ Ok (name, rest)
   pub other : named_bit extension_table name ≡ 0
 
--- such a frame is answered, after the hello
+-- Such a frame is answered, after the hello.
 abbrev pub AnswersOthers : Type 0
-AnswersOthers = (s : ServedState) (body : List ℕ) (id : ℕ) → s.greeted ≡ true → IsOther body id → said s body
-    ≡ Some (unsupported s id)
+AnswersOthers = (s : ServedState) (body : List ℕ) (id : ℕ) → s.greeted ≡ true → IsOther body id → answer_to_frame s body
+    ≡ Some (unsupported_answer s id)
 
--- and of the bodies that read as no request no other is
+-- Of the bodies that read as no request, no other is answered.
 abbrev pub AnswersNoMore : Type 0
 AnswersNoMore = (body : List ℕ) (e : FrameError) (id : ℕ) → request_at body ≡ Err e → unknown_id body e ≡ Some id
     → IsOther body id

@@ -1,9 +1,9 @@
--- Worked examples of words.
+-- Worked examples of arguments.
 use Rattle.std.specs.Prelude.{◌≡◌, [], ◌∷◌, codes, Err, refl}
 use Rattle.script_words.specs.declared.reason.Reason.TheVariants as reason
-use Rattle.sftp_script.specs.ServerWords.{server_of}
+use Rattle.script_grammar.specs.ServerWords.{server_of}
 
--- the words that ask for a text are none of a server's
+-- The arguments that ask for a text are not arguments of a server.
 pub help_is_none : server_of (codes "--help" ∷ []) ≡ Err reason.Word
 help_is_none = refl
 

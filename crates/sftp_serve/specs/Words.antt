@@ -1,4 +1,4 @@
--- What the words of the command line say.
+-- The meaning of the arguments of the command line.
 use Rattle.std.specs.Prelude.{
   ◌≡◌,
   ◌<◌,
@@ -22,14 +22,14 @@ use Rattle.std.specs.Prelude.{
 }
 use Rattle.std.specs.Str.{bytes_eq}
 use Rattle.script_words.specs.declared.reason.Reason.{Reason}
-use Rattle.sftp_script.specs.declared.script.Script.{Script}
-use Rattle.sftp_script.specs.ServerWords.{server_of}
+use Rattle.script_grammar.specs.declared.script.Script.{Script}
+use Rattle.script_grammar.specs.ServerWords.{server_of}
 use Rattle.machine_model.specs.FirstTree.{first_tree}
 use Rattle.sftp_serve.specs.Stream.{ServedState, first_state}
 
--- ---- what a server begins with
+-- ---- The first content of a server
 
--- the files, directories and the offer of a script, before the first frame
+-- The files, directories and offers of a script, before the first frame.
 abbrev pub script_state : Script → ServedState
 script_state script = first_state (record {
   tree = first_tree script.files script.dirs;
@@ -37,17 +37,17 @@ script_state script = first_state (record {
   grants = 0;
 })
 
--- The first word that is refused, counted from 1: with it the words are refused, and for this reason, and those before
--- it are read.
+-- The first argument that is refused, counted from 1. The arguments up to it are refused, for this reason, and those
+-- before it are read.
 pub record IsRefusedWord (words : List (List ℕ)) (number : ℕ) (why : Reason) : Type 0 where
   pub some : 0 < number
   pub within : number ≤ length words
   pub before : IsOk (server_of (take (number - 1) words))
   pub refused : server_of (take number words) ≡ Err why
 
--- ---- texts
+-- ---- Texts
 
--- what `--help` writes
+-- The text of `--help`.
 unfoldable pub help_text : List ℕ
 help_text =
     codes "Usage: sftp_serve [WORD ..] | --help | --version\n"
@@ -55,24 +55,30 @@ help_text =
     ++ codes "Serves files and directories in memory by SFTP version 3 on standard input and output,\n"
     ++ codes "to one client and until its stream ends. Each WORD is one of\n"
     ++ codes "\n"
-    ++ codes "  'file NAME CONTENT'       a first file\n"
-    ++ codes "  'dir NAME'                a first directory\n"
+    ++ codes "  'file NAME CONTENT'       a file that exists at the start\n"
+    ++ codes "  'dir NAME'                a directory that exists at the start\n"
     ++ codes "  'server ext NAME'         posix-rename, hardlink, fsync, expand-path or copy-data\n"
-    ++ codes "  'server limits P R W H'   what limits@openssh.com tells: the most bytes of a packet, a\n"
-    ++ codes "                            READ and a WRITE, and the most handles\n"
+    ++ codes "  'server limits P R W H'   the limits that limits@openssh.com reports: the most bytes of\n"
+    ++ codes "                            a packet, of a READ and of a WRITE, and the most handles\n"
     ++ codes "\n"
     ++ codes "NAME of a file or a directory, and CONTENT, are hexadecimal, or - for no bytes. OpenSSH's\n"
-    ++ codes "client starts it itself: sftp -D \"sftp_serve 'dir 64' 'server ext posix-rename'\"\n"
+    ++ codes "client can start the server itself:\n"
     ++ codes "\n"
-    ++ codes "The status is 0 where the stream ended after a frame, 1 where it ended within one or held\n"
-    ++ codes "what is no request, 2 for a word that can't be used, 3 where the connection failed, 5\n"
-    ++ codes "where memory ran out, and 7 after 18446744073709551615 frames.\n"
+    ++ codes "  sftp -D \"sftp_serve 'dir 64' 'server ext posix-rename'\"\n"
+    ++ codes "\n"
+    ++ codes "Exit status:\n"
+    ++ codes "  0  the stream ended after a frame\n"
+    ++ codes "  1  the stream ended within a frame, or contained an invalid request\n"
+    ++ codes "  2  a WORD is invalid\n"
+    ++ codes "  3  the connection failed\n"
+    ++ codes "  5  out of memory\n"
+    ++ codes "  7  18446744073709551615 frames were served\n"
 
--- what `--version` writes
+-- The text of `--version`.
 unfoldable pub version_text : List ℕ
 version_text = codes "tilfrjon 0.1.0\n"
 
--- what these words write; None where they are a server's
+-- The text for these arguments; None if they are a server's.
 abbrev pub text_for : List (List ℕ) → Option (List ℕ)
 text_for [] = None
 text_for (word ∷ []) =
@@ -81,12 +87,12 @@ text_for (word ∷ []) =
     else None
 text_for (word ∷ another ∷ words) = None
 
--- what standard error is told of a status
+-- The message on standard error for a status.
 abbrev pub cause_of : ℕ → Option (List ℕ)
 cause_of status =
-    if status == 1 then Some (codes "the stream ended within a frame, or held what is no request")
-    else if status == 2 then Some (codes "a word can't be used")
+    if status == 1 then Some (codes "the stream ended within a frame, or contained an invalid request")
+    else if status == 2 then Some (codes "an argument is invalid")
     else if status == 3 then Some (codes "the connection failed")
     else if status == 5 then Some (codes "out of memory")
-    else if status == 7 then Some (codes "no more frames are served")
+    else if status == 7 then Some (codes "the limit of frames was reached")
     else None

@@ -1,6 +1,6 @@
-// Frames that come over a link are answered, one after another.
+//! The loop that answers the frames that come over a link, one after another.
 ghost use Rattle.std.specs.Prelude.{◌≡◌, ◌<◌, ◌-◌, ◌^◌, ◌⊎◌, length, true, if◌then◌else◌};
-ghost use Rattle.sftp_link.specs.Told.{Told};
+ghost use Rattle.sftp_link.specs.Told.{IfLogged};
 ghost use Rattle.sftp_wire.specs.FrameReader.{nothing};
 ghost use Rattle.sftp_serve.specs.declared.stop.Stop.TheVariants as stop;
 ghost use Rattle.sftp_serve.specs.Logs.{MayServe, ServesStream};
@@ -9,8 +9,8 @@ ghost use Rattle.sftp_serve.specs.Serving.{HaltsAll, HasRoom, ServedOne, TookFra
 
 use crate::server::Server;
 use crate::stop::Stop;
+use machine_answers::Machine;
 use sftp_link::{Link, LinkIn, send_all};
-use sftp_machine::Machine;
 use sftp_model::FrameError;
 use sftp_wire::FrameReader;
 use ssh_encoding::OutOfMemory;
@@ -19,10 +19,10 @@ use std::alloc::Global;
 /// The most bytes that one recv asks for.
 const ROOM: usize = 4096;
 
-/// The status where the stream has as many frames as are served.
+/// The status if the stream has the most frames that are served.
 const FULL: u8 = 7;
 
-/// Takes some bytes of a frame, at most as many as it misses; false at the end.
+/// Takes some bytes of a frame, at most the number that is missing; returns false at the end.
 fn take_some<L: LinkIn>(
     link: &mut L,
     reader: &mut FrameReader,
@@ -44,7 +44,7 @@ fn take_some<L: LinkIn>(
     }
 }
 
-/// What the end of a stream is, by whether a part of a frame came.
+/// Returns the reason for the end of a stream; `begun` is true if a part of a frame came.
 fn ended(begun: bool) -> Stop
     ensures { result ≡ (if begun then stop.Broken else stop.Ended) }
 {
@@ -108,10 +108,10 @@ fn serve_frame<L: Link>(
     }
 }
 
-/// Answers frames until the stream ends or breaks, the link fails or no memory is left.
+/// Answers frames until the stream ends or breaks, the link fails or an allocation fails.
 fn serve_frames<L: Link>(alloc: Global, link: &mut L, server: &mut Server) -> u8
     requires { (L.LinkState.state link.old).faults < 2 ^ 64 - 1 }
-    ensures log { Told (HaltsAll server.old result (L.LinkState.state link.new).ended) (L.LinkState.state link.old).log (L.LinkState.state link.new).log }
+    ensures log { IfLogged (HaltsAll server.old result (L.LinkState.state link.new).ended) (L.LinkState.state link.old).log (L.LinkState.state link.new).log }
     ensures ended { result ≡ 0 → (L.LinkState.state link.new).ended ≡ true }
     ensures fault { result ≡ 3 → (L.LinkState.state link.old).faults < (L.LinkState.state link.new).faults }
     ensures status { (result ≡ 0) ⊎ (result ≡ 1) ⊎ (result ≡ 3) ⊎ (result ≡ 5) ⊎ (result ≡ 7) }
@@ -126,7 +126,7 @@ fn serve_frames<L: Link>(alloc: Global, link: &mut L, server: &mut Server) -> u8
     FULL
 }
 
-/// Serves a machine on a link, and answers the status to end with.
+/// Serves a machine on a link, and returns the exit status.
 #[tactic(auto, using(crate::proofs::Ends::serves_stream))]
 pub(crate) fn serve_machine<L: Link>(alloc: Global, machine: Machine, link: &mut L) -> u8
     requires { MayServe (L.LinkState.state link.old) }

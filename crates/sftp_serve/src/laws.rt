@@ -1,8 +1,8 @@
-//! Laws of the definitions. The function does nothing: what it ensures holds of all values.
+//! A law of the definitions; the function does nothing, and its ensures clauses hold for all values.
 ghost use Rattle.sftp_serve.specs.OtherExtensions.{AnswersNoMore, AnswersOthers};
 
-/// After the hello an EXTENDED with an id and a name that read is answered where the name is none of the six, and of the
-/// bodies that read as no request no other is.
+/// States that after the hello an EXTENDED with a readable id and name is answered if the name is none of the six. Of
+/// the bodies that read as no request, no other is answered.
 pub fn other_extensions_are_answered()
     ensures answered { AnswersOthers }
     ensures only { AnswersNoMore }

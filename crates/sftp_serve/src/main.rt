@@ -1,4 +1,4 @@
-//! A server of files and directories in memory on standard input and output, as an SFTP version 3 server answers
+//! Serves files and directories in memory on standard input and output, as an SFTP version 3 server
 //! (draft-ietf-secsh-filexfer-02).
 #![tactic(auto)]
 
@@ -18,8 +18,8 @@ use std::env;
 use std::io::ErrorKind;
 use std::process::ExitCode;
 
-/// Serves what the words of the command line say, or writes the text that `--help` and `--version` ask for. A status that is
-/// not 0 is told on standard error.
+/// Serves the files of the command line, or writes the text of `--help` or `--version`. Reports a status other than 0
+/// on standard error.
 fn main(rt: HostRuntime) -> ExitCode {
     let mut words = Vec::new(rt.alloc());
     let mut unread = None;
@@ -32,7 +32,7 @@ fn main(rt: HostRuntime) -> ExitCode {
             }
         }
         Err(error) if error.kind() == ErrorKind::OutOfMemory => unread = Some(stop::OUT_OF_MEMORY),
-        // an argument that is no text is a word that is refused
+        // An argument that is not UTF-8 is refused.
         Err(_) => unread = Some(serve::WORDS),
     }
     let status = if let Some(status) = unread {
@@ -52,7 +52,7 @@ fn main(rt: HostRuntime) -> ExitCode {
         } else {
             Ok(None)
         };
-        // where standard error fails too there is nobody to tell
+        // If standard error fails too, the message is lost.
         let _ = match refused {
             Ok(Some((number, why))) => eprintln!(rt; "sftp_serve: word {number} {why}"),
             _ => eprintln!(rt; "sftp_serve: {cause}"),

@@ -1,18 +1,19 @@
+//! The server for one client, by the arguments of the command line.
 ghost use Rattle.std.specs.Prelude.{◌≡◌, ◌≢◌, ◌⊎◌, map, true, IfOk, MatchResult};
 ghost use Rattle.std.specs.String.{string_bytes};
-ghost use Rattle.sftp_script.specs.ServerWords.{server_of};
+ghost use Rattle.script_grammar.specs.ServerWords.{server_of};
 ghost use Rattle.machine_model.specs.FirstTree.{may_begin};
 ghost use Rattle.sftp_serve.specs.Logs.{MayServe, ServesStream};
 ghost use Rattle.sftp_serve.specs.Words.{script_state};
 
 use crate::engine::serve_machine;
 use crate::stop::OUT_OF_MEMORY;
+use machine_answers::Machine;
+use script_grammar::{LineError, Script, read_server_words};
 use sftp_link::Link;
-use sftp_machine::Machine;
-use sftp_script::{LineError, Script, read_server_words};
 use std::alloc::Global;
 
-/// The status where a word is refused.
+/// The status if an argument is refused.
 pub(crate) const WORDS: u8 = 2;
 
 /// Serves the files and directories of a script.
@@ -33,13 +34,19 @@ fn serve_script<L: Link>(alloc: Global, script: &Script, link: &mut L) -> u8
     }
 }
 
-/// Serves files and directories in memory to one client, until the client's stream ends, and answers the status to end with.
+/// Serves files and directories in memory to one client, until the client's stream ends, and returns the exit status.
 ///
-/// Each word is one line of a script: `file NAME CONTENT`, `dir NAME`, `server ext NAME` or `server limits P R W H`. It is 0
-/// where the stream ended after a frame; 1 where it ended within one, or a frame came that is no request, or not the hello
-/// where it had to be; 2 where a word is refused, and then nothing is read or sent; 3 where the link failed; 5 where there
-/// was no memory; and 7 where 18446744073709551615 frames were served. All frames that came whole are answered before more
-/// is read.
+/// Each argument is one line of a script: `file NAME CONTENT`, `dir NAME`, `server limits P R W H` or `server ext
+/// NAME`. All frames that came whole are answered before more is read.
+///
+/// The status is:
+///
+/// - 0: the stream ended after a frame.
+/// - 1: the stream ended within a frame, or a frame came that is no request, or is not the hello at its place.
+/// - 2: an argument is refused; nothing was read or sent.
+/// - 3: the link failed.
+/// - 5: an allocation failed.
+/// - 7: 18446744073709551615 frames were served.
 pub fn serve<L: Link>(alloc: Global, words: &[String], link: &mut L) -> u8
     requires { MayServe (L.LinkState.state link.old) }
     ensures words { MatchResult (server_of (map string_bytes words.now)) (λ script. result ≢ 2)

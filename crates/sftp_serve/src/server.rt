@@ -1,11 +1,11 @@
-// What is said to the body of a frame.
+//! The answer of the server to the body of a frame.
 ghost use Rattle.std.specs.Prelude.{◌≡◌, IfOk, false};
 ghost use Rattle.sftp_model.specs.Answers.{IsAfterHello, status};
 ghost use Rattle.sftp_model.specs.Numbers.{SSH_FX_OP_UNSUPPORTED};
 ghost use Rattle.sftp_map_server.specs.Serving.{id_of as id_by, is_hello as is_hello_by};
-ghost use Rattle.sftp_serve.specs.Stream.{IsSaid, machine_answer, every_choice, id_in as id_in_by, is_welcome as is_welcome_by, said, to_refused, to_request, unknown_id as unknown_id_by, unsupported, welcomed};
+ghost use Rattle.sftp_serve.specs.Stream.{IsSaid, machine_answer, every_choice, id_in as id_in_by, is_welcome as is_welcome_by, answer_to_frame, to_refused, to_request, unknown_id as unknown_id_by, unsupported_answer, version_answer};
 
-use sftp_machine::Machine;
+use machine_answers::Machine;
 use sftp_map_server::{frame_of, version};
 use sftp_model::numbers::{MAX_TRANSFER_LEN, SSH_FX_OP_UNSUPPORTED, SSH_FXP_EXTENDED};
 use sftp_model::{Choice, FormatKind, FrameError, Reply, Request};
@@ -15,7 +15,7 @@ use ssh_encoding::OutOfMemory;
 use std::alloc::Global;
 use std::marker::Model;
 
-/// A machine, and whether the hello came.
+/// A machine, and a flag that is true if the hello came.
 #[derive(Drop)]
 pub(crate) struct Server {
     alloc: Global,
@@ -31,7 +31,7 @@ impl Model for Server {
     ghost view = { λ s. record { greeted = s.greeted; machine = s.machine } };
 }
 
-/// What is done with each request: none is refused, and a DATA is cut to what a frame can bring.
+/// Returns the choice for each request: none is refused, and a DATA is cut to the length that a frame can carry.
 fn every_choice() -> Choice
     ensures { result ≡ every_choice }
 {
@@ -41,7 +41,7 @@ fn every_choice() -> Choice
     }
 }
 
-/// Whether a request is the hello.
+/// Returns true if a request is the hello.
 fn is_hello(request: &Request) -> bool
     ensures { result ≡ is_hello_by request.now }
 {
@@ -51,7 +51,7 @@ fn is_hello(request: &Request) -> bool
     }
 }
 
-/// Whether a request is the hello of a client that knows version 3.
+/// Returns true if a request is the hello of a client that knows version 3.
 fn is_welcome(request: &Request) -> bool
     ensures { result ≡ is_welcome_by request.now }
 {
@@ -61,7 +61,7 @@ fn is_welcome(request: &Request) -> bool
     }
 }
 
-/// The id of a request; the hello has none.
+/// Returns the id of a request; the hello has none.
 fn id_of(id: Option<u32>) -> u32
     ensures { result ≡ id_by id }
 {
@@ -71,7 +71,7 @@ fn id_of(id: Option<u32>) -> u32
     }
 }
 
-/// The id after the type of a body.
+/// Returns the id after the type of a body.
 fn id_in(body: &[u8]) -> Option<u32>
     ensures { result ≡ id_in_by body.now }
 {
@@ -81,7 +81,7 @@ fn id_in(body: &[u8]) -> Option<u32>
     Some(u32::from_be_bytes([body[1], body[2], body[3], body[4]]))
 }
 
-/// The id of a body that is no request since the name of its extension isn't known.
+/// Returns the id of a body that is no request because the name of its extension isn't known.
 fn unknown_id(body: &[u8], e: FrameError) -> Option<u32>
     ensures { result ≡ unknown_id_by body.now e }
 {
@@ -97,7 +97,7 @@ fn unknown_id(body: &[u8], e: FrameError) -> Option<u32>
     }
 }
 
-/// The answer to an extension that isn't known.
+/// Returns the answer to an unknown extension.
 fn unsupported(alloc: Global) -> Reply
     ensures { result ≡ status SSH_FX_OP_UNSUPPORTED }
 {
@@ -109,7 +109,7 @@ fn unsupported(alloc: Global) -> Reply
 }
 
 impl Server {
-    /// Before the first frame.
+    /// Returns the state before the first frame.
     pub(crate) fn new(alloc: Global, machine: Machine) -> Server
         ensures { result ≡ record { greeted = false; machine = machine } }
     {
@@ -120,16 +120,16 @@ impl Server {
         }
     }
 
-    // The hello is answered by VERSION.
+    // Answers the hello with VERSION.
     fn greet(&mut self) -> Result<Vec<u8>, OutOfMemory>
-        ensures { IfOk result (λ frame. welcomed self.old ≡ (frame.items, self.new)) }
+        ensures { IfOk result (λ frame. version_answer self.old ≡ (frame.items, self.new)) }
     {
         let frame = frame_of(self.alloc, &version(self.machine.config()), 0)?;
         self.greeted = true;
         Ok(frame)
     }
 
-    // A request is answered by the machine.
+    // Answers a request by the machine.
     fn serve(&mut self, id: Option<u32>, request: &Request) -> Result<Vec<u8>, OutOfMemory>
         requires { IsAfterHello request.now }
         ensures { IfOk result (λ frame. machine_answer self.old id request.now ≡ (frame.items, self.new)) }
@@ -140,14 +140,14 @@ impl Server {
         Ok(frame)
     }
 
-    // Another extension is answered by a STATUS.
+    // Answers an unknown extension with a STATUS.
     fn unsupported(&self, id: u32) -> Result<Vec<u8>, OutOfMemory>
-        ensures { IfOk result (λ frame. unsupported self.now id ≡ (frame.items, self.now)) }
+        ensures { IfOk result (λ frame. unsupported_answer self.now id ≡ (frame.items, self.now)) }
     {
         frame_of(self.alloc, &unsupported(self.alloc), id)
     }
 
-    // The answer to a request, of which the first is the hello.
+    // Answers a request, of which the first is the hello.
     fn respond(
         &mut self,
         id: Option<u32>,
@@ -167,7 +167,7 @@ impl Server {
         Ok(Some(self.serve(id, request)?))
     }
 
-    // The answer to a body that reads as no request.
+    // Answers a body that reads as no request.
     fn refuse(&self, body: &[u8], e: FrameError) -> Result<Option<Vec<u8>>, OutOfMemory>
         ensures { IfOk result (λ frame. IsSaid (to_refused self.now body.now e) frame self.now) }
     {
@@ -180,10 +180,11 @@ impl Server {
         }
     }
 
-    /// The answer to the frame of a body; None where the frame may not come here. An Err comes only for want of memory.
-    #[tactic(auto, unfolding(crate::specs::Stream::said))]
+    /// Returns the answer to the frame of a body, or `None` if the frame may not come here. Fails only if an allocation
+    /// fails.
+    #[tactic(auto, unfolding(crate::specs::Stream::answer_to_frame))]
     pub(crate) fn answer(&mut self, body: &[u8]) -> Result<Option<Vec<u8>>, OutOfMemory>
-        ensures { IfOk result (λ frame. IsSaid (said self.old body.now) frame self.new) }
+        ensures { IfOk result (λ frame. IsSaid (answer_to_frame self.old body.now) frame self.new) }
     {
         match read_request(self.alloc, body) {
             Ok((id, request)) => self.respond(id, &request),

@@ -1,3 +1,4 @@
+//! The reasons why no further frame is served, and their statuses.
 ghost use Rattle.std.specs.Prelude.{◌≡◌};
 ghost use Rattle.sftp_serve.specs.Ended.{stop_status};
 ghost use Rattle.sftp_serve.specs.declared.stop.Stop.TheVariants as stop;
@@ -5,33 +6,35 @@ ghost use Rattle.sftp_serve.specs.declared.stop.Stop.TheVariants as stop;
 use sftp_link::DeviceError;
 use ssh_encoding::OutOfMemory;
 
-/// The status where the stream ended after a frame.
+/// The status if the stream ended after a frame.
 const WHOLE: u8 = 0;
 
-/// The status where the stream broke.
+/// The status if the stream broke.
 const BROKEN: u8 = 1;
 
-/// The status where the link failed.
+/// The status if the link failed.
 pub(crate) const LINK_FAULT: u8 = 3;
 
-/// The status where there was no memory.
+/// The status if an allocation failed.
 pub(crate) const OUT_OF_MEMORY: u8 = 5;
 
-/// Why no further frame is served.
+/// The reason why no further frame is served.
+///
+/// Used in `crates/sftp_serve/src/engine.rt`.
 #[derive(Clone, Copy)]
 pub enum Stop {
     /// The stream ended after a frame.
     Ended,
-    /// The stream ended within a frame, or a frame came that is none or may not come.
+    /// The stream ended within a frame, or bytes came that are no frame, or a frame that may not come.
     Broken,
     /// The link failed.
     Faulted,
-    /// There was no memory.
+    /// Out of memory.
     OutOfMemory,
 }
 
 impl Stop {
-    /// The status to end with.
+    /// Returns the exit status.
     pub(crate) fn status(self) -> u8
         ensures { result ≡ stop_status self }
     {

@@ -1,15 +1,15 @@
-// Streams and their answers over a scripted link. The bytes of frames are laid out by draft-ietf-secsh-filexfer-02,
-// sections 3 to 7.
+//! Tests of streams and their answers over a scripted link; the bytes of frames are laid out by
+//! draft-ietf-secsh-filexfer-02, sections 3 to 7.
 use crate::serve;
 use crate::words::refused_word;
+use script_grammar::Reason;
 use sftp_link::{Piece, Scripted, ScriptedLink};
-use sftp_script::Reason;
 use sftp_values::ByteText;
 use std::alloc::{AllocError, Global};
 use std::process::Abort;
 use std::test::Fail;
 
-/// Words, the bytes that come, the calls of the link that fail, the bytes that are wanted, and the status.
+/// Arguments, the bytes that come, the calls of the link that fail, the expected bytes, and the status.
 type Row = (
     &'static [&'static str],
     &'static [u8],
@@ -18,7 +18,7 @@ type Row = (
     u8,
 );
 
-/// What a log has of bytes that were sent.
+/// Returns the bytes that were sent, from a log.
 fn sent_bytes(alloc: Global, log: &[Piece]) -> Result<Vec<u8>, AllocError> {
     let mut sent = Vec::new(alloc);
     for piece in log {
@@ -29,7 +29,7 @@ fn sent_bytes(alloc: Global, log: &[Piece]) -> Result<Vec<u8>, AllocError> {
     Ok(sent)
 }
 
-/// The words of a command line.
+/// Returns the arguments of a command line.
 fn words_of(alloc: Global, texts: &[&str]) -> Result<Vec<String>, AllocError> {
     let mut words = Vec::new(alloc);
     for text in texts {
@@ -38,7 +38,7 @@ fn words_of(alloc: Global, texts: &[&str]) -> Result<Vec<String>, AllocError> {
     Ok(words)
 }
 
-/// Whether a stream is answered and ends as a row has it, with at most so many bytes a call.
+/// Returns true if a stream is answered and ends as in a row, with at most `cut` bytes per call.
 fn ends_so(alloc: Global, row: Row, cut: u32) -> Result<bool, AllocError> {
     let words = words_of(alloc, row.0)?;
     let mut items = Vec::new(alloc);
@@ -55,12 +55,12 @@ const HELLO: &[u8] = b"\x00\x00\x00\x05\x01\x00\x00\x00\x03";
 
 const VERSION: &[u8] = b"\x00\x00\x00\x05\x02\x00\x00\x00\x03";
 
-/// Streams, with what is sent to them, however they are cut.
+/// Streams and the bytes that are sent in answer, for all ways to cut them.
 const STREAMS: &[Row] = &[
-    // none
+    // No frame.
     (&[], b"", &[], b"", 0),
     (&[], HELLO, &[], VERSION, 0),
-    // STAT of a file of two bytes
+    // STAT of a file of two bytes.
     (
         &["file 61 6869"],
         b"\x00\x00\x00\x05\x01\x00\x00\x00\x03\x00\x00\x00\x0a\x11\x00\x00\x00\x07\x00\x00\x00\x01a",
@@ -68,7 +68,7 @@ const STREAMS: &[Row] = &[
         b"\x00\x00\x00\x05\x02\x00\x00\x00\x03\x00\x00\x00\x11\x69\x00\x00\x00\x07\x00\x00\x00\x01\x00\x00\x00\x00\x00\x00\x00\x02",
         0,
     ),
-    // an extension that isn't known
+    // An unknown extension.
     (
         &[],
         b"\x00\x00\x00\x05\x01\x00\x00\x00\x03\x00\x00\x00\x0a\xc8\x00\x00\x00\x09\x00\x00\x00\x01x",
@@ -76,7 +76,7 @@ const STREAMS: &[Row] = &[
         b"\x00\x00\x00\x05\x02\x00\x00\x00\x03\x00\x00\x00\x11\x65\x00\x00\x00\x09\x00\x00\x00\x08\x00\x00\x00\x00\x00\x00\x00\x00",
         0,
     ),
-    // a length of 0, and one that is too great
+    // A length of 0, and one that is too great.
     (
         &[],
         b"\x00\x00\x00\x05\x01\x00\x00\x00\x03\x00\x00\x00\x00",
@@ -91,7 +91,7 @@ const STREAMS: &[Row] = &[
         VERSION,
         1,
     ),
-    // the end within a frame
+    // The end within a frame.
     (
         &[],
         b"\x00\x00\x00\x05\x01\x00\x00\x00\x03\x00",
@@ -99,7 +99,7 @@ const STREAMS: &[Row] = &[
         VERSION,
         1,
     ),
-    // a client of version 2, and a second hello
+    // A client of version 2, and a second hello.
     (&[], b"\x00\x00\x00\x05\x01\x00\x00\x00\x02", &[], b"", 1),
     (
         &[],
@@ -108,7 +108,8 @@ const STREAMS: &[Row] = &[
         VERSION,
         1,
     ),
-    // words that are refused: a cut, a lane, a comment, none at all, a file within a file, and one more after a good one
+    // Arguments that are refused: a cut, a lane, a comment, an empty argument, a file within a file, and a bad argument
+    // after a good one.
     (&["server cut 4"], HELLO, &[], b"", 2),
     (&["lane"], HELLO, &[], b"", 2),
     (&["# none"], HELLO, &[], b"", 2),
@@ -122,7 +123,7 @@ const STREAMS: &[Row] = &[
         b"",
         2,
     ),
-    // the first recv fails
+    // The first recv fails.
     (&[], HELLO, &[0], b"", 3),
 ];
 
@@ -136,7 +137,7 @@ fn streams_are_answered(rt: HostRuntime) -> Result<(), Fail> {
     Ok(())
 }
 
-/// Words, which of them is the first that is refused, counted from 1, and why.
+/// Arguments, the first of them that is refused, counted from 1, and the reason.
 const WORDS: &[(&[&str], usize, Reason)] = &[
     (&["lane"], 1, Reason::Word),
     (&["file 61 -", "dir 6"], 2, Reason::Hex),

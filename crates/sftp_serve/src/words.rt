@@ -1,15 +1,15 @@
-// What the words of the command line say beside what is served, and what standard error is told.
+//! The texts of the command line, its refused arguments, and the messages on standard error.
 ghost use Rattle.std.specs.Prelude.{◌≡◌, map, Err, IfOk, IsOk, MatchOption};
 ghost use Rattle.std.specs.Option.{option_copied};
 ghost use Rattle.std.specs.String.{string_bytes};
-ghost use Rattle.sftp_script.specs.ServerWords.{server_of};
+ghost use Rattle.script_grammar.specs.ServerWords.{server_of};
 ghost use Rattle.sftp_serve.specs.Words.{IsRefusedWord, cause_of, help_text, text_for, version_text};
 
-use sftp_script::{LineError, Reason, read_server_words};
+use script_grammar::{LineError, Reason, read_server_words};
 use ssh_encoding::OutOfMemory;
 use std::alloc::Global;
 
-/// What `--help` writes.
+/// Returns the text of `--help`.
 #[tactic(auto, unfolding(crate::specs::Words::help_text))]
 fn help_text() -> &'static str
     ensures { result.now ≡ help_text }
@@ -20,22 +20,28 @@ Usage: sftp_serve [WORD ..] | --help | --version
 Serves files and directories in memory by SFTP version 3 on standard input and output,
 to one client and until its stream ends. Each WORD is one of
 
-  'file NAME CONTENT'       a first file
-  'dir NAME'                a first directory
+  'file NAME CONTENT'       a file that exists at the start
+  'dir NAME'                a directory that exists at the start
   'server ext NAME'         posix-rename, hardlink, fsync, expand-path or copy-data
-  'server limits P R W H'   what limits@openssh.com tells: the most bytes of a packet, a
-                            READ and a WRITE, and the most handles
+  'server limits P R W H'   the limits that limits@openssh.com reports: the most bytes of
+                            a packet, of a READ and of a WRITE, and the most handles
 
 NAME of a file or a directory, and CONTENT, are hexadecimal, or - for no bytes. OpenSSH's
-client starts it itself: sftp -D \"sftp_serve 'dir 64' 'server ext posix-rename'\"
+client can start the server itself:
 
-The status is 0 where the stream ended after a frame, 1 where it ended within one or held
-what is no request, 2 for a word that can't be used, 3 where the connection failed, 5
-where memory ran out, and 7 after 18446744073709551615 frames.
+  sftp -D \"sftp_serve 'dir 64' 'server ext posix-rename'\"
+
+Exit status:
+  0  the stream ended after a frame
+  1  the stream ended within a frame, or contained an invalid request
+  2  a WORD is invalid
+  3  the connection failed
+  5  out of memory
+  7  18446744073709551615 frames were served
 "
 }
 
-/// What `--version` writes.
+/// Returns the text of `--version`.
 #[tactic(auto, unfolding(crate::specs::Words::version_text))]
 fn version_text() -> &'static str
     ensures { result.now ≡ version_text }
@@ -43,7 +49,7 @@ fn version_text() -> &'static str
     "tilfrjon 0.1.0\n"
 }
 
-/// What the one word `--help` or `--version` writes; None where the words are a server's.
+/// Returns the text of the single argument `--help` or `--version`, or `None` if the arguments are a server's.
 pub(crate) fn text_for(words: &[String]) -> Option<&'static str>
     ensures { option_copied result ≡ text_for (map string_bytes words.now) }
 {
@@ -61,21 +67,21 @@ pub(crate) fn text_for(words: &[String]) -> Option<&'static str>
     }
 }
 
-/// What standard error is told of a status; nothing of 0.
+/// Returns the message on standard error for a status; `None` for 0.
 pub(crate) fn cause_of(status: u8) -> Option<&'static str>
     ensures { option_copied result ≡ cause_of status }
 {
     match status {
-        1 => Some("the stream ended within a frame, or held what is no request"),
-        2 => Some("a word can't be used"),
+        1 => Some("the stream ended within a frame, or contained an invalid request"),
+        2 => Some("an argument is invalid"),
         3 => Some("the connection failed"),
         5 => Some("out of memory"),
-        7 => Some("no more frames are served"),
+        7 => Some("the limit of frames was reached"),
         _ => None,
     }
 }
 
-/// Why words are refused; None where they are read. An Err comes only for want of memory.
+/// Returns the reason why arguments are refused, or `None` if they are read. Fails only if an allocation fails.
 fn refusal(alloc: Global, words: &[String]) -> Result<Option<Reason>, OutOfMemory>
     ensures { IfOk result (λ why. MatchOption why (IsOk (server_of (map string_bytes words.now)))
         (λ why. server_of (map string_bytes words.now) ≡ Err why)) }
@@ -87,7 +93,8 @@ fn refusal(alloc: Global, words: &[String]) -> Result<Option<Reason>, OutOfMemor
     }
 }
 
-/// The first word that is refused, counted from 1, and why; None where all are read. An Err comes only for want of memory.
+/// Returns the first argument that is refused, counted from 1, and the reason; `None` if all are read. Fails only if an
+/// allocation fails.
 #[tactic(auto, using(crate::proofs::RefusedWords::all_read, crate::proofs::RefusedWords::one_more))]
 pub(crate) fn refused_word(
     alloc: Global,

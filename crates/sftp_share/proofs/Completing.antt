@@ -1,17 +1,17 @@
 -- Without a fault of the source or the sink the program ends with what the source asks for, or for want of memory.
 use Rattle.std.proofs.Common.{◌≡◌, ◌<◌, inl, inr, ℕ, Bool, true, false, List, refl, ap, sym, ◌∙◌, subst, arith}
 use Rattle.std.specs.Prelude.{Option, Some, None, Ok, Err, IfErr}
-use Rattle.program_ends.specs.declared.ending.Answered.{Answered}
-use Rattle.program_ends.specs.declared.ending.Answered.TheVariants.{Done, Stopped, Refused}
-use Rattle.program_ends.specs.declared.ending.Failure.TheVariants.{SourceFailed, SinkFailed, OutOfMemory, DialFailed}
-use Rattle.program_ends.specs.Completed.{CompletesSource, EndsFor}
-use Rattle.program_ends.specs.Ended.{AnswersSource, End, Gave, GaveAll, ReadAs, SinkCause, SourceCause, Wrote, read_limit}
-use Rattle.program_ends.proofs.Reading.{read_is}
-use Rattle.sftp_link.specs.Told.{Told, ReadUpTo}
+use Rattle.program_shell.specs.declared.ending.Answered.{Answered}
+use Rattle.program_shell.specs.declared.ending.Answered.TheVariants.{Done, Stopped, Refused}
+use Rattle.program_shell.specs.declared.ending.ProgramFailure.TheVariants.{SourceFailed, SinkFailed, OutOfMemory, DialFailed}
+use Rattle.program_shell.specs.Completed.{CompletesSource, EndsFor}
+use Rattle.program_shell.specs.Ended.{AnswersSource, End, GaveInput, GaveAll, ReadAs, SinkCause, SourceCause, WroteAnswer, read_limit}
+use Rattle.program_shell.proofs.Reading.{read_is}
+use Rattle.sftp_link.specs.Told.{IfLogged, ReadUpTo}
 use Rattle.sftp_link.specs.Views.{SinkView, SourceView}
-use Rattle.sftp_script.specs.declared.script.Script.{Script}
-use Rattle.sftp_script.specs.Scripts.{script_of}
-use Rattle.shared_map.specs.Halves.{Halves}
+use Rattle.script_grammar.specs.declared.script.Script.{Script}
+use Rattle.script_grammar.specs.Scripts.{script_of}
+use Rattle.machine_halves.specs.Halves.{Halves}
 use Rattle.sftp_share.specs.Completed.{IsSharedStatus}
 use Rattle.sftp_share.specs.Ended.{PairAfter, ShareEnds, share_status}
 use Rattle.sftp_share.specs.Shared.{RightShared}
@@ -19,22 +19,25 @@ use Rattle.sftp_share.proofs.Exits.{refuses_long}
 
 -- ---- what a source had
 
-told_all : (bytes had : List ℕ) (now : Option (List ℕ)) → Told (GaveAll bytes) (Some had) now → had ≡ bytes
+told_all : (bytes had : List ℕ) (now : Option (List ℕ)) → IfLogged (GaveAll bytes) (Some had) now → had ≡ bytes
 told_all bytes had None t = absurd t
 told_all bytes had (Some now) t = t.0
 
-told_read : (bytes had : List ℕ) (now : Option (List ℕ)) → Told (ReadUpTo read_limit bytes) (Some had) now
+told_read : (bytes had : List ℕ) (now : Option (List ℕ)) → IfLogged (ReadUpTo read_limit bytes) (Some had) now
     → script_of had ≡ script_of bytes
 told_read bytes had None t = absurd t
 told_read bytes had (Some now) t = read_is script_of bytes had now refuses_long t
 
 -- it reads as what was read of it
-had_is : (r : ReadAs Script) (bytes had : List ℕ) (from now : SourceView) → script_of bytes ≡ r → Gave r bytes from now
+had_is : (r : ReadAs Script) (bytes had : List ℕ) (from now : SourceView) → script_of bytes ≡ r
+    → GaveInput r bytes from now
     → from.left ≡ Some had → script_of had ≡ r
 had_is (Ok script) bytes had from now e g is =
-    ap script_of (told_all bytes had now.left (subst (λ (l : Option (List ℕ)). Told (GaveAll bytes) l now.left) is g)) ∙ e
+    ap script_of (told_all bytes had now.left (subst (λ (l : Option (List ℕ)). IfLogged (GaveAll bytes) l now.left) is
+    g)) ∙ e
 had_is (Err why) bytes had from now e g is =
-    told_read bytes had now.left (subst (λ (l : Option (List ℕ)). Told (ReadUpTo read_limit bytes) l now.left) is g) ∙ e
+    told_read bytes had now.left (subst (λ (l : Option (List ℕ)). IfLogged (ReadUpTo read_limit bytes) l now.left) is g)
+    ∙ e
 
 -- ---- the status of an answer that was written whole
 
@@ -54,8 +57,10 @@ starved_status : (differs : Bool) → share_status differs (Err OutOfMemory) ≡
 starved_status true = refl
 starved_status false = refl
 
-answer_status : (A B : Type 0) (before last : Option Halves) (differs : Bool) (r : ReadAs Script) (answered : Answered) (text : List ℕ)
-    → RightShared A B before last differs r answered text → EndsFor IsSharedStatus r (share_status differs (Ok answered))
+answer_status : (A B : Type 0) (before last : Option Halves) (differs : Bool) (r : ReadAs Script) (answered : Answered)
+    (text : List ℕ)
+    → RightShared A B before last differs r answered text → EndsFor IsSharedStatus r
+    (share_status differs (Ok answered))
 answer_status A B before last differs (Ok script) Done text h = done_status differs
 answer_status A B before last differs (Ok script) Stopped text h = stopped_status differs
 answer_status A B before last differs (Ok script) Refused text h = absurd h
@@ -65,8 +70,9 @@ answer_status A B before last differs (Err why) Refused text h = refused_status 
 
 -- ---- each end
 
-completes_so : (A B : Type 0) (before last : Option Halves) (differs : Bool) (end : End) (from now : SourceView) (to to_now : SinkView)
-    → Wrote (AnswersSource script_of (RightShared A B before last differs) from now) end to to_now
+completes_so : (A B : Type 0) (before last : Option Halves) (differs : Bool) (end : End) (from now : SourceView)
+    (to to_now : SinkView)
+    → WroteAnswer (AnswersSource script_of (RightShared A B before last differs) from now) end to to_now
     → SourceCause end from.faults now.faults → SinkCause end to.faults to_now.faults → (end ≡ Err DialFailed → ⊥)
     → now.faults ≡ from.faults → to_now.faults ≡ to.faults
     → CompletesSource script_of IsSharedStatus (share_status differs end) from.left
@@ -79,12 +85,15 @@ completes_so A B before last differs (Err SourceFailed) from now to to_now w sou
     absurd (let rose : from.faults < now.faults = source in omega (arith, rose, s))
 completes_so A B before last differs (Err SinkFailed) from now to to_now w source sink dial s k had is =
     absurd (let rose : to.faults < to_now.faults = sink in omega (arith, rose, k))
-completes_so A B before last differs (Err OutOfMemory) from now to to_now w source sink dial s k had is = inr (starved_status differs)
-completes_so A B before last differs (Err DialFailed) from now to to_now w source sink dial s k had is = absurd (dial refl)
+completes_so A B before last differs (Err OutOfMemory) from now to to_now w source sink dial s k had is =
+    inr (starved_status differs)
+completes_so A B before last differs (Err DialFailed) from now to to_now w source sink dial s k had is =
+    absurd (dial refl)
 
 undialled : (A B : Type 0) (before last : Option Halves) (status : ℕ) (from now : SourceView) (to to_now : SinkView)
     → (h : ShareEnds A B before last status from now to to_now) → h.end ≡ Err DialFailed → ⊥
-undialled A B before last status from now to to_now h e = subst (λ (x : End). IfErr x (PairAfter A B before last from now)) e h.pair
+undialled A B before last status from now to to_now h e = subst
+    (λ (x : End). IfErr x (PairAfter A B before last from now)) e h.pair
 
 pub completes : (A B : Type 0) (before last : Option Halves) (status : ℕ) (from now : SourceView) (to to_now : SinkView)
     → ShareEnds A B before last status from now to to_now → now.faults ≡ from.faults → to_now.faults ≡ to.faults

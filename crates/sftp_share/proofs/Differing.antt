@@ -1,14 +1,14 @@
 -- The status tells whether the replay of a run differs, whose whole text was written.
 use Rattle.std.proofs.Common.{◌≡◌, ◌⊎◌, inl, inr, ℕ, Bool, true, false, List, refl, sym, subst}
 use Rattle.std.specs.Prelude.{◌≢◌, Option, Ok, Err}
-use Rattle.program_ends.specs.declared.ending.Answered.TheVariants.{Done, Stopped, Refused}
-use Rattle.program_ends.specs.declared.ending.Failure.TheVariants.{SourceFailed, SinkFailed, OutOfMemory, DialFailed}
-use Rattle.program_ends.specs.Ended.{AnswersSource, End, Gave, ReadAs, Wrote, WroteAll}
-use Rattle.sftp_link.specs.Told.{Told, WroteBytes}
+use Rattle.program_shell.specs.declared.ending.Answered.TheVariants.{Done, Stopped, Refused}
+use Rattle.program_shell.specs.declared.ending.ProgramFailure.TheVariants.{SourceFailed, SinkFailed, OutOfMemory, DialFailed}
+use Rattle.program_shell.specs.Ended.{AnswersSource, End, GaveInput, ReadAs, WroteAnswer, WroteAll}
+use Rattle.sftp_link.specs.Told.{IfLogged, WroteBytes}
 use Rattle.sftp_link.specs.Views.{SinkView, SourceView}
-use Rattle.sftp_script.specs.declared.script.Script.{Script}
-use Rattle.sftp_script.specs.Scripts.{script_of}
-use Rattle.shared_map.specs.Halves.{Halves}
+use Rattle.script_grammar.specs.declared.script.Script.{Script}
+use Rattle.script_grammar.specs.Scripts.{script_of}
+use Rattle.machine_halves.specs.Halves.{Halves}
 use Rattle.sftp_share.specs.Completed.{WroteRun}
 use Rattle.sftp_share.specs.Ended.{ShareEnds, share_status}
 use Rattle.sftp_share.specs.Shared.{RightShared}
@@ -62,9 +62,11 @@ status_done false = inl refl
 -- ---- the text
 
 -- what is right and done is the text of a run of the script that the source gave
-wrote_for : (A B : Type 0) (before last : Option Halves) (differs : Bool) (r : ReadAs Script) (bytes text : List ℕ) (from now : SourceView)
-    (to to_now : SinkView) → script_of bytes ≡ r → Gave r bytes from now → RightShared A B before last differs r Done text
-    → Told (WroteBytes text) to.written to_now.written → WroteRun A B last differs from now to to_now
+wrote_for : (A B : Type 0) (before last : Option Halves) (differs : Bool) (r : ReadAs Script) (bytes text : List ℕ)
+    (from now : SourceView)
+    (to to_now : SinkView) → script_of bytes ≡ r → GaveInput r bytes from now
+    → RightShared A B before last differs r Done text
+    → IfLogged (WroteBytes text) to.written to_now.written → WroteRun A B last differs from now to to_now
 wrote_for A B before last differs (Ok script) bytes text from now to to_now e gave is wrote = record {
   script = script;
   gave = record { bytes = bytes; gave = gave; reads = e };
@@ -82,13 +84,16 @@ wrote_run A B before last differs from now to to_now w =
     wrote_for A B before last differs (script_of a.bytes) a.bytes w.text from now to to_now refl a.gave a.is w.wrote
 
 -- where it ended so
-run_of : (A B : Type 0) (before last : Option Halves) (differs told : Bool) (end : End) (from now : SourceView) (to to_now : SinkView)
+run_of : (A B : Type 0) (before last : Option Halves) (differs told : Bool) (end : End) (from now : SourceView)
+    (to to_now : SinkView)
     → end ≡ Ok Done → differs ≡ told
-    → Wrote (AnswersSource script_of (RightShared A B before last differs) from now) end to to_now
+    → WroteAnswer (AnswersSource script_of (RightShared A B before last differs) from now) end to to_now
     → WroteRun A B last told from now to to_now
 run_of A B before last differs told end from now to to_now done is w =
-    subst (λ (b : Bool). WroteRun A B last b from now to to_now) is (wrote_run A B before last differs from now to to_now
-    (subst (λ (x : End). Wrote (AnswersSource script_of (RightShared A B before last differs) from now) x to to_now) done w))
+    subst (λ (b : Bool). WroteRun A B last b from now to to_now) is
+    (wrote_run A B before last differs from now to to_now
+    (subst (λ (x : End). WroteAnswer (AnswersSource script_of (RightShared A B before last differs) from now) x to
+    to_now) done w))
 
 -- ---- the laws
 
@@ -106,8 +111,10 @@ run_by_0 A B before last from now to to_now h =
     run_of A B before last h.differs false h.end from now to to_now done
     (serves_by_0 h.differs (subst (λ (x : End). 0 ≡ share_status h.differs x) done h.is)) h.wrote
 
-pub whole_by_0_or_7 : (A B : Type 0) (before last : Option Halves) (status : ℕ) (from now : SourceView) (to to_now : SinkView)
+pub whole_by_0_or_7 : (A B : Type 0) (before last : Option Halves) (status : ℕ) (from now : SourceView)
+    (to to_now : SinkView)
     → (h : ShareEnds A B before last status from now to to_now) → h.end ≡ Ok Done → (status ≡ 0) ⊎ (status ≡ 7)
 whole_by_0_or_7 A B before last status from now to to_now h done =
     subst (λ (n : ℕ). (n ≡ 0) ⊎ (n ≡ 7)) (sym h.is)
-    (subst (λ (x : End). (share_status h.differs x ≡ 0) ⊎ (share_status h.differs x ≡ 7)) (sym done) (status_done h.differs))
+    (subst (λ (x : End). (share_status h.differs x ≡ 0) ⊎ (share_status h.differs x ≡ 7)) (sym done)
+    (status_done h.differs))

@@ -1,28 +1,29 @@
 -- How the program ends with a script, at each of its exits.
 use Rattle.std.proofs.Common.{◌≡◌, ℕ, Bool, false, List, inl, inr, refl}
 use Rattle.std.specs.Prelude.{Option, Ok, Err}
-use Rattle.program_ends.specs.declared.ending.Answered.{Answered}
-use Rattle.program_ends.specs.declared.ending.Answered.TheVariants.{Done, Stopped, Refused}
-use Rattle.program_ends.specs.declared.ending.Failure.{Failure}
-use Rattle.program_ends.specs.declared.ending.Failure.TheVariants.{SourceFailed, SinkFailed, OutOfMemory, DialFailed}
-use Rattle.program_ends.specs.Ended.{AnswersSource, End, EndsAtSink, GaveValue, Only, ReadAs}
-use Rattle.program_ends.specs.Replies.{GivesBytes}
-use Rattle.program_ends.proofs.Exits.{Read}
-use Rattle.program_ends.proofs.Reading.{RefusesLong, gave, gave_value}
-use Rattle.program_ends.proofs.Writing.{at_sink, just, nothing_new, source_stays, wrote_as}
+use Rattle.program_shell.specs.declared.ending.Answered.{Answered}
+use Rattle.program_shell.specs.declared.ending.Answered.TheVariants.{Done, Stopped, Refused}
+use Rattle.program_shell.specs.declared.ending.ProgramFailure.{ProgramFailure}
+use Rattle.program_shell.specs.declared.ending.ProgramFailure.TheVariants.{SourceFailed, SinkFailed, OutOfMemory, DialFailed}
+use Rattle.program_shell.specs.Ended.{AnswersSource, End, EndsAtSink, GaveValue, IsOnlyAnswer, ReadAs}
+use Rattle.program_shell.specs.Replies.{GivesBytes}
+use Rattle.program_shell.proofs.Exits.{Read}
+use Rattle.program_shell.proofs.Reading.{RefusesLong, gave, gave_value}
+use Rattle.program_shell.proofs.Writing.{at_sink, just, nothing_new, source_stays, wrote_as}
 use Rattle.sftp_link.specs.Views.{SinkView, SourceView}
-use Rattle.sftp_script.specs.declared.script.Script.{Script}
-use Rattle.sftp_script.specs.Scripts.{script_of}
-use Rattle.shared_map.specs.Halves.{Halves}
+use Rattle.script_grammar.specs.declared.script.Script.{Script}
+use Rattle.script_grammar.specs.Scripts.{script_of}
+use Rattle.machine_halves.specs.Halves.{Halves}
 use Rattle.sftp_share.specs.Ended.{PairAfter, ShareEnds, share_status}
-use Rattle.sftp_share.specs.Shared.{RightShared, Starves}
+use Rattle.sftp_share.specs.Shared.{RightShared, RunsOutOfMemory}
 
 -- what is too long is no script
 pub refuses_long : RefusesLong script_of
 refuses_long bytes long = rw long refl
 
 -- the source was not read
-pub unread : (A B : Type 0) (why : Failure) (before : Option Halves) (from now : SourceView) (to : SinkView) → GivesBytes (Err why) from now
+pub unread : (A B : Type 0) (why : ProgramFailure) (before : Option Halves) (from now : SourceView) (to : SinkView)
+    → GivesBytes (Err why) from now
     → ShareEnds A B before before (share_status false (Err why)) from now to to
 unread A B SourceFailed before from now to g = record {
   end = Err SourceFailed;
@@ -48,15 +49,19 @@ unread A B DialFailed before from now to g = absurd (g.only.1 refl)
 -- ---- what the pair has back
 
 -- a script that was read is one that the source gave
-starves_given : (A B : Type 0) (before last : Option Halves) (bytes : List ℕ) (from now : SourceView) → Read bytes from now
-    → Starves A B (λ script. script_of bytes ≡ Ok script) before last → Starves A B (λ script. GaveValue script_of script from now) before last
+starves_given : (A B : Type 0) (before last : Option Halves) (bytes : List ℕ) (from now : SourceView)
+    → Read bytes from now
+    → RunsOutOfMemory A B (λ script. script_of bytes ≡ Ok script) before last
+    → RunsOutOfMemory A B (λ script. GaveValue script_of script from now) before last
 starves_given A B before last bytes from now t (inl same) = inl same
-starves_given A B before last bytes from now t (inr h) = inr (h.0, gave_value script_of bytes h.0 from now refuses_long h.1 t, h.2)
+starves_given A B before last bytes from now t (inr h) = inr
+    (h.0, gave_value script_of bytes h.0 from now refuses_long h.1 t, h.2)
 
 -- what is right to write says it
-right_starves : (A B : Type 0) (before last : Option Halves) (differs : Bool) (r : ReadAs Script) (bytes text : List ℕ) (says : Answered)
+right_starves : (A B : Type 0) (before last : Option Halves) (differs : Bool) (r : ReadAs Script) (bytes text : List ℕ)
+    (says : Answered)
     → script_of bytes ≡ r → RightShared A B before last differs r says text
-    → Starves A B (λ script. script_of bytes ≡ Ok script) before last
+    → RunsOutOfMemory A B (λ script. script_of bytes ≡ Ok script) before last
 right_starves A B before last differs (Ok script) bytes text Done e h = inr (script, e, inl (h.report, h.run))
 right_starves A B before last differs (Ok script) bytes text Stopped e h = inr (script, e, inr (h.why, h.stops))
 right_starves A B before last differs (Ok script) bytes text Refused e h = absurd h
@@ -67,8 +72,9 @@ right_starves A B before last differs (Err why) bytes text Refused e h = inl h.1
 -- ---- an answer
 
 -- there was no memory for it
-pub starved : (A B : Type 0) (before last : Option Halves) (bytes : List ℕ) (from now : SourceView) (to : SinkView) → Read bytes from now
-    → now.faults ≡ from.faults → Starves A B (λ script. script_of bytes ≡ Ok script) before last
+pub starved : (A B : Type 0) (before last : Option Halves) (bytes : List ℕ) (from now : SourceView) (to : SinkView)
+    → Read bytes from now
+    → now.faults ≡ from.faults → RunsOutOfMemory A B (λ script. script_of bytes ≡ Ok script) before last
     → ShareEnds A B before last (share_status false (Err OutOfMemory)) from now to to
 starved A B before last bytes from now to t same s = record {
   end = Err OutOfMemory;
@@ -81,9 +87,11 @@ starved A B before last bytes from now to t same s = record {
 }
 
 -- it was to be written
-pub answered : (A B : Type 0) (before last : Option Halves) (differs : Bool) (bytes text : List ℕ) (says : Answered) (end : End)
+pub answered : (A B : Type 0) (before last : Option Halves) (differs : Bool) (bytes text : List ℕ) (says : Answered)
+    (end : End)
     (from now : SourceView) (to to_now : SinkView) → Read bytes from now → now.faults ≡ from.faults
-    → RightShared A B before last differs (script_of bytes) says text → EndsAtSink (Only says text) end to to_now
+    → RightShared A B before last differs (script_of bytes) says text
+    → EndsAtSink (IsOnlyAnswer says text) end to to_now
     → ShareEnds A B before last (share_status differs end) from now to to_now
 answered A B before last differs bytes text says end from now to to_now t same r w =
     let whole = AnswersSource script_of (RightShared A B before last differs) from now in
@@ -92,9 +100,10 @@ answered A B before last differs bytes text says end from now to to_now t same r
       end = end;
       differs = differs;
       is = refl;
-      wrote = wrote_as (Only says text) whole (just whole says text all) end to to_now w.wrote;
-      source = source_stays (Only says text) end to to_now from.faults now.faults w same;
+      wrote = wrote_as (IsOnlyAnswer says text) whole (just whole says text all) end to to_now w.wrote;
+      source = source_stays (IsOnlyAnswer says text) end to to_now from.faults now.faults w same;
       sink = w.cause;
-      pair = at_sink (PairAfter A B before last from now) (Only says text) end to to_now w tt
-          (starves_given A B before last bytes from now t (right_starves A B before last differs (script_of bytes) bytes text says refl r));
+      pair = at_sink (PairAfter A B before last from now) (IsOnlyAnswer says text) end to to_now w tt
+          (starves_given A B before last bytes from now t (right_starves A B before last differs (script_of bytes) bytes
+          text says refl r));
     }

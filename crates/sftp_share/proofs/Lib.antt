@@ -1,6 +1,10 @@
-pub mod Shares
-pub mod Exits
-pub mod Causing
-pub mod Completing
-pub mod Differing
-pub mod Sends
+mod Shares
+mod Exits
+mod Causing
+mod Completing
+mod Differing
+mod Sends
+mod TraceReplies
+mod MachineRuns
+mod HelloLaws
+mod ServedLaws

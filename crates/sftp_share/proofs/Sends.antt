@@ -2,7 +2,7 @@
 use denote.Param.Send.{IsSend, sendable}
 use Rattle.std.proofs.Crossing.{crosses}
 use Rattle.sftp_link.proofs.piece.Piece.TheSendSync as piece
-use Rattle.sftp_machine.proofs.outbox.Outbox.TheSendSync as outbox
+use Rattle.machine_answers.proofs.outbox.Outbox.TheSendSync as outbox
 use Rattle.sftp_map_server.proofs.state.ServerState.TheSendSync as state
 use Rattle.sftp_map_server.specs.contracts.map_server.MapServer as of_server
 

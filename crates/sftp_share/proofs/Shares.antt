@@ -3,29 +3,29 @@ use Rattle.std.proofs.Common.{◌≡◌, ◌<◌, ◌∙◌, ◌++◌, ℕ, Bool
 use Rattle.std.specs.Prelude.{Option, Some, None, Result, Ok, Err, IfErr, IfOk, OnErr, reverse}
 use Rattle.machine_model.specs.FirstTree.{first_tree}
 use Rattle.plan_model.specs.declared.call.Lane.{Lane}
-use Rattle.session_model.specs.Served.{Serves}
+use Rattle.session_model.specs.Served.{ServesJournal}
 use Rattle.session_model.specs.Journals.{IsJournal}
 use Rattle.session_model.specs.Readings.{trace_of}
 use Rattle.session_seats.specs.Sights.{entries}
 use Rattle.sftp_lanes.specs.Seen.{setting_by}
 use Rattle.sftp_link.specs.Views.{LinkView}
-use Rattle.sftp_machine.specs.MachineState.{MAX_HANDLES, MachineState}
+use Rattle.machine_answers.specs.MachineState.{MAX_HANDLES, MachineState}
 use Rattle.sftp_model.specs.declared.error.Error.{Error}
 use Rattle.sftp_model.specs.declared.options.SftpOptions.{SftpOptions}
-use Rattle.sftp_script.specs.declared.script.Script.{Script}
-use Rattle.sftp_script.specs.Scripts.{script_of}
+use Rattle.script_grammar.specs.declared.script.Script.{Script}
+use Rattle.script_grammar.specs.Scripts.{script_of}
 use Rattle.ssh_encoding.specs.declared.out_of_memory.OutOfMemory.{OutOfMemory}
 use Rattle.sftp_tasks.specs.declared.report.SharedReport.{SharedReport}
-use Rattle.program_ends.specs.declared.ending.Answered.{Answered}
-use Rattle.program_ends.specs.declared.ending.Answered.TheVariants.{Stopped}
-use Rattle.program_ends.specs.Texts.{IsErrorLine, error_name}
-use Rattle.share_replay.specs.declared.outcome.Replay.TheVariants as replay
-use Rattle.share_replay.specs.Replays.{NoHello, machine_of, replay_of}
-use Rattle.share_replay.proofs.HelloLaws.{no_hello}
-use Rattle.share_replay.proofs.ServedLaws.{serves_sent}
-use Rattle.shared_map.specs.Halves.{Halves, IsNewHalf, halves_of}
-use Rattle.tasks_run.specs.Reports.{Ended, RunsShared, StopsBy}
-use Rattle.tasks_run.specs.RunEnds.{IsEnded}
+use Rattle.program_shell.specs.declared.ending.Answered.{Answered}
+use Rattle.program_shell.specs.declared.ending.Answered.TheVariants.{Stopped}
+use Rattle.program_shell.specs.Texts.{IsErrorLine, error_name}
+use Rattle.sftp_share.specs.declared.outcome.Replay.TheVariants as replay
+use Rattle.sftp_share.specs.Replays.{NoHello, machine_of, replay_of}
+use Rattle.sftp_share.proofs.HelloLaws.{no_hello}
+use Rattle.sftp_share.proofs.ServedLaws.{serves_sent}
+use Rattle.machine_halves.specs.Halves.{Halves, IsNewHalf, halves_of}
+use Rattle.session_threads.specs.Reports.{Ended, RunsShared, StopsBy}
+use Rattle.session_threads.specs.RunEnds.{IsEnded}
 use Rattle.sftp_share.specs.Shared.{
   HasBack,
   HasRun,
@@ -33,7 +33,7 @@ use Rattle.sftp_share.specs.Shared.{
   IsShared,
   IsStopped,
   RightFor,
-  Starves,
+  RunsOutOfMemory,
   StoppedOver,
   differs_by,
   replay_text,
@@ -42,9 +42,12 @@ use Rattle.sftp_share.specs.Shared.{
 
 -- ---- a run
 
-pub has_run : {A B : Type 0} (out out' : LinkView A) (input input' : LinkView B) (last : Option Halves) (script : Script) (lanes : List Lane)
-    (report : SharedReport) → lanes ≡ script.lanes → IsNewHalf out → IsNewHalf input → last ≡ Some (halves_of out' input')
-    → RunsShared lanes script.options report → IsEnded (length lanes) (reverse report.journal.items) → Ended out out' input input' report
+pub has_run : {A B : Type 0} (out out' : LinkView A) (input input' : LinkView B) (last : Option Halves)
+    (script : Script) (lanes : List Lane)
+    (report : SharedReport) → lanes ≡ script.lanes → IsNewHalf out → IsNewHalf input → last
+    ≡ Some (halves_of out' input')
+    → RunsShared lanes script.options report → IsEnded (length lanes) (reverse report.journal.items)
+    → Ended out out' input input' report
     → HasRun A B last script report
 has_run out out' input input' last script lanes report same fresh input_fresh back runs over ends = record {
   runs = subst (λ (l : List Lane). RunsShared l script.options report) same runs;
@@ -61,7 +64,8 @@ has_run out out' input input' last script lanes report same fresh input_fresh ba
   };
 }
 
-pub stopped_over : {A B : Type 0} (out out' : LinkView A) (input input' : LinkView B) (last : Option Halves) (e : Error) → IsNewHalf out
+pub stopped_over : {A B : Type 0} (out out' : LinkView A) (input input' : LinkView B) (last : Option Halves) (e : Error)
+    → IsNewHalf out
     → IsNewHalf input → last ≡ Some (halves_of out' input') → StopsBy out out' input input' e → StoppedOver A B last e
 stopped_over out out' input input' last e fresh input_fresh back stops = record {
   out = out;
@@ -75,10 +79,13 @@ stopped_over out out' input input' last e fresh input_fresh back stops = record 
 }
 
 -- whatever it answered
-pub ran_if : {A B : Type 0} (out out' : LinkView A) (input input' : LinkView B) (last : Option Halves) (script : Script) (lanes : List Lane)
-    (result : Result SharedReport Error) → lanes ≡ script.lanes → IsNewHalf out → IsNewHalf input → last ≡ Some (halves_of out' input')
+pub ran_if : {A B : Type 0} (out out' : LinkView A) (input input' : LinkView B) (last : Option Halves) (script : Script)
+    (lanes : List Lane)
+    (result : Result SharedReport Error) → lanes ≡ script.lanes → IsNewHalf out → IsNewHalf input → last
+    ≡ Some (halves_of out' input')
     → IfOk result (λ report. RunsShared lanes script.options report)
-    → IfOk result (λ report. IsEnded (length lanes) (reverse report.journal.items)) → IfOk result (Ended out out' input input')
+    → IfOk result (λ report. IsEnded (length lanes) (reverse report.journal.items))
+    → IfOk result (Ended out out' input input')
     → IfOk result (λ report. HasRun A B last script report)
 ran_if out out' input input' last script lanes (Ok report) same fresh input_fresh back runs over ends =
     has_run out out' input input' last script lanes report same fresh input_fresh back runs over ends
@@ -103,32 +110,39 @@ pub on_err : {T E : Type 0} (result : Result T E) (P : Type 0) → P → OnErr r
 on_err (Ok x) P p = tt
 on_err (Err e) P p = p
 
-pub run_back : {A B : Type 0} (before last : Option Halves) (script : Script) (report : SharedReport) → HasRun A B last script report
+pub run_back : {A B : Type 0} (before last : Option Halves) (script : Script) (report : SharedReport)
+    → HasRun A B last script report
     → (last ≡ before) ⊎ HasBack A B last script
 run_back before last script report run = inr (inl (report, run))
 
-pub stop_back : {A B : Type 0} (before last : Option Halves) (script : Script) (e : Error) → HasStopped A B before last e
+pub stop_back : {A B : Type 0} (before last : Option Halves) (script : Script) (e : Error)
+    → HasStopped A B before last e
     → (last ≡ before) ⊎ HasBack A B last script
 stop_back before last script e (inl h) = inl h.1
 stop_back before last script e (inr h) = inr (inr (e, h))
 
 -- of a script that was read
 pub read_starves : (A B : Type 0) {T : Type 0} (before last : Option Halves) (bytes : List ℕ) (script : Script)
-    (result : Result T OutOfMemory) → script_of bytes ≡ Ok script → OnErr result ((last ≡ before) ⊎ HasBack A B last script)
-    → OnErr result (Starves A B (λ s. script_of bytes ≡ Ok s) before last)
+    (result : Result T OutOfMemory) → script_of bytes ≡ Ok script
+    → OnErr result ((last ≡ before) ⊎ HasBack A B last script)
+    → OnErr result (RunsOutOfMemory A B (λ s. script_of bytes ≡ Ok s) before last)
 read_starves A B before last bytes script (Ok x) e h = tt
 read_starves A B before last bytes script (Err why) e (inl same) = inl same
 read_starves A B before last bytes script (Err why) e (inr back) = inr (script, e, back)
 
 -- ---- its replay
 
-pub trace_none : (lanes : List Lane) (options : SftpOptions) (r : SharedReport) → RunsShared lanes options r → NoHello r.report.trace
+pub trace_none : (lanes : List Lane) (options : SftpOptions) (r : SharedReport) → RunsShared lanes options r
+    → NoHello r.report.trace
 trace_none lanes options r h =
-    subst NoHello (sym h.trace) (no_hello (setting_by h.now.lanes h.now.options h.now.version h.info) (entries h.now.log) h.run)
+    subst NoHello (sym h.trace) (no_hello (setting_by h.now.lanes h.now.options h.now.version h.info)
+    (entries h.now.log) h.run)
 
-pub serves : {A B : Type 0} (last : Option Halves) (script : Script) (r : SharedReport) → HasRun A B last script r → (machine : MachineState)
+pub serves : {A B : Type 0} (last : Option Halves) (script : Script) (r : SharedReport) → HasRun A B last script r
+    → (machine : MachineState)
     → replay_of script r.report.trace ≡ replay.Serves machine → machine.grants < MAX_HANDLES
-    → Serves script.server script.choices (first_tree script.files script.dirs) (reverse r.journal.items) machine.tree
+    → ServesJournal script.server script.choices (first_tree script.files script.dirs) (reverse r.journal.items)
+    machine.tree
 serves last script r h machine e few =
     let s = setting_by h.runs.now.lanes h.runs.now.options h.runs.now.version h.runs.info in
     let past = entries h.runs.now.log in
@@ -136,9 +150,11 @@ serves last script r h machine e few =
     serves_sent (machine_of script) script.choices s (reverse r.journal.items) machine refl refl
     (subst (IsJournal s) (sym h.runs.journal) h.runs.run) (ap (replay_of script) trace ∙ e) few h.over.answered
 
-pub is_shared : {A B : Type 0} (last : Option Halves) (script : Script) (r : SharedReport) (differs : Bool) (text : List ℕ)
+pub is_shared : {A B : Type 0} (last : Option Halves) (script : Script) (r : SharedReport) (differs : Bool)
+    (text : List ℕ)
     → HasRun A B last script r → differs ≡ differs_by (replay_of script r.report.trace)
-    → text ≡ report_text r.report ++ replay_text (replay_of script r.report.trace) → IsShared A B last script differs text
+    → text ≡ report_text r.report ++ replay_text (replay_of script r.report.trace)
+    → IsShared A B last script differs text
 is_shared last script r differs text h d t = record {
   report = r;
   run = h;
@@ -154,7 +170,10 @@ is_stopped before last e text (inl h) line =
     absurd (let none : Some line.0 ≡ None = sym line.1 ∙ ap error_name h.0 in cc)
 is_stopped before last e text (inr h) line = record { why = e; stops = h; is = line }
 
-pub stopped_right : {A B : Type 0} (before last : Option Halves) (script : Script) (e : Error) (differs : Bool) (says : Answered)
-    (text : List ℕ) → HasStopped A B before last e → says ≡ Stopped → IsErrorLine e text → RightFor A B last script differs says text
+pub stopped_right : {A B : Type 0} (before last : Option Halves) (script : Script) (e : Error) (differs : Bool)
+    (says : Answered)
+    (text : List ℕ) → HasStopped A B before last e → says ≡ Stopped → IsErrorLine e text
+    → RightFor A B last script differs says text
 stopped_right {A = A} {B = B} before last script e differs says text stopped is line =
-    subst (λ (a : Answered). RightFor A B last script differs a text) (sym is) (is_stopped before last e text stopped line)
+    subst (λ (a : Answered). RightFor A B last script differs a text) (sym is)
+    (is_stopped before last e text stopped line)

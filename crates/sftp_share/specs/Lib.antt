@@ -3,3 +3,5 @@ pub mod Ended
 pub mod DiffersRows
 pub mod Completed
 pub mod CompletedRows
+pub mod Replays
+pub mod ReplayRows

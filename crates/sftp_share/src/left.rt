@@ -1,11 +1,11 @@
-//! The files and directories that a machine has are written.
+//! Writes the files and directories that a machine has.
 ghost use Rattle.std.specs.Prelude.{◌≡◌, ◌++◌, OnOk};
 ghost use Rattle.machine_model.specs.Listing.{dir_at, file_at};
-ghost use Rattle.sftp_text.specs.Texts.{dir_lines, file_lines};
-ghost use Rattle.program_ends.specs.Texts.{dir_text_of, file_text_of};
+ghost use Rattle.script_text.specs.Texts.{dir_lines, file_lines};
+ghost use Rattle.program_shell.specs.Texts.{dir_text_of, file_text_of};
 
-use sftp_text::{write_dir, write_file};
-use share_replay::Machine;
+use crate::Machine;
+use script_text::{write_dir, write_file};
 use ssh_encoding::OutOfMemory;
 use std::alloc::Global;
 
@@ -24,8 +24,8 @@ fn write_file_at(
     }
 }
 
-/// Appends a line for each file, in the order of the written names by bytes. The error is want of memory.
-#[tactic(auto, using(program_ends::proofs::Files::file_step, program_ends::proofs::Files::files_end))]
+/// Appends a line for each file, sorted by the bytes of the written names. Fails only if an allocation fails.
+#[tactic(auto, using(program_shell::proofs::Files::file_step, program_shell::proofs::Files::files_end))]
 pub(crate) fn write_files(
     alloc: Global,
     machine: &Machine,
@@ -54,8 +54,8 @@ fn write_dir_at(
     }
 }
 
-/// Appends a line for each directory, in the order of the written names by bytes. The error is want of memory.
-#[tactic(auto, using(program_ends::proofs::Files::dir_step, program_ends::proofs::Files::dirs_end))]
+/// Appends a line for each directory, sorted by the bytes of the written names. Fails only if an allocation fails.
+#[tactic(auto, using(program_shell::proofs::Files::dir_step, program_shell::proofs::Files::dirs_end))]
 pub(crate) fn write_dirs(
     alloc: Global,
     machine: &Machine,

@@ -1,40 +1,55 @@
-//! The lanes of a script in threads over one session: one thread for each lane, one that sends and one that reads.
+//! Runs the lanes of a script in threads over one session: one thread for each lane, one that sends and one that reads.
 #![tactic(auto)]
 
 mod answer;
 mod ending;
 mod laws;
 mod left;
+mod outcome;
+mod replay_laws;
+#[cfg(test)]
+mod replay_tests;
 mod replayed;
 mod share;
 #[cfg(test)]
 mod tests;
 mod threads;
+mod trace;
 
 pub use laws::{a_difference_is_told, runs_are_complete, statuses_have_causes};
+pub use machine_answers::Machine;
+use machine_halves::MapPair;
+pub use outcome::Replay;
+pub use replay_laws::replays_serve;
+pub use script_grammar::Script;
+pub use session_model::Event;
 use sftp_link::{ReadSource, WriteSink};
+pub use sftp_model::{Reply, Request};
 pub use share::share;
-use shared_map::MapPair;
+pub use ssh_encoding::OutOfMemory;
 use std::env;
 use std::io::ErrorKind;
 use std::process::ExitCode;
+pub use trace::replay;
 
 fn main(rt: HostRuntime) -> ExitCode {
     let mut words = Vec::new(rt.alloc());
     let mut starved = false;
+    let mut unreadable = false;
     match env::args(&rt) {
         Ok(args) => {
             for word in args.skip(1) {
                 starved |= words.push(word).is_err();
             }
         }
-        // an argument that is no text is no word
-        Err(error) => starved = error.kind() == ErrorKind::OutOfMemory,
+        Err(error) if error.kind() == ErrorKind::OutOfMemory => starved = true,
+        // An argument that is not UTF-8 is refused.
+        Err(_) => unreadable = true,
     }
     let mut sink = WriteSink::new(rt.stdout());
     let status = if starved {
         ending::OUT_OF_MEMORY
-    } else if words.is_empty() {
+    } else if words.is_empty() && !unreadable {
         let mut source = ReadSource::new(rt.stdin());
         let mut pair = MapPair::new();
         share(&rt, rt.alloc(), &mut source, &mut sink, &mut pair)
@@ -42,7 +57,7 @@ fn main(rt: HostRuntime) -> ExitCode {
         answer::answer(&words, &mut sink)
     };
     if let Some(cause) = ending::cause_of(status) {
-        // where standard error fails too there is nobody to tell
+        // If standard error fails too, the message is lost.
         let _ = eprintln!(rt; "sftp_share: {cause}");
     }
     ExitCode::from(status)

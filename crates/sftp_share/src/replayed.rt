@@ -1,23 +1,23 @@
-//! The text of a run in threads, and of what its replay leaves.
+//! The text of a run in threads, and of the outcome of its replay.
 ghost use Rattle.std.specs.Prelude.{◌≡◌, ◌++◌, IfOk, OnOk, codes, true};
 ghost use Rattle.machine_model.specs.FirstTree.{may_begin};
 ghost use Rattle.sftp_model.specs.Frames.{reply_body};
-ghost use Rattle.sftp_text.specs.Texts.{fields_of, hex_word, reply_word};
-ghost use Rattle.sftp_wire.specs.Body.{Grows};
-ghost use Rattle.share_replay.specs.Replays.{NoHello, replay_of};
+ghost use Rattle.script_text.specs.Texts.{fields_of, hex_word, reply_word};
+ghost use Rattle.sftp_wire.specs.Body.{AppendsBytes};
+ghost use Rattle.sftp_share.specs.Replays.{NoHello, replay_of};
 ghost use Rattle.sftp_share.specs.Shared.{differs_by, differs_line, replay_text, reply_line, report_text};
 
 use crate::left::{write_dirs, write_files};
+use crate::{Replay, replay};
+use script_grammar::Script;
+use script_text::{put_bytes, put_number, put_word, write_text};
 use session_model::Report;
 use sftp_model::Reply;
-use sftp_script::Script;
-use sftp_text::{put_bytes, put_number, put_word, write_text};
 use sftp_wire::{Message, write_body};
-use share_replay::{Replay, replay};
 use ssh_encoding::OutOfMemory;
 use std::alloc::Global;
 
-/// The word of a reply.
+/// Returns the word of a reply.
 fn reply_word(reply: &Reply) -> &'static str
     ensures { result.now ≡ reply_word reply.now }
 {
@@ -32,11 +32,11 @@ fn reply_word(reply: &Reply) -> &'static str
     }
 }
 
-/// The fields of a reply, which stand after the type byte and the id.
+/// Appends the fields of a reply, which come after the type byte and the id.
 #[tactic(auto, using(sftp_wire::proofs::Puts::puts))]
 fn put_fields(alloc: Global, reply: &Reply, out: &mut Vec<u8>) -> Result<(), OutOfMemory>
     ensures ok { OnOk result (out.new.items ≡ out.old.items ++ hex_word (fields_of (reply_body reply.now 0))) }
-    ensures grows { Grows out.old.items out.new.items }
+    ensures grows { AppendsBytes out.old.items out.new.items }
 {
     let mut body = Vec::new(alloc);
     write_body(Message::Reply(reply), 0, &mut body)?;
@@ -46,11 +46,11 @@ fn put_fields(alloc: Global, reply: &Reply, out: &mut Vec<u8>) -> Result<(), Out
     }
 }
 
-/// The word and the fields of a reply, and a line feed.
+/// Appends the word and the fields of a reply, and a line feed.
 #[tactic(auto, using(sftp_wire::proofs::Puts::puts))]
 fn put_reply(alloc: Global, reply: &Reply, out: &mut Vec<u8>) -> Result<(), OutOfMemory>
     ensures ok { OnOk result (out.new.items ≡ out.old.items ++ reply_line reply.now) }
-    ensures grows { Grows out.old.items out.new.items }
+    ensures grows { AppendsBytes out.old.items out.new.items }
 {
     put_word(reply_word(reply), out)?;
     put_word(" ", out)?;
@@ -58,7 +58,7 @@ fn put_reply(alloc: Global, reply: &Reply, out: &mut Vec<u8>) -> Result<(), OutO
     put_word("\n", out)
 }
 
-/// The line that says at which request a replay differs, and what the machine replies to it.
+/// Appends the line that reports the request at which a replay differs, and the machine's reply to it.
 #[tactic(auto, using(sftp_wire::proofs::Puts::puts))]
 fn put_differs(
     alloc: Global,
@@ -67,7 +67,7 @@ fn put_differs(
     out: &mut Vec<u8>,
 ) -> Result<(), OutOfMemory>
     ensures ok { OnOk result (out.new.items ≡ out.old.items ++ differs_line place reply.now) }
-    ensures grows { Grows out.old.items out.new.items }
+    ensures grows { AppendsBytes out.old.items out.new.items }
 {
     put_word("differs ", out)?;
     put_number(place, out)?;
@@ -75,7 +75,7 @@ fn put_differs(
     put_reply(alloc, reply, out)
 }
 
-/// What a replay leaves: the machine's files and directories, or the line of the request at which it differs.
+/// Appends the text for a replay: the machine's files and directories, or the line of the request at which it differs.
 fn put_replay(alloc: Global, replay: &Replay, out: &mut Vec<u8>) -> Result<(), OutOfMemory>
     ensures { OnOk result (out.new.items ≡ out.old.items ++ replay_text replay.now) }
 {
@@ -88,7 +88,7 @@ fn put_replay(alloc: Global, replay: &Replay, out: &mut Vec<u8>) -> Result<(), O
     }
 }
 
-/// Whether a replay differs.
+/// Returns true if a replay differs.
 fn differs(replay: &Replay) -> bool
     ensures { result ≡ differs_by replay.now }
 {
@@ -98,7 +98,8 @@ fn differs(replay: &Replay) -> bool
     }
 }
 
-/// The text of a report, with what its replay leaves, and whether that differs. The error is want of memory.
+/// Returns the text of a report and of the outcome of its replay, and true if the replay differs. Fails only if an
+/// allocation fails.
 pub(crate) fn text_of_run(
     alloc: Global,
     script: &Script,

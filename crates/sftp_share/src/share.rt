@@ -1,32 +1,34 @@
-//! Does all that the program does with a script.
+//! The whole run of the program for a script.
 ghost use Rattle.std.specs.Prelude.{◌≡◌, ◌⊎◌, ◌<◌, ◌-◌, ◌^◌, IfOk, Ok, OnErr};
-ghost use Rattle.sftp_script.specs.CanRun.{CanRun};
-ghost use Rattle.sftp_script.specs.Scripts.{script_of};
+ghost use Rattle.script_grammar.specs.CanRun.{CanRun};
+ghost use Rattle.script_grammar.specs.Scripts.{script_of};
 ghost use Rattle.sftp_share.specs.Ended.{ShareEnds};
-ghost use Rattle.sftp_share.specs.Shared.{HasBack, RightFor, RightShared, Starves};
+ghost use Rattle.sftp_share.specs.Shared.{HasBack, RightFor, RightShared, RunsOutOfMemory};
 
 use crate::ending::share_status;
 use crate::replayed::text_of_run;
 use crate::threads::run_lanes;
-use program_ends::{Answered, Failure, Printed, read_bytes, refuse, stop_reply, write_answer};
+use machine_halves::Pair;
+use program_shell::{
+    Answered, Printed, ProgramFailure, read_bytes, refuse, stop_reply, write_answer,
+};
+use script_grammar::{Script, ScriptError, read_script};
 use sftp_link::{Sink, Source};
-use sftp_script::{Script, ScriptError, read_script};
-use shared_map::Pair;
 use ssh_encoding::OutOfMemory;
 use std::alloc::Global;
 use std::sync::Wait;
 use std::thread::Threads;
 use std::time::Clock;
 
-/// A text to write, what it says, and whether a replay differs.
+/// A text to write, its meaning, and a flag that is true if a replay differs.
 #[derive(Drop)]
 pub(crate) struct Replayed {
     pub(crate) printed: Printed,
     pub(crate) differs: bool,
 }
 
-/// The answer to a script: the text of the run of its lanes and of its replay, or the line of the error that stopped it. The error
-/// is want of memory: the pair is as before, or has the halves of the run back.
+/// Returns the answer to a script: the text of the run of its lanes and of its replay, or the line of the error that
+/// stopped it. Fails only if an allocation fails: the pair is unchanged, or has the halves of the run back.
 fn reply_to_script<P: Pair<R>, R: Threads + Wait + Clock + Sync>(
     rt: &R,
     alloc: Global,
@@ -60,8 +62,8 @@ fn reply_to_script<P: Pair<R>, R: Threads + Wait + Clock + Sync>(
     }
 }
 
-/// The answer to the bytes of a script. What is none is refused, and the pair is untouched. The error is want of memory, as of
-/// `reply_to_script`.
+/// Returns the answer to the bytes of a script. Bytes that are no script are refused, and the pair is untouched. Fails
+/// as `reply_to_script` does.
 fn reply_to<P: Pair<R>, R: Threads + Wait + Clock + Sync>(
     rt: &R,
     alloc: Global,
@@ -70,7 +72,7 @@ fn reply_to<P: Pair<R>, R: Threads + Wait + Clock + Sync>(
 ) -> Result<Replayed, OutOfMemory>
     ensures right { IfOk result (λ reply. RightShared (P.Out.LinkState.Service) (P.In.LinkState.Service) (P.last pair.old) (P.last pair.new)
         reply.differs (script_of bytes.now) reply.printed.answered reply.printed.text.items) }
-    ensures starved { OnErr result (Starves (P.Out.LinkState.Service) (P.In.LinkState.Service) (λ script. script_of bytes.now ≡ Ok script)
+    ensures starved { OnErr result (RunsOutOfMemory (P.Out.LinkState.Service) (P.In.LinkState.Service) (λ script. script_of bytes.now ≡ Ok script)
         (P.last pair.old) (P.last pair.new)) }
 {
     match read_script(alloc, bytes) {
@@ -86,16 +88,23 @@ fn reply_to<P: Pair<R>, R: Threads + Wait + Clock + Sync>(
     }
 }
 
-/// Reads a script to the end of the source, passes over its turns, and runs its lanes in threads over the halves that the pair
-/// gives of a server of the script's files and directories in memory, by its choices and picks; a thread for each lane, one
-/// that sends, and one that reads. The halves are put back, whatever came of the run. Then a machine answers the requests
-/// once more, one after another, and the text of the run is written with the machine's files and directories.
+/// Reads a script to the end of the source, and runs its lanes in threads. Its turns are ignored. The lanes run over
+/// the halves that the pair returns for a server of the script's files and directories in memory, with its choices and
+/// picks. There is a thread for each lane, one that sends, and one that reads. The halves are put back, whether or not
+/// the run succeeded. Then a machine answers the requests again, one after another, and the text of the run is written
+/// with the machine's files and directories.
 ///
-/// The status is 0 where the whole text was written; 1 where an error stopped the run and the line that names it was written; 2
-/// where the bytes are no script, and the line that says why was written; 3 where the source failed, 4 where the sink failed,
-/// and 5 where there was no memory: then a prefix of the text was written, or nothing. It is 7 where a reply that was taken is
-/// another than the machine's, and the whole text was written, whose last line tells the machine's in place of the files. With 5
-/// the pair is as before, or has the halves back of a run of the script that the source gave.
+/// The status is:
+///
+/// - 0: the whole text was written.
+/// - 1: an error stopped the run, and the line that names it was written.
+/// - 2: the bytes are no script, and the line with the reason was written.
+/// - 3: the source failed.
+/// - 4: the sink failed; a prefix of the text was written, or nothing.
+/// - 5: an allocation failed; a prefix of the text was written, or nothing. The pair is unchanged, or has the halves
+///   back after a run of the script from the source.
+/// - 7: a reply that was taken is not the machine's, and the whole text was written. Its last line shows the machine's
+///   reply in place of the files.
 pub fn share<S: Source, K: Sink, P: Pair<R>, R: Threads + Wait + Clock + Sync>(
     rt: &R,
     alloc: Global,
@@ -117,6 +126,6 @@ pub fn share<S: Source, K: Sink, P: Pair<R>, R: Threads + Wait + Clock + Sync>(
             let end = write_answer(sink, printed.answered, &printed.text);
             share_status(differs, end)
         }
-        Err(OutOfMemory) => share_status(false, Err(Failure::OutOfMemory)),
+        Err(OutOfMemory) => share_status(false, Err(ProgramFailure::OutOfMemory)),
     }
 }

@@ -1,4 +1,5 @@
-//! Runs over halves that bring other replies than the server in memory, bring them later, or have no memory.
+//! Tests of runs over halves whose replies differ from those of the server in memory, are held back, or that are out of
+//! memory.
 mod held_back;
 mod other_replies;
 mod starved;

@@ -1,20 +1,21 @@
-//! The lanes of a script are run in threads over the two halves of its server.
+//! Runs the lanes of a script in threads over the two halves of its server.
 ghost use Rattle.std.specs.Prelude.{◌≡◌, IfErr, IfOk, OnOk, true};
-ghost use Rattle.sftp_script.specs.CanRun.{CanRun};
-ghost use Rattle.shared_map.specs.Halves.{IsNewHalf};
+ghost use Rattle.script_grammar.specs.CanRun.{CanRun};
+ghost use Rattle.machine_halves.specs.Halves.{IsNewHalf};
 ghost use Rattle.sftp_share.specs.Shared.{HasRun, HasStopped, StoppedOver};
 
-use program_ends::new_server_of;
-use sftp_script::Script;
+use machine_halves::Pair;
+use program_shell::new_server_of;
+use script_grammar::Script;
+use session_threads::run_shared;
 use sftp_tasks::{Error, SharedReport};
-use shared_map::Pair;
 use std::alloc::Global;
 use std::sync::Wait;
 use std::thread::Threads;
 use std::time::Clock;
-use tasks_run::run_shared;
 
-/// Runs the lanes of a script over two halves, and gives these back to the pair, whatever came of the run. Errors as of `run_shared`.
+/// Runs the lanes of a script over two halves, and returns these to the pair, whether or not the run succeeded. The
+/// errors are those of `run_shared`.
 fn run_over<P: Pair<R>, R: Threads + Wait + Clock + Sync>(
     rt: &R,
     alloc: Global,
@@ -34,8 +35,9 @@ fn run_over<P: Pair<R>, R: Threads + Wait + Clock + Sync>(
     result
 }
 
-/// Runs the lanes of a script over the halves that a pair gives of the script's server, and gives these back to the pair,
-/// whatever came of the run. Errors as of `run_shared`; where memory was wanting for the server or its halves the pair is as before.
+/// Runs the lanes of a script over the halves that a pair returns for the script's server, and returns these to the
+/// pair, whether or not the run succeeded. The errors are those of `run_shared`. If an allocation fails for the server
+/// or its halves, the pair is unchanged.
 pub(crate) fn run_lanes<P: Pair<R>, R: Threads + Wait + Clock + Sync>(
     rt: &R,
     alloc: Global,

@@ -2,14 +2,15 @@
 use Rattle.std.proofs.Common.{◌≡◌, ◌<◌, inl, inr, ℕ, zero, suc, ◌-◌, [], length, refl, sym, ap, ◌∙◌, subst, arith, None, IsSome}
 use Rattle.sftp_core.specs.Core.{Core}
 use Rattle.sftp_core.specs.Info.{info_of}
-use Rattle.call_state.proofs.Keeping.{submitted_holds, submitted_keeps}
+use Rattle.plan_state.proofs.Keeping.{submitted_holds, submitted_keeps}
 use Rattle.sftp_streams.specs.declared.parts.Unasked.{Unasked}
 use Rattle.sftp_streams.specs.declared.parts.Unasked.TheVariants as unasked
 use Rattle.sftp_streams.specs.Parts.{IsUnasked, KeepsOthersHeld}
 use Rattle.sftp_streams.specs.Downloads.{AsksFirst, AsksLast, AsksMany, AsksMore, DownloadValue, FillsWindow, IsFilled, MayRead, content_kind}
 use Rattle.sftp_streams.proofs.PartLaws.{apart_from, fault_queued, keeps_parts, last_awaited, last_count, last_len, others_same, others_submitted, others_then}
 
-opened_still : (core after : Core) → KeepsOthersHeld [] core after → IsSome (info_of core.phase) → IsSome (info_of after.phase)
+opened_still : (core after : Core) → KeepsOthersHeld [] core after → IsSome (info_of core.phase)
+    → IsSome (info_of after.phase)
 opened_still core after others opened = subst (λ p. IsSome (info_of p)) (sym others.phase) opened
 
 -- one part more behind the others
@@ -27,8 +28,10 @@ asked_last core after d new may none less asks =
       over = may.over;
       opened = opened_still core after (others_submitted core after _ t s) may.opened;
       held = record {
-        parts = last_awaited content_kind after t asks.len d.parts (keeps_parts content_kind core after d.parts (submitted_keeps core after _ t s) held.parts)
-            (apart_from content_kind core t d.parts s.free held.parts) (submitted_holds core after _ t _ s refl) asks.some;
+        parts = last_awaited content_kind after t asks.len d.parts
+            (keeps_parts content_kind core after d.parts (submitted_keeps core after _ t s) held.parts)
+            (apart_from content_kind core t d.parts s.free held.parts) (submitted_holds core after _ t _ s refl)
+            asks.some;
         next = omega (arith, sum, next);
         small = small;
         few = omega (arith, many, less);
@@ -39,7 +42,8 @@ asked_last core after d new may none less asks =
     })
 
 -- the rest of the first part before the others
-pub asked_first : (core after : Core) (d new : DownloadValue) → MayRead core d → 0 < d.rest → AsksFirst core d after new → MayRead after new
+pub asked_first : (core after : Core) (d new : DownloadValue) → MayRead core d → 0 < d.rest → AsksFirst core d after new
+    → MayRead after new
 asked_first core after d new may some asks =
     let held = may.held in
     let t = asks.ticket in
@@ -70,9 +74,15 @@ asked_first core after d new may some asks =
 -- so many, and one more
 many_then : (n : ℕ) (core mid after : Core) (old d new : DownloadValue) → AsksMany n core old mid d
     → AsksLast mid d after new → AsksMany (suc n) core old after new
-many_then zero core mid after old d new (same, is) last =
-    (after, new, subst (λ (x : Core). AsksLast x old after new) same (subst (λ (x : DownloadValue). AsksLast mid x after new) is last), (refl, refl))
-many_then (suc n) core mid after old d new (c, x, first, more) last = (c, x, first, many_then n c mid after x d new more last)
+many_then zero core mid after old d new (same, is) last = (
+  after,
+  new,
+  subst (λ (x : Core). AsksLast x old after new) same
+      (subst (λ (x : DownloadValue). AsksLast mid x after new) is last),
+  (refl, refl),
+)
+many_then (suc n) core mid after old d new (c, x, first, more) last =
+    (c, x, first, many_then n c mid after x d new more last)
 
 pub record Filling (first : Core) (old : DownloadValue) (core : Core) (d : DownloadValue) : Type 0 where
   pub none : d.rest ≡ 0
@@ -108,15 +118,23 @@ unasked_then first core (unasked.Failed fault) same u = sym same ∙ u
 
 -- ---- what asking leaves
 
-many_stands : (n : ℕ) (core after : Core) (d new : DownloadValue) → AsksMany n core d after new → (new.offset ≡ d.offset) × (new.ended ≡ d.ended)
-many_stands zero core after d new (same, is) = (ap (λ (x : DownloadValue). x.offset) is, ap (λ (x : DownloadValue). x.ended) is)
+many_stands : (n : ℕ) (core after : Core) (d new : DownloadValue) → AsksMany n core d after new
+    → (new.offset ≡ d.offset) × (new.ended ≡ d.ended)
+many_stands zero core after d new (same, is) = (
+  ap (λ (x : DownloadValue). x.offset) is,
+  ap (λ (x : DownloadValue). x.ended) is,
+)
 many_stands (suc n) core after d new (c, x, first, more) =
     let below = many_stands n c after x new more in
     (below.0 ∙ ap (λ (y : DownloadValue). y.offset) first.now, below.1 ∙ ap (λ (y : DownloadValue). y.ended) first.now)
 
-pub stands : (core after : Core) (d new : DownloadValue) → FillsWindow core d after new → (new.offset ≡ d.offset) × (new.ended ≡ d.ended)
+pub stands : (core after : Core) (d new : DownloadValue) → FillsWindow core d after new → (new.offset ≡ d.offset)
+    × (new.ended ≡ d.ended)
 stands core after d new (inl (none, more)) = many_stands more.0 core after d new more.1
-stands core after d new (inr (inl (same, is))) = (ap (λ (x : DownloadValue). x.offset) is, ap (λ (x : DownloadValue). x.ended) is)
+stands core after d new (inr (inl (same, is))) = (
+  ap (λ (x : DownloadValue). x.offset) is,
+  ap (λ (x : DownloadValue). x.ended) is,
+)
 stands core after d new (inr (inr (c, x, first, more))) =
     let below = many_stands more.0 c after x new more.1 in
     (below.0 ∙ ap (λ (y : DownloadValue). y.offset) first.now, below.1 ∙ ap (λ (y : DownloadValue). y.ended) first.now)
@@ -124,25 +142,32 @@ stands core after d new (inr (inr (c, x, first, more))) =
 -- where a part is under way none was asked for, or no fault was kept
 many_unfailed : (n : ℕ) (core after : Core) (d new : DownloadValue) → AsksMany n core d after new
     → (0 < length d.parts → core.fault ≡ None) → 0 < length new.parts → core.fault ≡ None
-many_unfailed zero core after d new (same, is) here some = here (subst (λ (x : DownloadValue). 0 < length x.parts) is some)
+many_unfailed zero core after d new (same, is) here some = here
+    (subst (λ (x : DownloadValue). 0 < length x.parts) is some)
 many_unfailed (suc n) core after d new (c, x, first, more) here some = first.submitted.unfailed
 
 pub unfailed : (core after : Core) (d new : DownloadValue) → FillsWindow core d after new → IsFilled new
     → (d.rest ≡ 0 → 0 < length d.parts → core.fault ≡ None) → 0 < length new.parts → core.fault ≡ None
-unfailed core after d new (inl (none, more)) full here some = many_unfailed more.0 core after d new more.1 (here none) some
+unfailed core after d new (inl (none, more)) full here some =
+    many_unfailed more.0 core after d new more.1 (here none) some
 unfailed core after d new (inr (inl (same, is))) full here some =
-    here (ap (λ (x : DownloadValue). x.rest) (sym is) ∙ full.0) (subst (λ (x : DownloadValue). 0 < length x.parts) is some)
+    here (ap (λ (x : DownloadValue). x.rest) (sym is) ∙ full.0)
+    (subst (λ (x : DownloadValue). 0 < length x.parts) is some)
 unfailed core after d new (inr (inr (c, x, first, more))) full here some = first.submitted.unfailed
 
 -- what others hold stays
-others_many : (n : ℕ) (core after : Core) (d new : DownloadValue) → AsksMany n core d after new → KeepsOthersHeld [] core after
-others_many zero core after d new (same, is) = subst (λ (x : Core). KeepsOthersHeld [] core x) (sym same) (others_same [] core)
+others_many : (n : ℕ) (core after : Core) (d new : DownloadValue) → AsksMany n core d after new
+    → KeepsOthersHeld [] core after
+others_many zero core after d new (same, is) = subst (λ (x : Core). KeepsOthersHeld [] core x) (sym same)
+    (others_same [] core)
 others_many (suc n) core after d new (c, x, first, more) = others_then core c after
     (others_submitted core c _ first.ticket first.submitted) (others_many n c after x new more)
 
-pub others_filled : (core after : Core) (d new : DownloadValue) → FillsWindow core d after new → KeepsOthersHeld [] core after
+pub others_filled : (core after : Core) (d new : DownloadValue) → FillsWindow core d after new
+    → KeepsOthersHeld [] core after
 others_filled core after d new (inl (none, more)) = others_many more.0 core after d new more.1
-others_filled core after d new (inr (inl (same, is))) = subst (λ (x : Core). KeepsOthersHeld [] core x) (sym same) (others_same [] core)
+others_filled core after d new (inr (inl (same, is))) = subst (λ (x : Core). KeepsOthersHeld [] core x) (sym same)
+    (others_same [] core)
 others_filled core after d new (inr (inr (c, x, first, more))) =
     others_then core c after (others_submitted core c _ first.ticket first.submitted)
     (others_many more.0 c after x new more.1)

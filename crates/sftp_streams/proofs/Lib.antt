@@ -1,9 +1,9 @@
-pub mod StreamLaws
-pub mod OneFile
+mod StreamLaws
+mod OneFile
 pub mod PartLaws
-pub mod CancelLaws
-pub mod Taking
-pub mod AskLaws
-pub mod PollLaws
-pub mod PushLaws
-pub mod StatusLaws
+mod CancelLaws
+mod Taking
+mod AskLaws
+mod PollLaws
+mod PushLaws
+mod StatusLaws

@@ -5,9 +5,9 @@ use Rattle.std.proofs.lemmas.List.{append-nil}
 use Rattle.sftp_model.specs.Numbers.{MAX_TRANSFER_LEN}
 use Rattle.sftp_model.specs.Frames.{is_too_long}
 use Rattle.sftp_core.specs.Core.{Core, write_of}
-use Rattle.call_state.proofs.Keeping.{submitted_holds, submitted_keeps}
-use Rattle.call_state.specs.Asked.{Submitted}
-use Rattle.call_state.specs.declared.asking.Asking.TheVariants as asking
+use Rattle.plan_state.proofs.Keeping.{submitted_holds, submitted_keeps}
+use Rattle.plan_state.specs.Asked.{SubmitsAsking}
+use Rattle.plan_state.specs.declared.asking.Asking.TheVariants as asking
 use Rattle.sftp_file.proofs.BodyLens.{write_is_short}
 use Rattle.sftp_streams.specs.Uploads.{AsksWrite, MayPush, MayWrite, UploadValue, room_of, status_kind}
 use Rattle.sftp_streams.proofs.PartLaws.{apart_from, keeps_parts, last_awaited, last_count, last_len}
@@ -35,8 +35,9 @@ has_room u bytes some fits = by_test (nat_le u.window (length u.parts)) refl
         (grind (arith, nat_tests, e), (omega (arith, few), omega (arith, few)))
 
 pub pushed : (core after : Core) (u new : UploadValue) (bytes : List ℕ) (t : ℕ) → MayPush core u bytes
-    → Submitted core (asking.Parts u.handle u.next (bytes ∷ [])) t after
-    → new ≡ record u { next = u.next + length bytes; parts = u.parts ++ record { ticket = t; len = length bytes } ∷ [] } → AsksWrite core u bytes after new
+    → SubmitsAsking core (asking.Parts u.handle u.next (bytes ∷ [])) t after
+    → new ≡ record u { next = u.next + length bytes; parts = u.parts ++ record { ticket = t; len = length bytes } ∷ [] }
+    → AsksWrite core u bytes after new
 pushed core after u new bytes t may s now =
     let held = may.may.held in
     let room = has_room u bytes may.some may.fits in
@@ -56,7 +57,8 @@ pushed core after u new bytes t may s now =
         held = record {
           parts = last_awaited status_kind after t (length bytes) u.parts
               (keeps_parts status_kind core after u.parts (submitted_keeps core after _ t s) held.parts)
-              (apart_from status_kind core t u.parts s.free held.parts) (submitted_holds core after _ t _ s refl) may.some;
+              (apart_from status_kind core t u.parts s.free held.parts) (submitted_holds core after _ t _ s refl)
+              may.some;
           next = omega (arith, sum, next);
           small = omega (arith, ends, some, small);
           few = omega (arith, many, less);

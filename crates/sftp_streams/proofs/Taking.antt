@@ -1,6 +1,6 @@
 -- What a core tells of a part.
 use Rattle.std.proofs.Common.{◌≡◌, ℕ, List, true, false, ◌∙◌, subst, Ok, Err, Some, None}
-use Rattle.sftp_model.specs.Answers.{allows}
+use Rattle.sftp_model.specs.Answers.{allows_reply}
 use Rattle.sftp_model.specs.declared.answers.Expected.{Expected}
 use Rattle.sftp_model.specs.declared.answers.Expected.TheVariants as expected
 use Rattle.sftp_model.specs.declared.error.Fault.{Fault}
@@ -11,15 +11,16 @@ use Rattle.sftp_model.specs.declared.request.Request.{Request}
 use Rattle.sftp_core.specs.declared.errors.SubmitError.{SubmitError}
 use Rattle.sftp_core.specs.declared.errors.SubmitError.TheVariants as submit
 use Rattle.sftp_model.specs.Frames.{is_too_long}
-use Rattle.sftp_core.specs.Core.{Core, IsSubmitError, after_poll, at, polled_with, refusal_of, submit_refusal}
+use Rattle.sftp_core.specs.Core.{Core, IsSubmitError, after_poll, record_at, polled_with, refusal_of, submit_refusal}
 use Rattle.sftp_core.specs.Grant.{GrantValue}
 use Rattle.sftp_core.specs.Table.{IsAllowed, asks_handle}
 use Rattle.sftp_core.specs.declared.tokens.Polled.TheVariants as polled
-use Rattle.call_state.proofs.Polling.{came_grant, came_reply, failed_by, missed_by}
+use Rattle.plan_state.proofs.Polling.{came_grant, came_reply, failed_by, missed_by}
 use Rattle.sftp_streams.specs.Parts.{AwaitsPlain, IsAnswer}
 use Rattle.sftp_streams.specs.declared.parts.Answer.TheVariants as answer
 
-no_handle : (kind : Expected) (handle : List ℕ) → asks_handle kind ≡ false → allows kind (reply.Handle handle) ≡ true → ⊥
+no_handle : (kind : Expected) (handle : List ℕ) → asks_handle kind ≡ false → allows_reply kind (reply.Handle handle)
+    ≡ true → ⊥
 no_handle expected.Version handle plain e = cc
 no_handle expected.Handle handle plain e = cc
 no_handle (expected.Content len) handle plain e = cc
@@ -29,13 +30,16 @@ no_handle expected.Attrs handle plain e = cc
 no_handle expected.Limits handle plain e = cc
 no_handle expected.Status handle plain e = cc
 
-pub never_granted : (core : Core) (t : ℕ) (g : GrantValue) → AwaitsPlain core t → IsAllowed (at core t) → polled_with core t ≡ Ok (polled.Granted g) → ⊥
+pub never_granted : (core : Core) (t : ℕ) (g : GrantValue) → AwaitsPlain core t → IsAllowed (record_at core t)
+    → polled_with core t ≡ Ok (polled.Granted g) → ⊥
 never_granted core t g a allowed gave =
     no_handle a.kind g.handle a.plain ((came_grant core t g allowed gave).allowed a.kind a.holds.expects)
 
-pub came : (core after : Core) (t : ℕ) (r : Reply) → IsAllowed (at core t) → polled_with core t ≡ Ok (polled.Reply r)
+pub came : (core after : Core) (t : ℕ) (r : Reply) → IsAllowed (record_at core t) → polled_with core t
+    ≡ Ok (polled.Reply r)
     → after ≡ after_poll core t → IsAnswer core after t (answer.Came r)
-came core after t r allowed gave to = (let c = came_reply core t r allowed gave in (record { taken = c.taken; allowed = c.allowed }, to))
+came core after t r allowed gave to = (let c = came_reply core t r allowed gave in
+    (record { taken = c.taken; allowed = c.allowed }, to))
 
 pub failed : (core after : Core) (t : ℕ) (f : Fault) → polled_with core t ≡ Ok (polled.Failed f) → after
     ≡ after_poll core t → IsAnswer core after t (answer.Failed f)

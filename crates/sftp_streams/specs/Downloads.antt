@@ -1,4 +1,4 @@
--- A download as its user sees it, and what a poll makes of it.
+-- A download as its user sees it, and the effect of a poll on it.
 use Rattle.std.specs.Prelude.{
   ◌≡◌,
   ◌≤◌,
@@ -34,20 +34,20 @@ use Rattle.sftp_model.specs.declared.error.IoKind.TheVariants.{NotReadable, Offs
 use Rattle.sftp_model.specs.declared.reply.Reply.{Reply}
 use Rattle.sftp_model.specs.declared.reply.Reply.TheVariants as reply
 use Rattle.sftp_model.specs.declared.request.Request.TheVariants as request
-use Rattle.sftp_core.specs.Core.{Core, at, reply_in}
+use Rattle.sftp_core.specs.Core.{Core, record_at, reply_in}
 use Rattle.sftp_core.specs.Info.{info_of}
-use Rattle.call_state.specs.Asked.{Submitted}
-use Rattle.call_state.specs.declared.asking.Asking.TheVariants as asking
-use Rattle.call_state.specs.declared.poll.Poll.{Poll}
-use Rattle.call_state.specs.declared.poll.Poll.TheVariants as poll
+use Rattle.plan_state.specs.Asked.{SubmitsAsking}
+use Rattle.plan_state.specs.declared.asking.Asking.TheVariants as asking
+use Rattle.plan_state.specs.declared.poll.Poll.{Poll}
+use Rattle.plan_state.specs.declared.poll.Poll.TheVariants as poll
 use Rattle.sftp_file.specs.Files.{FileValue, facts_of}
 use Rattle.sftp_file.specs.Outcomes.{read_answer}
 use Rattle.sftp_streams.specs.declared.parts.Part.{Part}
 use Rattle.sftp_streams.specs.Parts.{AreAwaited, KeepsOthersHeld, KindOf, after_first, parts_len}
 
--- the file's handle, the most bytes of one READ and the most READs under way; the offset of the first byte that was not
--- handed out, how many bytes from there are to be asked for again, where the next new part begins, the parts under way
--- in order, and whether nothing more comes
+-- A download: the file's handle, the most bytes of one READ and the most READs under way. Then the offset of the first
+-- byte that was not returned, how many bytes from there are to be asked for again, the offset at which the next new
+-- part begins, the parts under way in order, and whether nothing more comes.
 pub record DownloadValue : Type 0 where
   pub handle : List ℕ
   pub read_len : ℕ
@@ -58,9 +58,9 @@ pub record DownloadValue : Type 0 where
   pub parts : List Part
   pub ended : Bool
 
--- nothing was asked for
-abbrev pub starting : List ℕ → ℕ → ℕ → ℕ → DownloadValue
-starting handle offset read_len window =
+-- A download that has asked for nothing.
+abbrev pub fresh_download : List ℕ → ℕ → ℕ → ℕ → DownloadValue
+fresh_download handle offset read_len window =
     record {
       handle = handle;
       read_len = read_len;
@@ -72,19 +72,19 @@ starting handle offset read_len window =
       ended = false;
     }
 
--- a download of a file that may be read, from its offset on
+-- The result of starting a download, from the offset of a file that may be read.
 abbrev pub BeginsDownload : Core → FileValue → ℕ → Result DownloadValue Error → Type 0
 BeginsDownload core file window (Ok d) = (file.readable ≡ true)
-    × (d ≡ starting file.grant.handle file.offset (facts_of core).read_len window)
+    × (d ≡ fresh_download file.grant.handle file.offset (facts_of core).read_len window)
 BeginsDownload core file window (Err e) = (file.readable ≡ false) × (e ≡ error.IOError NotReadable)
 
--- ---- what it holds
+-- ---- State
 
--- a part is answered by a DATA of as many bytes at most, or a refusal
+-- A part is answered by a DATA of at most as many bytes, or by a refusal.
 abbrev pub content_kind : KindOf
 content_kind part = expected.Content part.len
 
--- The parts stand without a gap from the first byte that was not handed out.
+-- The parts follow without a gap from the first byte that was not returned.
 pub record IsReading (core : Core) (d : DownloadValue) : Type 0 where
   pub parts : AreAwaited content_kind core d.parts
   pub next : d.offset + d.rest + parts_len d.parts ≡ d.next
@@ -94,16 +94,16 @@ pub record IsReading (core : Core) (d : DownloadValue) : Type 0 where
   pub some : 0 < d.read_len
   pub wide : 1 ≤ d.window
 
--- a download can be polled
+-- A download can be polled.
 pub record MayRead (core : Core) (d : DownloadValue) : Type 0 where
   pub over : d.ended ≡ false
   pub opened : IsSome (info_of core.phase)
   pub held : IsReading core d
 
--- ---- what it does with a reply
+-- ---- Effects of a reply
 
--- the first part asked for this many bytes, and this is its reply: bytes move the offset, and what they leave is to be
--- asked for again
+-- The effect of this reply to the first part, which asked for this many bytes: bytes move the offset, and the missing
+-- rest is to be asked for again.
 abbrev pub IsHandedOut : DownloadValue → ℕ → Reply → DownloadValue → Result (Option (List ℕ)) Error → Type 0
 IsHandedOut old len (reply.Content bytes) new result = (result ≡ Ok (Some bytes))
     × (new ≡ record old { offset = old.offset + length bytes; rest = len - length bytes })
@@ -111,25 +111,25 @@ IsHandedOut old len (reply.Status code message language) new result = (result �
     × (new ≡ record old { ended = true })
 IsHandedOut old len other new result = ⊥
 
--- ---- what it asks for
+-- ---- Requests
 
--- the rest of the first part
+-- The rest of the first part is asked for.
 pub record AsksFirst (core : Core) (old : DownloadValue) (after : Core) (new : DownloadValue) : Type 0 where
   pub ticket : ℕ
-  pub submitted : Submitted core (asking.Whole (request.Read old.handle old.offset old.rest)) ticket after
+  pub submitted : SubmitsAsking core (asking.Whole (request.Read old.handle old.offset old.rest)) ticket after
   pub now : new ≡ record old { rest = 0; parts = record { ticket = ticket; len = old.rest } ∷ old.parts }
 
--- one part more behind the others
+-- Another part is asked for after the others.
 pub record AsksLast (core : Core) (old : DownloadValue) (after : Core) (new : DownloadValue) : Type 0 where
   pub ticket : ℕ
   pub len : ℕ
   pub some : 0 < len
   pub most : len ≤ old.read_len
-  pub submitted : Submitted core (asking.Whole (request.Read old.handle old.next len)) ticket after
+  pub submitted : SubmitsAsking core (asking.Whole (request.Read old.handle old.next len)) ticket after
   pub now : new ≡ record old { next = old.next + len; parts = old.parts ++ record { ticket = ticket; len = len } ∷ [] }
   pub small : old.next + len < 2 ^ 64
 
--- so many parts more, one after another
+-- This many further parts are asked for, one after another.
 abbrev pub AsksMany : ℕ → Core → DownloadValue → Core → DownloadValue → Type 0
 AsksMany zero core old after new = (after ≡ core) × (new ≡ old)
 AsksMany (suc n) core old after new = (mid : Core) × (d : DownloadValue) × AsksLast core old mid d
@@ -138,27 +138,27 @@ AsksMany (suc n) core old after new = (mid : Core) × (d : DownloadValue) × Ask
 abbrev pub AsksMore : Core → DownloadValue → Core → DownloadValue → Type 0
 AsksMore core old after new = (n : ℕ) × AsksMany n core old after new
 
--- what a short reply left, where there is such, and then parts behind the others
+-- The rest of a short reply is asked for, if there is any, and then parts after the others.
 abbrev pub FillsWindow : Core → DownloadValue → Core → DownloadValue → Type 0
 FillsWindow core old after new = ((old.rest ≡ 0) × AsksMore core old after new)
     ⊎ ((after ≡ core) × (new ≡ old))
     ⊎ ((mid : Core) × (d : DownloadValue) × AsksFirst core old mid d × AsksMore mid d after new)
 
--- nothing more may be asked for: the window is full, or the greatest offset is reached
+-- Nothing more may be asked for: the window is full, or the greatest offset is reached.
 abbrev pub IsFilled : DownloadValue → Type 0
 IsFilled d = (d.rest ≡ 0) × ((d.window ≤ length d.parts) ⊎ (d.next ≡ 2 ^ 64 - 1))
 
--- ---- a poll
+-- ---- Polls
 
--- the reply to the READ at the first byte that was not handed out
+-- The reply to the READ at the first byte that was not returned.
 abbrev pub first_reply : Core → DownloadValue → Option Reply
 first_reply core d = of_parts d.rest d.parts
   where
     of_parts : ℕ → List Part → Option Reply
-    of_parts zero (part ∷ later) = reply_in (at core part.ticket)
+    of_parts zero (part ∷ later) = reply_in (record_at core part.ticket)
     of_parts rest parts = None
 
--- it was not taken, and where its READ is under way no fault is kept
+-- That reply was not taken, and if its READ is under way the core has recorded no fault.
 pub record IsMissing (core : Core) (d : DownloadValue) : Type 0 where
   pub reply : first_reply core d ≡ None
   pub unfailed : d.rest ≡ 0 → 0 < length d.parts → core.fault ≡ None
@@ -167,8 +167,8 @@ abbrev pub IsEnd : Option Reply → Type 0
 IsEnd None = ⊥
 IsEnd (Some r) = is_end_of_file r ≡ true
 
--- What a poll answers, by that reply: its bytes are handed out, an EOF ends the download, and another status refuses
--- it. Where it is missing, READs were asked for; for want of memory the poll may be made again.
+-- The result of a poll, by that reply: its bytes are returned, an EOF ends the download, and another status refuses it.
+-- If it is missing, READs were asked for. After running out of memory the poll may be repeated.
 abbrev pub GivesFirst : Core → Core → DownloadValue → DownloadValue → Poll (Result (Option (List ℕ)) Error) → Type 0
 GivesFirst core after old new (poll.Ready (Ok (Some bytes))) = (first_reply core old ≡ Some (reply.Content bytes))
     × (0 < length bytes)
@@ -206,8 +206,8 @@ GivesFirst core after old new poll.Pending = (first_reply core old ≡ None)
     × IsFilled new
     × (0 < length new.parts)
 
--- What a poll did: it may be polled on where it has not ended, and given up in any case; what others hold of the core
--- stays.
+-- The effect of a poll: the download may be polled further if it has not ended, and given up in any case. What others
+-- hold of the core stays.
 pub record PollsDownload (core after : Core) (old new : DownloadValue) (result : Poll (Result (Option (List ℕ)) Error))
     : Type 0
   where

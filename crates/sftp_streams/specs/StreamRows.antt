@@ -1,17 +1,17 @@
--- Worked examples of what a download has handed out. Its READs ask for four bytes each.
+-- Worked examples of the bytes that a download has returned. Its READs ask for four bytes each.
 use Rattle.std.specs.Prelude.{◌≡◌, ℕ, ◌==◌, List, [], ◌∷◌, codes, Some, None, if◌then◌else◌, refl}
 use Rattle.sftp_model.specs.Answers.{status}
 use Rattle.sftp_model.specs.declared.reply.Reply.{Reply}
 use Rattle.sftp_model.specs.declared.reply.Reply.TheVariants as reply
-use Rattle.sftp_streams.specs.Streams.{PiecesAt, data_of, unbroken}
+use Rattle.sftp_streams.specs.Streams.{PiecesAt, data_of, unbroken_run}
 
--- the replies to the READs at these offsets
+-- The replies to the READs at these offsets.
 abbrev answered : List (ℕ × Reply) → PiecesAt
 answered [] offset = None
 answered (r ∷ later) offset = if r.0 == offset then data_of (Some r.1) else answered later offset
 
 abbrev handed : ℕ → List (ℕ × Reply) → List ℕ
-handed first replies = unbroken 8 (answered replies) first
+handed first replies = unbroken_run 8 (answered replies) first
 
 abbrev got : ℕ → List ℕ → ℕ × Reply
 got offset bytes = (offset, reply.Content bytes)
@@ -19,7 +19,7 @@ got offset bytes = (offset, reply.Content bytes)
 abbrev ended : ℕ → ℕ × Reply
 ended offset = (offset, status 1)
 
--- ---- in order
+-- ---- In order
 
 pub none : handed 0 [] ≡ []
 none = refl
@@ -30,7 +30,7 @@ first = refl
 pub in_order : handed 0 (got 0 (codes "abcd") ∷ got 4 (codes "efgh") ∷ ended 8 ∷ []) ≡ codes "abcdefgh"
 in_order = refl
 
--- ---- out of order: what came early is not in it until what stands before it came
+-- ---- Out of order: early bytes are not included until those before them came
 
 pub early : handed 0 (got 4 (codes "efgh") ∷ got 8 (codes "ij") ∷ []) ≡ []
 early = refl
@@ -42,7 +42,7 @@ pub gap_filled : handed 0 (got 8 (codes "ij") ∷ got 0 (codes "abcd") ∷ got 4
     ≡ codes "abcdefghij"
 gap_filled = refl
 
--- ---- a short reply: what stands behind it is not in it until the rest came
+-- ---- A short reply: the bytes after it are not included until the rest came
 
 pub short : handed 0 (got 0 (codes "ab") ∷ got 4 (codes "efgh") ∷ []) ≡ codes "ab"
 short = refl
@@ -53,7 +53,7 @@ rest_came = refl
 pub byte_by_byte : handed 0 (got 0 (codes "a") ∷ got 1 (codes "b") ∷ got 2 (codes "c") ∷ ended 3 ∷ []) ≡ codes "abc"
 byte_by_byte = refl
 
--- ---- an end, or a refusal, before bytes that came: they are not in it
+-- ---- An end, or a refusal, before bytes that came: they are not included
 
 pub early_end : handed 0 (ended 0 ∷ got 4 (codes "efgh") ∷ []) ≡ []
 early_end = refl
@@ -64,7 +64,7 @@ end_between = refl
 pub refusal : handed 0 (got 0 (codes "abcd") ∷ (4, status 4) ∷ got 8 (codes "ij") ∷ []) ≡ codes "abcd"
 refusal = refl
 
--- ---- from an offset
+-- ---- From an offset
 
 pub from_offset : handed 4 (got 4 (codes "efgh") ∷ got 8 (codes "ij") ∷ []) ≡ codes "efghij"
 from_offset = refl

@@ -1,4 +1,4 @@
--- An upload as its user sees it, and what a push and a poll make of it.
+-- An upload as its user sees it, and the effects of a push and of a poll on it.
 use Rattle.std.specs.Prelude.{
   ◌≡◌,
   ◌≤◌,
@@ -34,18 +34,19 @@ use Rattle.sftp_model.specs.declared.error.Error.TheVariants as error
 use Rattle.sftp_model.specs.declared.error.IoKind.TheVariants.{NotWritable}
 use Rattle.sftp_model.specs.declared.reply.Reply.{Reply}
 use Rattle.sftp_model.specs.declared.reply.Reply.TheVariants as reply
-use Rattle.sftp_core.specs.Core.{Core, at, reply_in}
+use Rattle.sftp_core.specs.Core.{Core, record_at, reply_in}
 use Rattle.sftp_core.specs.Info.{info_of}
-use Rattle.call_state.specs.Asked.{Submitted}
-use Rattle.call_state.specs.declared.asking.Asking.TheVariants as asking
-use Rattle.call_state.specs.declared.poll.Poll.{Poll}
-use Rattle.call_state.specs.declared.poll.Poll.TheVariants as poll
+use Rattle.plan_state.specs.Asked.{SubmitsAsking}
+use Rattle.plan_state.specs.declared.asking.Asking.TheVariants as asking
+use Rattle.plan_state.specs.declared.poll.Poll.{Poll}
+use Rattle.plan_state.specs.declared.poll.Poll.TheVariants as poll
 use Rattle.sftp_file.specs.Files.{FileValue, facts_of}
 use Rattle.sftp_streams.specs.declared.parts.Part.{Part}
 use Rattle.sftp_streams.specs.Parts.{AreAwaited, KeepsOthersHeld, KindOf, after_first, parts_len}
 
--- the file's handle, the most bytes of one WRITE and the most WRITEs under way; the offset of the first byte that the
--- server has not said OK to, where the next bytes are written, the parts under way in order, and whether it has failed
+-- An upload: the file's handle, the most bytes of one WRITE and the most WRITEs under way. Then the offset of the first
+-- byte that the server has not said OK to, the offset at which the next bytes are written, the parts under way in
+-- order, and whether it has failed.
 pub record UploadValue : Type 0 where
   pub handle : List ℕ
   pub write_len : ℕ
@@ -55,9 +56,9 @@ pub record UploadValue : Type 0 where
   pub parts : List Part
   pub ended : Bool
 
--- nothing was written
-abbrev pub starting : List ℕ → ℕ → ℕ → ℕ → UploadValue
-starting handle offset write_len window =
+-- An upload that has written nothing.
+abbrev pub fresh_upload : List ℕ → ℕ → ℕ → ℕ → UploadValue
+fresh_upload handle offset write_len window =
     record {
       handle = handle;
       write_len = write_len;
@@ -68,19 +69,19 @@ starting handle offset write_len window =
       ended = false;
     }
 
--- an upload to a file that may be written, from its offset on
+-- The result of starting an upload, to a file that may be written, from its offset on.
 abbrev pub BeginsUpload : Core → FileValue → ℕ → Result UploadValue Error → Type 0
 BeginsUpload core file window (Ok u) = (file.writable ≡ true)
-    × (u ≡ starting file.grant.handle file.offset (facts_of core).write_len window)
+    × (u ≡ fresh_upload file.grant.handle file.offset (facts_of core).write_len window)
 BeginsUpload core file window (Err e) = (file.writable ≡ false) × (e ≡ error.IOError NotWritable)
 
--- ---- what it holds
+-- ---- State
 
--- a part is answered by a STATUS
+-- A part is answered by a STATUS.
 abbrev pub status_kind : KindOf
 status_kind part = expected.Status
 
--- The parts stand without a gap from the first byte that the server has not said OK to.
+-- The parts follow without a gap from the first byte that the server has not said OK to.
 pub record IsWriting (core : Core) (u : UploadValue) : Type 0 where
   pub parts : AreAwaited status_kind core u.parts
   pub next : u.offset + parts_len u.parts ≡ u.next
@@ -88,29 +89,29 @@ pub record IsWriting (core : Core) (u : UploadValue) : Type 0 where
   pub few : length u.parts ≤ u.window
   pub most : u.write_len ≤ MAX_TRANSFER_LEN
 
--- an upload can be polled
+-- An upload can be polled.
 pub record MayWrite (core : Core) (u : UploadValue) : Type 0 where
   pub over : u.ended ≡ false
   pub held : IsWriting core u
 
--- ---- a push
+-- ---- Pushes
 
--- how many bytes one WRITE more may carry
+-- The number of bytes that another WRITE may carry.
 abbrev pub room_of : UploadValue → ℕ
 room_of u = if nat_le u.window (length u.parts) then 0 else min u.write_len (2 ^ 64 - 1 - u.next)
 
--- there is room for these bytes, and at least one of them
+-- There is room for these bytes, and at least one of them.
 pub record MayPush (core : Core) (u : UploadValue) (bytes : List ℕ) : Type 0 where
   pub may : MayWrite core u
   pub opened : IsSome (info_of core.phase)
   pub some : 0 < length bytes
   pub fits : length bytes ≤ room_of u
 
--- these bytes are written behind the others
+-- These bytes are written after the others.
 pub record AsksWrite (core : Core) (old : UploadValue) (bytes : List ℕ) (after : Core) (new : UploadValue) : Type 0
   where
     pub ticket : ℕ
-    pub submitted : Submitted core (asking.Parts old.handle old.next (bytes ∷ [])) ticket after
+    pub submitted : SubmitsAsking core (asking.Parts old.handle old.next (bytes ∷ [])) ticket after
     pub now : new ≡ record old {
       next = old.next + length bytes;
       parts = old.parts
@@ -118,39 +119,39 @@ pub record AsksWrite (core : Core) (old : UploadValue) (bytes : List ℕ) (after
     }
     pub may : MayWrite after new
 
--- want of memory or of an id, or the kept fault
+-- Out of memory, no free id, or the recorded fault.
 abbrev pub IsRefusedPush : Core → Error → Type 0
 IsRefusedPush core error.OutOfMemory = Unit {0}
 IsRefusedPush core (error.BackgroundTaskFailure fault) = core.fault ≡ Some fault
 IsRefusedPush core other = ⊥
 
--- ---- a poll
+-- ---- Polls
 
--- what a STATUS gives to a WRITE of so many bytes
+-- The answer that a STATUS is to a WRITE of this many bytes.
 abbrev pub write_answer : ℕ → ℕ → List ℕ → List ℕ → Result (Option ℕ) Error
 write_answer len code message language =
     if code == SSH_FX_OK then Ok (Some len) else Err (error.SftpError code message language)
 
--- OK moves the offset
+-- The upload after this status: OK moves the offset.
 abbrev pub with_status : UploadValue → ℕ → ℕ → UploadValue
 with_status u len code = if code == SSH_FX_OK then record u { offset = u.offset + len } else record u { ended = true }
 
--- the first part carried this many bytes, and this is its status
+-- The effect of this status of the first part, which carried this many bytes.
 abbrev pub IsAccepted : UploadValue → ℕ → Reply → UploadValue → Result (Option ℕ) Error → Type 0
 IsAccepted old len (reply.Status code message language) new result = (result ≡ write_answer len code message language)
     × (new ≡ with_status old len code)
 IsAccepted old len other new result = ⊥
 
--- the reply to the first WRITE under way
+-- The reply to the first WRITE under way.
 abbrev pub first_status : Core → List Part → Option Reply
 first_status core [] = None
-first_status core (part ∷ later) = reply_in (at core part.ticket)
+first_status core (part ∷ later) = reply_in (record_at core part.ticket)
 
 abbrev pub IsOk : Option Reply → Type 0
 IsOk (Some (reply.Status code message language)) = code ≡ SSH_FX_OK
 IsOk other = ⊥
 
--- the parts behind the first one
+-- The parts after the first one.
 abbrev pub later_parts : List Part → List Part
 later_parts [] = []
 later_parts (part ∷ later) = later
@@ -159,7 +160,7 @@ abbrev pub first_len : List Part → ℕ
 first_len [] = 0
 first_len (part ∷ later) = part.len
 
--- What a poll answers, by that reply: OK moves the offset, and another status refuses.
+-- The result of a poll, by that reply: OK moves the offset, and another status refuses.
 abbrev pub GivesStatus : Core → Core → UploadValue → UploadValue → Poll (Result (Option ℕ) Error) → Type 0
 GivesStatus core after old new (poll.Ready (Ok (Some len))) = IsOk (first_status core old.parts)
     × (len ≡ first_len old.parts)
@@ -183,8 +184,8 @@ GivesStatus core after old new poll.Pending = (first_status core old.parts ≡ N
     × (new ≡ old)
     × (after ≡ core)
 
--- What a poll did: it may be polled on where it has not ended, and given up in any case; what others hold of the core
--- stays.
+-- The effect of a poll: the upload may be polled further if it has not ended, and given up in any case. What others
+-- hold of the core stays.
 pub record PollsUpload (core after : Core) (old new : UploadValue) (result : Poll (Result (Option ℕ) Error)) : Type 0
   where
     pub gives : GivesStatus core after old new result

@@ -1,13 +1,13 @@
 //! The bytes of an open file in order.
 ghost use Rattle.std.specs.Prelude.{◌≡◌, ◌≤◌, ◌<◌, ◌+◌, ◌-◌, ◌^◌, true, IfErr, OnOk, IfSome, IfNone, IfOk, IsSome};
-ghost use Rattle.sftp_model.specs.Answers.{allows};
+ghost use Rattle.sftp_model.specs.Answers.{allows_reply};
 ghost use Rattle.sftp_model.specs.declared.answers.Expected.TheVariants as expected;
 ghost use Rattle.sftp_model.specs.declared.request.Request.TheVariants as request;
 ghost use Rattle.sftp_core.specs.Core.{Core as CoreValue};
 ghost use Rattle.sftp_core.specs.Info.{info_of};
-ghost use Rattle.call_state.specs.Asked.{Submitted};
-ghost use Rattle.call_state.specs.declared.asking.Asking.TheVariants as asking;
-ghost use Rattle.call_state.specs.declared.poll.Poll.TheVariants.{Ready};
+ghost use Rattle.plan_state.specs.Asked.{SubmitsAsking};
+ghost use Rattle.plan_state.specs.declared.asking.Asking.TheVariants as asking;
+ghost use Rattle.plan_state.specs.declared.poll.Poll.TheVariants.{Ready};
 ghost use Rattle.sftp_file.specs.Outcomes.{read_answer};
 ghost use Rattle.sftp_streams.specs.Parts.{AreAwaited, IsUnasked, KeepsOthersHeld, without_parts};
 ghost use Rattle.sftp_streams.specs.Downloads.{AsksFirst, AsksLast, AsksMore, BeginsDownload, FillsWindow, GivesFirst, IsFilled, IsHandedOut, IsMissing, IsReading, MayRead, PollsDownload, content_kind};
@@ -23,7 +23,9 @@ use std::collections::VecDeque;
 use std::marker::Model;
 
 /// The bytes of an open file from an offset to its end, in order, with a window of READs under way
-/// (draft-ietf-secsh-filexfer-02, section 6.4). It isn't droppable: `cancel` spends it, once it has ended too.
+/// (draft-ietf-secsh-filexfer-02, section 6.4). It isn't droppable: `cancel` consumes it, also after it has ended.
+///
+/// Example: `crates/test_client/src/streams.rt`.
 #[must_use]
 pub struct Download {
     handle: Handle,
@@ -45,11 +47,13 @@ impl Model for Download {
 }
 
 impl Download {
-    /// The bytes of a file from its offset on, with at most `window` READs under way, each for as many bytes as one READ
-    /// of the session asks for. Nothing is asked yet. The file has to stay open until the download has ended: it is
-    /// read by its handle.
+    /// Returns a download of a file from its offset on, with at most `window` READs under way. Each READ asks for as
+    /// many bytes as one READ of the session may. Nothing is asked yet. The file must stay open until the download has
+    /// ended: it is read by its handle.
     ///
-    /// `IOError(NotReadable)`, where the file was not opened to read.
+    /// # Errors
+    ///
+    /// `IOError(NotReadable)` if the file was not opened to read.
     pub fn new(core: &Core, file: &File, window: usize) -> Result<Download, Error>
         requires opened { IsSome (info_of core.now.phase) }
         requires wide { 1 ≤ window }
@@ -75,24 +79,25 @@ impl Download {
         })
     }
 
-    /// The offset of the first byte that was not handed out.
+    /// Returns the offset of the first byte that was not returned by a poll.
     pub fn offset(&self) -> u64
         ensures { result ≡ self.now.offset }
     {
         self.offset
     }
 
-    /// Whether a poll has told the end, or an error other than want of memory. It can't be polled then.
+    /// Returns true if a poll has returned the end, or an error other than `OutOfMemory`. The download can't be polled
+    /// then.
     pub fn is_ended(&self) -> bool
         ensures { result ≡ self.now.ended }
     {
         self.ended
     }
 
-    /// Goes on with the reply to the first part, which asked for `len` bytes: its bytes are handed out, and what it left
-    /// is to be asked for again.
+    /// Continues with the reply to the first part, which asked for `len` bytes: its bytes are returned, and the missing
+    /// rest is to be asked for again.
     fn hand_out(&mut self, reply: Reply, len: u32) -> Result<Option<Bytes>, Error>
-        requires allowed { allows (expected.Content len) reply ≡ true }
+        requires allowed { allows_reply (expected.Content len) reply ≡ true }
         requires small { self.old.offset + len < 2 ^ 64 }
         ensures { IsHandedOut self.old len reply self.new result }
     {
@@ -114,8 +119,8 @@ impl Download {
         }
     }
 
-    /// Polls the first part, where one is under way and nothing stands before it that is to be asked for again. None
-    /// where its reply is missing, and no fault is kept.
+    /// Polls the first part, if one is under way and nothing before it is to be asked for again. Returns `None` if its
+    /// reply is missing and the core has recorded no fault.
     fn poll_first(&mut self, core: &mut Core) -> Option<Result<Option<Bytes>, Error>>
         requires { MayRead core.old self.old }
         ensures reads { IfSome result (λ value. PollsDownload core.old core.new self.old self.new (Ready value)) }
@@ -143,7 +148,7 @@ impl Download {
 }
 
 impl Download {
-    /// Asks again for what a short reply left.
+    /// Asks again for the rest of a short reply.
     fn ask_rest(&mut self, core: &mut Core) -> Result<(), Unasked>
         requires opened { IsSome (info_of core.old.phase) }
         ensures ok { OnOk result (AsksFirst core.old self.old core.new self.new) }
@@ -159,7 +164,7 @@ impl Download {
         Ok(())
     }
 
-    /// Asks for a part more behind the others, which ends at the greatest offset at the latest.
+    /// Asks for another part after the others, which ends at the greatest offset at the latest.
     fn ask_next(&mut self, core: &mut Core) -> Result<(), Unasked>
         requires opened { IsSome (info_of core.old.phase) }
         requires some { 0 < self.old.read_len }
@@ -178,7 +183,7 @@ impl Download {
         Ok(())
     }
 
-    /// Asks for parts behind the others until the window is full, or the greatest offset is reached.
+    /// Asks for parts after the others until the window is full, or the greatest offset is reached.
     #[tactic(auto, using(crate::proofs::AskLaws::begins, crate::proofs::AskLaws::fills, crate::proofs::AskLaws::nearer, crate::proofs::AskLaws::unasked_then))]
     fn ask_more(&mut self, core: &mut Core) -> Result<(), Unasked>
         requires rest { self.old.rest ≡ 0 }
@@ -197,7 +202,7 @@ impl Download {
         Ok(())
     }
 
-    /// Asks for what a short reply left, and for parts behind the others until the window is full.
+    /// Asks for the rest of a short reply, and for parts after the others until the window is full.
     #[tactic(auto, using(crate::proofs::AskLaws::asked_first, crate::proofs::AskLaws::unasked_then))]
     fn fill(&mut self, core: &mut Core) -> Result<(), Unasked>
         requires may { MayRead core.old self.old }
@@ -215,13 +220,15 @@ impl Download {
         }
     }
 
-    /// The next bytes in order, 1 or more; None behind the last. `Pending` where the reply to the first READ was not
-    /// taken: READs were asked for until the window is full then, and are sent by the next flush.
+    /// Returns the next bytes in order, 1 or more, or `None` after the last. Returns `Pending` if the reply to the
+    /// first READ was not taken. READs were then asked for until the window is full; the next flush sends them.
     ///
-    /// `OutOfMemory`, where there is no memory or no free id: the poll may be made again. Any other error ends the
-    /// download, as None does: `SftpError`, where the server refused the READ at the next byte; `BackgroundTaskFailure`,
-    /// where its reply was not taken and the core keeps a fault; `IOError(OffsetOverflow)`, where all bytes below the
-    /// offset 18446744073709551615 were handed out, so that no READ can ask for more.
+    /// # Errors
+    ///
+    /// `OutOfMemory` if an allocation fails or no id is free: the poll may be repeated. Any other error ends the
+    /// download, as `None` does: `SftpError` if the server refused the READ at the next byte; `BackgroundTaskFailure`
+    /// if its reply was not taken and the core has recorded a fault; `IOError(OffsetOverflow)` if all bytes below the
+    /// offset 18446744073709551615 were returned, so that no READ can ask for more.
     pub fn poll(&mut self, core: &mut Core) -> Poll<Result<Option<Bytes>, Error>>
         requires { MayRead core.old self.old }
         ensures { PollsDownload core.old core.new self.old self.new result }
@@ -232,7 +239,7 @@ impl Download {
         }
     }
 
-    /// Asks for more where the first reply is missing. Where nothing is under way then, nothing can be asked for.
+    /// Asks for more if the first reply is missing. If nothing is under way afterwards, nothing can be asked for.
     fn ask(&mut self, core: &mut Core) -> Poll<Result<Option<Bytes>, Error>>
         requires may { MayRead core.old self.old }
         requires missing { IsMissing core.old self.old }
@@ -254,7 +261,7 @@ impl Download {
         }
     }
 
-    /// Gives the download up: the replies to its READs, come or to come, are dropped.
+    /// Gives the download up: the replies to its READs, received or still to come, are dropped.
     pub fn cancel(self, core: &mut Core)
         requires { AreAwaited content_kind core.old self.parts }
         ensures core { core.new ≡ without_parts core.old self.parts }
@@ -274,16 +281,17 @@ impl Download {
     }
 }
 
-/// Submits a READ. Refused for want of memory or of an id, or by a kept fault; the core is as before then.
+/// Submits a READ. Fails if an allocation fails, no id is free, or the core has recorded a fault; the core is unchanged
+/// then.
 fn submit_read(core: &mut Core, handle: Handle, offset: u64, len: u32) -> Result<Ticket, Unasked>
     requires opened { IsSome (info_of core.old.phase) }
-    ensures ok { IfOk result (λ ticket. Submitted core.old (asking.Whole (request.Read handle offset len)) ticket core.new) }
+    ensures ok { IfOk result (λ ticket. SubmitsAsking core.old (asking.Whole (request.Read handle offset len)) ticket core.new) }
     ensures err { IfErr result (λ e. IsUnasked core.old e × (core.new ≡ core.old)) }
 {
     if core.kept() >= MAX_IDS {
         return Err(Unasked::Short);
     }
-    // for the contract: a handle has at most 256 bytes
+    // For the contract: a handle has at most 256 bytes.
     let _short = handle.as_bytes();
     let request = Request::Read {
         handle,
@@ -298,7 +306,7 @@ fn submit_read(core: &mut Core, handle: Handle, offset: u64, len: u32) -> Result
     }
 }
 
-/// What a STATUS gives to a READ.
+/// Returns the answer that a STATUS is to a READ.
 fn status_read(code: u32, message: ByteText, language: ByteText) -> Result<Option<Bytes>, Error>
     ensures { result ≡ read_answer code message language }
 {

@@ -1,4 +1,4 @@
-//! The requests of a stream that are under way.
+//! Requests of a stream that are under way.
 ghost use Rattle.std.specs.Prelude.{◌≡◌, ℕ};
 ghost use Rattle.sftp_model.specs.declared.answers.Expected.{Expected};
 ghost use Rattle.sftp_streams.specs.Parts.{AreAwaited, AwaitsPlain, IsAnswer, KindOf, without_parts};
@@ -8,33 +8,35 @@ use sftp_model::{Fault, Reply};
 use std::collections::VecDeque;
 
 /// A READ or WRITE under way: its ticket, and how many bytes it asks for or carries.
+///
+/// Used in `crates/sftp_streams/src/upload.rt`.
 #[must_use]
 pub struct Part {
     pub(crate) ticket: Ticket,
     pub(crate) len: u32,
 }
 
-/// What a core tells of a part.
+/// The answer of a core to a part.
 pub(crate) enum Answer {
     /// The reply that was taken.
     Came(Reply),
-    /// It was not taken, and no fault is kept.
+    /// It was not taken, and the core has recorded no fault.
     Missing(Ticket),
-    /// It was not taken, and this fault is kept.
+    /// It was not taken, and the core has recorded this fault.
     Failed(Fault),
 }
 
-/// Why a request was not submitted.
+/// The reason that a request was not submitted.
 #[derive(Clone, Copy)]
 pub(crate) enum Unasked {
-    /// There was no memory, or no free id.
+    /// An allocation failed, or no id was free.
     Short,
-    /// This fault is kept.
+    /// The core has recorded this fault.
     Failed(Fault),
 }
 
-/// The reply to a request that is never answered by a HANDLE, where it was taken; the ticket is spent then, and by a
-/// kept fault.
+/// Takes the reply to a request that is never answered by a HANDLE, if it came. The ticket is consumed then, and also
+/// by a recorded fault.
 pub(crate) fn take_reply(core: &mut Core, ticket: Ticket) -> Answer
     requires { AwaitsPlain core.old ticket }
     ensures { IsAnswer core.old core.new ticket result }

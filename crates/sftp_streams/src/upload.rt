@@ -1,12 +1,12 @@
 //! Bytes that are written one after another.
 ghost use Rattle.std.specs.Prelude.{◌≡◌, ◌≤◌, ◌<◌, ◌+◌, ◌-◌, ◌^◌, [], ◌∷◌, None, true, false, length, IfErr, OnOk, IfOk, IsSome};
-ghost use Rattle.sftp_model.specs.Answers.{allows};
+ghost use Rattle.sftp_model.specs.Answers.{allows_reply};
 ghost use Rattle.sftp_model.specs.Numbers.{MAX_TRANSFER_LEN};
 ghost use Rattle.sftp_model.specs.declared.answers.Expected.TheVariants as expected;
 ghost use Rattle.sftp_core.specs.Core.{Core as CoreValue};
 ghost use Rattle.sftp_core.specs.Info.{info_of};
-ghost use Rattle.call_state.specs.Asked.{Submitted};
-ghost use Rattle.call_state.specs.declared.asking.Asking.TheVariants as asking;
+ghost use Rattle.plan_state.specs.Asked.{SubmitsAsking};
+ghost use Rattle.plan_state.specs.declared.asking.Asking.TheVariants as asking;
 ghost use Rattle.sftp_streams.specs.Parts.{AreAwaited, IsUnasked, KeepsOthersHeld, without_parts};
 ghost use Rattle.sftp_streams.specs.Uploads.{AsksWrite, BeginsUpload, IsAccepted, IsRefusedPush, IsWriting, MayPush, MayWrite, PollsUpload, room_of, status_kind};
 
@@ -21,7 +21,9 @@ use std::marker::Model;
 use std::slice;
 
 /// Bytes written to an open file one after another from an offset on, with a window of WRITEs under way
-/// (draft-ietf-secsh-filexfer-02, section 6.4). It isn't droppable: `cancel` spends it, once it has ended too.
+/// (draft-ietf-secsh-filexfer-02, section 6.4). It isn't droppable: `cancel` consumes it, also after it has ended.
+///
+/// Example: `crates/test_client/src/streams.rt`.
 #[must_use]
 pub struct Upload {
     handle: Handle,
@@ -42,11 +44,13 @@ impl Model for Upload {
 }
 
 impl Upload {
-    /// Bytes written to a file from its offset on, with at most `window` WRITEs under way, each of as many bytes at most
-    /// as one WRITE of the session carries. The file has to stay open until the upload has ended: it is written by its
-    /// handle.
+    /// Returns an upload to a file from its offset on, with at most `window` WRITEs under way. Each WRITE has at most
+    /// as many bytes as one WRITE of the session carries. The file must stay open until the upload has ended: it is
+    /// written by its handle.
     ///
-    /// `IOError(NotWritable)`, where the file was not opened to write.
+    /// # Errors
+    ///
+    /// `IOError(NotWritable)` if the file was not opened to write.
     pub fn new(core: &Core, file: &File, window: usize) -> Result<Upload, Error>
         requires opened { IsSome (info_of core.now.phase) }
         requires wide { 1 ≤ window }
@@ -71,28 +75,29 @@ impl Upload {
         })
     }
 
-    /// The offset of the first byte whose WRITE the server has not said OK to.
+    /// Returns the offset of the first byte whose WRITE the server has not said OK to.
     pub fn offset(&self) -> u64
         ensures { result ≡ self.now.offset }
     {
         self.offset
     }
 
-    /// The offset at which the next bytes are written.
+    /// Returns the offset at which the next bytes are written.
     pub fn next(&self) -> u64
         ensures { result ≡ self.now.next }
     {
         self.next
     }
 
-    /// Whether a poll has told an error. It can't be polled then.
+    /// Returns true if a poll has returned an error. The upload can't be polled then.
     pub fn is_ended(&self) -> bool
         ensures { result ≡ self.now.ended }
     {
         self.ended
     }
 
-    /// How many bytes `push` takes now: those of one WRITE; 0 where the window is full, and at the greatest offset.
+    /// Returns how many bytes `push` takes now: those of one WRITE; 0 if the window is full, and at the greatest
+    /// offset.
     pub fn room(&self) -> u32
         ensures { result ≡ room_of self.now }
     {
@@ -103,10 +108,12 @@ impl Upload {
         (self.write_len as u64).min(u64::MAX - next) as u32
     }
 
-    /// Writes these bytes behind the ones before, in one WRITE. They are shared and not copied.
+    /// Writes these bytes after the ones before, in one WRITE. They are shared and not copied.
     ///
-    /// `OutOfMemory`, where there is no memory or no free id: the push may be made again. `BackgroundTaskFailure`, where
-    /// the core keeps a fault. Refused, nothing was submitted, and core and upload are as before.
+    /// # Errors
+    ///
+    /// `OutOfMemory` if an allocation fails or no id is free: the push may be repeated. `BackgroundTaskFailure` if the
+    /// core has recorded a fault. After an error nothing was submitted, and core and upload are unchanged.
     pub fn push(&mut self, core: &mut Core, bytes: &Bytes) -> Result<(), Error>
         requires { MayPush core.old self.old bytes.now }
         ensures ok { OnOk result (AsksWrite core.old self.old bytes.now core.new self.new) }
@@ -119,7 +126,7 @@ impl Upload {
         }
     }
 
-    /// Asks for a WRITE of these bytes behind the others.
+    /// Asks for a WRITE of these bytes after the others.
     fn ask(&mut self, core: &mut Core, bytes: &Bytes) -> Result<(), Unasked>
         requires { MayPush core.old self.old bytes.now }
         ensures ok { OnOk result (AsksWrite core.old self.old bytes.now core.new self.new) }
@@ -135,9 +142,9 @@ impl Upload {
         Ok(())
     }
 
-    /// Goes on with the status of the first WRITE, which carried `len` bytes.
+    /// Continues with the status of the first WRITE, which carried `len` bytes.
     fn accept(&mut self, reply: Reply, len: u32) -> Result<Option<u32>, Error>
-        requires allowed { allows expected.Status reply ≡ true }
+        requires allowed { allows_reply expected.Status reply ≡ true }
         requires small { self.old.offset + len < 2 ^ 64 }
         ensures { IsAccepted self.old len reply self.new result }
     {
@@ -162,11 +169,14 @@ impl Upload {
         }
     }
 
-    /// How many bytes the server has said OK to next, which are those of one WRITE; None where none is under way.
-    /// `Pending` where the status of the first WRITE was not taken, and no fault is kept.
+    /// Returns how many bytes the server has said OK to next, which are those of one WRITE, or `None` if none is under
+    /// way. Returns `Pending` if the status of the first WRITE was not taken and the core has recorded no fault.
     ///
-    /// An error ends the upload: `SftpError`, where the server refused the first WRITE; `BackgroundTaskFailure`, where
-    /// its status was not taken and the core keeps a fault. What became of the WRITEs behind it isn't known then.
+    /// # Errors
+    ///
+    /// An error ends the upload: `SftpError` if the server refused the first WRITE; `BackgroundTaskFailure` if its
+    /// status was not taken and the core has recorded a fault. It isn't known then which of the WRITEs after it were
+    /// done.
     pub fn poll(&mut self, core: &mut Core) -> Poll<Result<Option<u32>, Error>>
         requires { MayWrite core.old self.old }
         ensures { PollsUpload core.old core.new self.old self.new result }
@@ -188,7 +198,7 @@ impl Upload {
         }
     }
 
-    /// Gives the upload up: the statuses of its WRITEs, come or to come, are dropped.
+    /// Gives the upload up: the statuses of its WRITEs, received or still to come, are dropped.
     pub fn cancel(self, core: &mut Core)
         requires { AreAwaited status_kind core.old self.parts }
         ensures core { core.new ≡ without_parts core.old self.parts }
@@ -207,8 +217,8 @@ impl Upload {
     }
 }
 
-/// Submits the WRITE of these bytes. Refused for want of memory or of an id, or by a kept fault; the core is as before
-/// then.
+/// Submits the WRITE of these bytes. Fails if an allocation fails, no id is free, or the core has recorded a fault; the
+/// core is unchanged then.
 fn submit_write(
     core: &mut Core,
     handle: &Handle,
@@ -217,13 +227,13 @@ fn submit_write(
 ) -> Result<Ticket, Unasked>
     requires opened { IsSome (info_of core.old.phase) }
     requires fits { length bytes.now ≤ MAX_TRANSFER_LEN }
-    ensures ok { IfOk result (λ ticket. Submitted core.old (asking.Parts handle.now offset (bytes.now ∷ [])) ticket core.new) }
+    ensures ok { IfOk result (λ ticket. SubmitsAsking core.old (asking.Parts handle.now offset (bytes.now ∷ [])) ticket core.new) }
     ensures err { IfErr result (λ e. IsUnasked core.old e × (core.new ≡ core.old)) }
 {
     if core.kept() >= MAX_IDS {
         return Err(Unasked::Short);
     }
-    // for the contract: a handle has at most 256 bytes
+    // For the contract: a handle has at most 256 bytes.
     let _short = handle.as_bytes();
     match core.submit_parts(handle, offset, slice::from_ref(bytes)) {
         Ok(ticket) => Ok(ticket),

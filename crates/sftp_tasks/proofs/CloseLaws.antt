@@ -18,8 +18,8 @@ use Rattle.session_driver.specs.Session.{IsFixed}
 use Rattle.session_model.specs.Grants.{next_due}
 use Rattle.session_model.specs.Journals.{IsJournal}
 use Rattle.session_model.specs.Readings.{outcomes_below, trace_of}
-use Rattle.sftp_lanes.specs.Seen.{Reports, SessionValue, given, given_of, setting_at, setting_by}
-use Rattle.session_seats.specs.Covers.{Covers, Once}
+use Rattle.sftp_lanes.specs.Seen.{ReportsSession, SessionValue, session_inputs, given_of, setting_at, setting_by}
+use Rattle.session_seats.specs.Covers.{CoversEntries, CoversPlacesOnce}
 use Rattle.session_seats.specs.Sights.{entries, sight_of}
 use Rattle.session_work.specs.SoFar.{kept_in}
 use Rattle.session_work.specs.Working.{past_of}
@@ -41,9 +41,12 @@ use Rattle.sftp_tasks.specs.Rounds.{Token}
 use Rattle.sftp_tasks.specs.Shows.{shown_of}
 use Rattle.sftp_tasks.proofs.LaneLaws.{have_lanes}
 
-pub reported : {G : Ghosts Locked} (seats : List (Seat Locked G)) (e : Ended Locked) (r : SharedReport) → Closes shown_of seats e
-    → MayTakeCalls e.value.session → Reports e.value.session r.report → ListsJournal e.value.session r.journal.items
-    → (r.is_open ≡ true → next_due (setting_at e.value.session) (past_of e.value.session.work) ≡ None) → r.receipts ≡ e.receipts → Reported seats r
+pub reported : {G : Ghosts Locked} (seats : List (Seat Locked G)) (e : Ended Locked) (r : SharedReport)
+    → Closes shown_of seats e
+    → MayTakeCalls e.value.session → ReportsSession e.value.session r.report
+    → ListsJournal e.value.session r.journal.items
+    → (r.is_open ≡ true → next_due (setting_at e.value.session) (past_of e.value.session.work) ≡ None) → r.receipts
+    ≡ e.receipts → Reported seats r
 reported seats e r closes goes reports lists settled same =
     let s = e.value.session in
     let now = closes.now in
@@ -57,32 +60,40 @@ reported seats e r closes goes reports lists settled same =
       now = now;
       info = s.info;
       journal = lists.journal ∙ past;
-      run = subst (λ (x : Sight × List Entry). IsJournal (setting_by x.0.lanes x.0.options x.0.version s.info) x.1) (λ i. (sym told i, past i)) lists.run;
+      run = subst (λ (x : Sight × List Entry). IsJournal (setting_by x.0.lanes x.0.options x.0.version s.info) x.1)
+          (λ i. (sym told i, past i)) lists.run;
       fixed = subst (λ (x : Sight × List Entry). x.0.version ≢ None
-          → IsFixed (given x.0.lanes x.0.options) x.0.version x.1 (setting_by x.0.lanes x.0.options x.0.version s.info))
+          → IsFixed (session_inputs x.0.lanes x.0.options) x.0.version x.1
+          (setting_by x.0.lanes x.0.options x.0.version s.info))
           (λ i. (sym told i, past i)) lists.fixed;
       unkept = ap kept_in (sym past) ∙ goes.0;
       settled = subst (λ (x : Sight × List Entry). r.is_open ≡ true
-          → next_due (setting_by x.0.lanes x.0.options x.0.version s.info) x.1 ≡ None) (λ i. (sym told i, past i)) settled;
+          → next_due (setting_by x.0.lanes x.0.options x.0.version s.info) x.1 ≡ None) (λ i. (sym told i, past i))
+          settled;
       hello = reports.hello ∙ version;
       trace = reports.trace ∙ ap trace_of past;
       outcomes = reports.outcomes ∙ (λ i. outcomes_below (past i) (length (lanes i)));
       lawful = closes.lawful;
       receipts = receipts;
-      lanes = subst (HaveLanes (entries now.log) (map lane_named seats)) (sym receipts) (have_lanes now closes.lawful seats closes.told);
+      lanes = subst (HaveLanes (entries now.log) (map lane_named seats)) (sym receipts)
+          (have_lanes now closes.lawful seats closes.told);
       distinct = closes.distinct;
       told = closes.told;
     }
 
 -- the cover, of the journal that is reported
-pub covered : (e : Ended Locked) (journal : List Entry) → reverse journal ≡ past_of e.value.session.work → Covers shown_of e
-    → Once (length journal) (map items_of e.receipts.items)
+pub covered : (e : Ended Locked) (journal : List Entry) → reverse journal ≡ past_of e.value.session.work
+    → CoversEntries shown_of e
+    → CoversPlacesOnce (length journal) (map items_of e.receipts.items)
 covered e journal is covers k less =
-    let long : length (past_of e.value.session.work) ≡ length journal = ap (λ (l : List Entry). length l) (sym is) ∙ length-reverse journal in
+    let long : length (past_of e.value.session.work) ≡ length journal = ap (λ (l : List Entry). length l) (sym is)
+    ∙ length-reverse journal in
     covers k (subst (λ (n : ℕ). k < n) (sym long) less)
 
-pub lists_of : {E : Type 0} (s : SessionValue) (journal : List Entry) (copied : Result (Vec Entry Global) E) → reverse journal ≡ past_of s.work
-    → IsJournal (setting_at s) (past_of s.work) → (s.version ≢ None → IsFixed (given_of s) s.version (past_of s.work) (setting_at s))
+pub lists_of : {E : Type 0} (s : SessionValue) (journal : List Entry) (copied : Result (Vec Entry Global) E)
+    → reverse journal ≡ past_of s.work
+    → IsJournal (setting_at s) (past_of s.work) → (s.version ≢ None
+    → IsFixed (given_of s) s.version (past_of s.work) (setting_at s))
     → IfOk copied (λ copies. copies.items ≡ journal) → IfOk copied (λ listed. ListsJournal s listed.items)
 lists_of s journal (Ok v) is run fixed same = record { journal = ap reverse same ∙ is; run = run; fixed = fixed }
 lists_of s journal (Err e) is run fixed same = tt
@@ -104,13 +115,16 @@ tells_refused e s (inr stopped) = tells_stopped e s stopped
 looks_past : (m n : Token) (h : Looks shown_of m n) → entries (sight_by n).log ≡ past_of h.before.session.work
 looks_past m n h = ap (λ (s : Sight). entries s.log) h.sight ∙ sym h.took.shows.past
 
-refused_by : {G : Ghosts Locked} (seat new : Seat Locked G) (o : Option Error) → IfSome o (Returns shown_of (λ y e. IsRefusedFor e y.session) seat new)
+refused_by : {G : Ghosts Locked} (seat new : Seat Locked G) (o : Option Error)
+    → IfSome o (Returns shown_of (λ y e. IsRefusedFor e y.session) seat new)
     → TellsFault (reason_of o) (entries (sight_by new.inner.me).log)
 refused_by seat new None h = tt
 refused_by seat new (Some e) h =
-    subst (TellsFault e) (sym (looks_past seat.inner.me new.inner.me h.looks)) (tells_refused e h.looks.before.session h.refuses)
+    subst (TellsFault e) (sym (looks_past seat.inner.me new.inner.me h.looks))
+    (tells_refused e h.looks.before.session h.refuses)
 
-pub refused : {G : Ghosts Locked} (seat new : Seat Locked G) (others rest : List (Seat Locked G)) (o : Option Error) (e : Error)
+pub refused : {G : Ghosts Locked} (seat new : Seat Locked G) (others rest : List (Seat Locked G)) (o : Option Error)
+    (e : Error)
     → HandsBack shown_of (λ y e. IsRefusedFor e y.session) seat others o new rest → e ≡ reason_of o
     → Refused seat others e new rest
 refused seat new others rest o e h is = (

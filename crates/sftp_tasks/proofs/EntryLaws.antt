@@ -45,7 +45,7 @@ use Rattle.sftp_model.specs.declared.slot.Move.TheVariants.{Ask, Wait, Done}
 use Rattle.session_driver.specs.declared.session.Phase.{Phase}
 use Rattle.session_driver.specs.declared.session.Phase.TheVariants.{Fresh, Greeted, Asking, Queried, Open, Failed}
 use Rattle.session_driver.specs.declared.session.Stepped.{Stepped}
-use Rattle.session_driver.specs.Session.{Given, Seen, StepsTo, CancelsCall, LetsGo, TakesAndSettles, HandsOut}
+use Rattle.session_driver.specs.Session.{SessionInputs, SessionView, StepsTo, CancelsCall, LetsGo, TakesAndSettles, HandsOut}
 use Rattle.session_model.specs.Calls.{Setting, move_of}
 use Rattle.session_model.specs.Turns.{RunProgress, ClosesTo, SettlesTo, begun_but}
 use Rattle.session_model.specs.Journals.{cancelled_end}
@@ -70,7 +70,7 @@ use Rattle.sftp_lanes.specs.Seen.{SessionValue, given_of, seen_of, setting_at}
 use Rattle.session_work.specs.Working.{LanesValue, past_of, progress_of}
 use Rattle.session_work.specs.SoFar.{refused_past}
 use Rattle.session_work.specs.declared.lanes.Lanes.{Lanes}
-use Rattle.session_seats.specs.Sights.{FitsStage, Rises, StaysThere}
+use Rattle.session_seats.specs.Sights.{FitsStage, CountsRise, StaysThere}
 use Rattle.session_seats.specs.Holds.{GoesBy, no_allowance, passes}
 use Rattle.session_seats.proofs.Lists.{stays_same, rises_none}
 use Rattle.sftp_tasks.specs.declared.locked.Locked.{Locked}
@@ -100,13 +100,18 @@ pub and_true : (b c : Bool) → b ≡ true → c ≡ true → (b && c) ≡ true
 and_true true c p q = q
 and_true false c p q = p
 
-all_both : (test : Entry → Bool) (xs ys : List Entry) → list_all test xs ≡ true → list_all test ys ≡ true → list_all test (xs ++ ys) ≡ true
+all_both : (test : Entry → Bool) (xs ys : List Entry) → list_all test xs ≡ true → list_all test ys ≡ true
+    → list_all test (xs ++ ys) ≡ true
 all_both test [] ys p q = q
 all_both test (x ∷ xs) ys p q = let b = Rattle.session_seats.proofs.HoldLaws.both_true (test x) (list_all test xs) p in
     and_true (test x) (list_all test (xs ++ ys)) b.0 (all_both test xs ys b.1 q)
 
 pub extends_on : (test : Entry → Bool) (a b c : List Entry) → Extends test a b → Extends test b c → Extends test a c
-extends_on test a b c p q = (q.0 ++ p.0, q.1 ∙ ap (λ (l : List Entry). q.0 ++ l) p.1 ∙ sym (append_assoc q.0 p.0 a), all_both test q.0 p.0 q.2 p.2)
+extends_on test a b c p q = (
+  q.0 ++ p.0,
+  q.1 ∙ ap (λ (l : List Entry). q.0 ++ l) p.1 ∙ sym (append_assoc q.0 p.0 a),
+  all_both test q.0 p.0 q.2 p.2,
+)
 
 pub extends_one : (test : Entry → Bool) (e : Entry) (past : List Entry) → test e ≡ true → Extends test past (e ∷ past)
 extends_one test e past passes = (e ∷ [], refl, and_true (test e) true passes refl)
@@ -115,7 +120,8 @@ extends_one test e past passes = (e ∷ [], refl, and_true (test e) true passes 
 abbrev pub LetsClose : (Entry → Bool) → Type 0
 LetsClose test = (id : ℕ) (r : Request) → test (entry.Event (Submit owner.Close id r)) ≡ true
 
-pub closes_extend : (test : Entry → Bool) → LetsClose test → (s : Setting) (before now : List Entry) → ClosesTo s before now → Extends test before now
+pub closes_extend : (test : Entry → Bool) → LetsClose test → (s : Setting) (before now : List Entry)
+    → ClosesTo s before now → Extends test before now
 closes_extend test lets s before [] h = ([], sym h, refl)
 closes_extend test lets s before (e ∷ past) h =
     ⊎_elim
@@ -124,7 +130,8 @@ closes_extend test lets s before (e ∷ past) h =
     extends_on test before past (e ∷ past) r (extends_one test e past (ap test on.0.1.1.1.1 ∙ lets on.0.1.1.0 _)))
     h
 
-pub settles_extend : (test : Entry → Bool) → LetsClose test → (s : Setting) (before now : List Entry) → SettlesTo s before now → Extends test before now
+pub settles_extend : (test : Entry → Bool) → LetsClose test → (s : Setting) (before now : List Entry)
+    → SettlesTo s before now → Extends test before now
 settles_extend test lets s before now h = closes_extend test lets s before now h.0
 
 -- ---- the locked value
@@ -151,13 +158,15 @@ failed_extended test old new h = record {
 pub unmoved_extended : (test : Entry → Bool) (old new : SessionValue) → IsUnmoved old new → Extended test old new
 unmoved_extended test old new h = ⊎_elim (same_extended test old new) (failed_extended test old new) h
 
-pub refuses_extended : (test : Entry → Bool) (e : Error) (old new : SessionValue) → RefusesCall e old new → Extended test old new
+pub refuses_extended : (test : Entry → Bool) (e : Error) (old new : SessionValue) → RefusesCall e old new
+    → Extended test old new
 refuses_extended test error.OutOfMemory old new h = unmoved_extended test old new h
 refuses_extended test (error.BackgroundTaskFailure fault) old new h = same_extended test old new h.1
 refuses_extended test error.LinkFault old new h = absurd h
 refuses_extended test other old new h = absurd h
 
-pub goes_on_extended : (test : Entry → Bool) (Did : Setting → Lanes → Lanes → Type 0) (old new : SessionValue) → LanesDid Did old new
+pub goes_on_extended : (test : Entry → Bool) (Did : Setting → Lanes → Lanes → Type 0) (old new : SessionValue)
+    → LanesDid Did old new
     → Extends test (past_of old.work) (past_of new.work) → Extended test old new
 goes_on_extended test Did old new h past = record {
   past = past;
@@ -183,10 +192,11 @@ session_goes test y z rest e =
         lanes = e.lanes;
         options = e.options;
         version = e.version;
-        rises = subst (Rises y.counts) (sym counts) (rises_none y.counts);
+        rises = subst (CountsRise y.counts) (sym counts) (rises_none y.counts);
         written = omega arith;
         users = omega arith;
-        ends = subst (λ (k : ℕ × ℕ). FitsStage y.counts.stage y.users → FitsStage k.0 k.1) (λ i. (sym stage i, sym users i)) (λ was. was);
+        ends = subst (λ (k : ℕ × ℕ). FitsStage y.counts.stage y.users → FitsStage k.0 k.1)
+            (λ i. (sym stage i, sym users i)) (λ was. was);
       },
     )
 
@@ -200,7 +210,8 @@ same_lane lane = let one = eq-eqb lane lane refl in and_true (lane == lane) (lan
 
 pub steps_to_extend : (s : Setting) (lane : ℕ) (a b : RunProgress) (m : Option Move) (event : Stepped)
     → StepsTo s lane a b m event → Extends (passes by_step (Some lane)) a.past b.past
-steps_to_extend s lane a b None event h = subst (λ (x : RunProgress). Extends (passes by_step (Some lane)) a.past x.past) (sym h.1) (extends_none _ a.past)
+steps_to_extend s lane a b None event h = subst (λ (x : RunProgress). Extends (passes by_step (Some lane)) a.past
+    x.past) (sym h.1) (extends_none _ a.past)
 steps_to_extend s lane a b (Some (Wait place)) event h = subst
     (λ (x : RunProgress). Extends (passes by_step (Some lane)) a.past x.past) (sym h.1) (extends_none _ a.past)
 steps_to_extend s lane a b (Some (Ask r)) event h =
@@ -231,14 +242,16 @@ either_way true h f g = f h
 either_way false h f g = g h
 
 -- a lane that is polled
-pub polls_extended : (lane : ℕ) (old new : SessionValue) (p : Polled) → PollsIn lane old new p → Extended (passes by_step (Some lane)) old new
+pub polls_extended : (lane : ℕ) (old new : SessionValue) (p : Polled) → PollsIn lane old new p
+    → Extended (passes by_step (Some lane)) old new
 polls_extended lane old new (polled.Ended calls) h = same_extended _ old new h.1
 polls_extended lane old new polled.Moved h = steps_extended old.phase lane old new h.0 h.1.1
 polls_extended lane old new polled.Waits h = steps_extended old.phase lane old new h.0 h.1.1
 
 -- ---- cancels
 
-pub cancels_to_extend : (s : Setting) (lane : ℕ) (a b : RunProgress) (event : Bool) → CancelsCall s lane a b event → Extends (passes by_cancel (Some lane)) a.past b.past
+pub cancels_to_extend : (s : Setting) (lane : ℕ) (a b : RunProgress) (event : Bool) → CancelsCall s lane a b event
+    → Extends (passes by_cancel (Some lane)) a.past b.past
 cancels_to_extend s lane a b event h =
     either_way _ h
     (λ (x : (event ≡ true) × (b.begun ≡ begun_but a.begun lane)
@@ -247,7 +260,8 @@ cancels_to_extend s lane a b event h =
     (extends_on _ a.past _ _ (extends_one (passes by_cancel (Some lane)) (entry.Event (Cancel lane)) a.past
     (same_lane lane)) (extends_one (passes by_cancel (Some lane)) _ _ (same_lane lane)))
     (settles_extend _ (λ id r. refl) s _ b.past x.2))
-    (λ (x : (event ≡ false) × (b ≡ a)). subst (λ (y : RunProgress). Extends (passes by_cancel (Some lane)) a.past y.past) (sym x.1) (extends_none _ a.past))
+    (λ (x : (event ≡ false) × (b ≡ a)). subst (λ (y : RunProgress). Extends (passes by_cancel (Some lane)) a.past
+    y.past) (sym x.1) (extends_none _ a.past))
 
 pub cancels_extended : (p : Phase) (lane : ℕ) (old new : SessionValue) (event : Bool) → CancelsIn p lane old new event
     → Extended (passes by_cancel (Some lane)) old new
@@ -259,15 +273,18 @@ cancels_extended opening lane old new event h = same_extended _ old new h.1
 
 -- ---- lanes that are let go
 
-pub lets_go_extend : (s : Setting) (lane : ℕ) (a b : RunProgress) → LetsGo s lane a b → Extends (passes by_let_go (Some lane)) a.past b.past
+pub lets_go_extend : (s : Setting) (lane : ℕ) (a b : RunProgress) → LetsGo s lane a b
+    → Extends (passes by_let_go (Some lane)) a.past b.past
 lets_go_extend s lane a b h =
     either_way _ h
     (λ (x : (b.begun ≡ a.begun) × SettlesTo s (entry.LetGo lane ∷ a.past) b.past). extends_on _ a.past _ b.past
     (extends_one (passes by_let_go (Some lane)) (entry.LetGo lane) a.past (same_lane lane))
     (settles_extend _ (λ id r. refl) s _ b.past x.1))
-    (λ (x : b ≡ a). subst (λ (y : RunProgress). Extends (passes by_let_go (Some lane)) a.past y.past) (sym x) (extends_none _ a.past))
+    (λ (x : b ≡ a). subst (λ (y : RunProgress). Extends (passes by_let_go (Some lane)) a.past y.past) (sym x)
+    (extends_none _ a.past))
 
-lets_idle_go_extended : (lane : ℕ) (old new : SessionValue) → LetsIdleGo lane old new → Extended (passes by_let_go (Some lane)) old new
+lets_idle_go_extended : (lane : ℕ) (old new : SessionValue) → LetsIdleGo lane old new
+    → Extended (passes by_let_go (Some lane)) old new
 lets_idle_go_extended lane old new h = record {
   past = subst (Extends (passes by_let_go (Some lane)) (past_of old.work)) (sym (ap (λ (c : LanesValue). c.past) h.is))
       (extends_one _ (entry.LetGo lane) (past_of old.work) (same_lane lane));
@@ -281,14 +298,16 @@ lets_idle : (lane : ℕ) (old new : SessionValue) (there : Bool) → MatchBool t
 lets_idle lane old new there h = either_way there h (λ (x : LetsIdleGo lane old new). lets_idle_go_extended lane old new
     x) (λ (x : new ≡ old). same_extended _ old new x)
 
-lets_go_in_extended : (p : Phase) (lane : ℕ) (old new : SessionValue) → LetsGoIn p lane old new → Extended (passes by_let_go (Some lane)) old new
+lets_go_in_extended : (p : Phase) (lane : ℕ) (old new : SessionValue) → LetsGoIn p lane old new
+    → Extended (passes by_let_go (Some lane)) old new
 lets_go_in_extended Open lane old new h = goes_on_extended _ _ old new h
     (lets_go_extend (setting_at old) lane (progress_of old.work) (progress_of new.work) h.did.lets_go)
 lets_go_in_extended Failed lane old new h = absurd h
 lets_go_in_extended Fresh lane old new h = lets_idle lane old new _ h
 lets_go_in_extended opening lane old new h = lets_idle lane old new _ h
 
-pub lets_go_extended : (lane : ℕ) (old new : SessionValue) (event : Bool) → LetsLaneGoIn lane old new event → Extended (passes by_let_go (Some lane)) old new
+pub lets_go_extended : (lane : ℕ) (old new : SessionValue) (event : Bool) → LetsLaneGoIn lane old new event
+    → Extended (passes by_let_go (Some lane)) old new
 lets_go_extended lane old new true h =
     ⊎_elim
     (λ (g : LetsGoIn old.phase lane old new). lets_go_in_extended old.phase lane old new g)
@@ -298,26 +317,33 @@ lets_go_extended lane old new false h = same_extended _ old new h.1
 
 -- ---- what is handed out
 
-hands_extend : (s : Setting) (a b : RunProgress) (bytes : Option (List ℕ)) (lane : Option ℕ) → HandsOut s a bytes b → Extends (passes by_flush lane) a.past b.past
-hands_extend s a b None lane h = subst (λ (y : RunProgress). Extends (passes by_flush lane) a.past y.past) (sym h.1) (extends_none _ a.past)
-hands_extend s a b (Some bytes) lane h = subst (λ (y : RunProgress). Extends (passes by_flush lane) a.past y.past) (sym h.2)
+hands_extend : (s : Setting) (a b : RunProgress) (bytes : Option (List ℕ)) (lane : Option ℕ) → HandsOut s a bytes b
+    → Extends (passes by_flush lane) a.past b.past
+hands_extend s a b None lane h = subst (λ (y : RunProgress). Extends (passes by_flush lane) a.past y.past) (sym h.1)
+    (extends_none _ a.past)
+hands_extend s a b (Some bytes) lane h = subst (λ (y : RunProgress). Extends (passes by_flush lane) a.past y.past)
+    (sym h.2)
     (extends_one _ (entry.Event Send) a.past refl)
 
 -- what is seen of a session
-seen_extended : (test : Entry → Bool) (old new : SessionValue) (now : Seen) → seen_of new ≡ now → now.given
-    ≡ given_of old → now.version ≡ old.version → Extends test (past_of old.work) now.progress.past → Extended test old new
+seen_extended : (test : Entry → Bool) (old new : SessionValue) (now : SessionView) → seen_of new ≡ now → now.given
+    ≡ given_of old → now.version ≡ old.version → Extends test (past_of old.work) now.progress.past
+    → Extended test old new
 seen_extended test old new now is given version past = record {
-  past = subst (λ (s : Seen). Extends test (past_of old.work) s.progress.past) (sym is) past;
-  lanes = ap (λ (s : Seen). s.given.lanes) is ∙ ap (λ (g : Given). g.lanes) given;
-  options = ap (λ (s : Seen). s.given.options) is ∙ ap (λ (g : Given). g.options) given;
-  version = subst (StaysThere old.version) (sym (ap (λ (s : Seen). s.version) is ∙ version)) (stays_same old.version);
+  past = subst (λ (s : SessionView). Extends test (past_of old.work) s.progress.past) (sym is) past;
+  lanes = ap (λ (s : SessionView). s.given.lanes) is ∙ ap (λ (g : SessionInputs). g.lanes) given;
+  options = ap (λ (s : SessionView). s.given.options) is ∙ ap (λ (g : SessionInputs). g.options) given;
+  version = subst (StaysThere old.version) (sym (ap (λ (s : SessionView). s.version) is ∙ version))
+      (stays_same old.version);
 }
 
 pub hands_extended : (p : Phase) (lane : Option ℕ) (old new : SessionValue) (bytes : Option (List ℕ))
     → HandsOutIn p old new bytes → Extended (passes by_flush lane) old new
-hands_extended Fresh lane old new bytes h = seen_extended _ old new _ h.1.greeted refl refl (extends_none _ (past_of old.work))
+hands_extended Fresh lane old new bytes h = seen_extended _ old new _ h.1.greeted refl refl
+    (extends_none _ (past_of old.work))
 hands_extended Greeted lane old new bytes h = same_extended _ old new h.1
-hands_extended Asking lane old new bytes h = seen_extended _ old new _ h.1.queried refl refl (extends_one _ (entry.Event Send) (past_of old.work) refl)
+hands_extended Asking lane old new bytes h = seen_extended _ old new _ h.1.queried refl refl
+    (extends_one _ (entry.Event Send) (past_of old.work) refl)
 hands_extended Queried lane old new bytes h = same_extended _ old new h.1
 hands_extended Open lane old new bytes h = goes_on_extended _ _ old new h
     (hands_extend (setting_at old) (progress_of old.work) (progress_of new.work) bytes lane h.did.hands)
@@ -331,9 +357,11 @@ takes_extend s body_reads a b lane h = extends_on _ a.past _ b.past
     (extends_one (passes by_read lane) (entry.Event (Take h.0 h.1.0)) a.past refl)
     (settles_extend _ (λ id r. refl) s _ b.past h.1.1.3)
 
-begins_extend : (asks : Bool) (p : Phase) (before now : List Entry) (lane : Option ℕ) → BeginsBy asks p before now → Extends (passes by_read lane) before now
+begins_extend : (asks : Bool) (p : Phase) (before now : List Entry) (lane : Option ℕ) → BeginsBy asks p before now
+    → Extends (passes by_read lane) before now
 begins_extend false p before now lane h = subst (Extends (passes by_read lane) before) (sym h.1) (extends_none _ before)
-begins_extend true p before now lane h = subst (Extends (passes by_read lane) before) (sym h.1.1.1) (extends_one _ _ before refl)
+begins_extend true p before now lane h = subst (Extends (passes by_read lane) before) (sym h.1.1.1)
+    (extends_one _ _ before refl)
 
 pub takes_extended : (p : Phase) (body_reads : Result (Option ℕ × Reply) FrameError) (lane : Option ℕ)
     (old new : SessionValue) → TakesIn p body_reads old new → Extended (passes by_read lane) old new
@@ -362,19 +390,24 @@ takes_extended Failed body_reads lane old new h = absurd h
 abbrev pub LetsKeep : (Entry → Bool) → Type 0
 LetsKeep test = (f : Fault) → test (entry.Kept f) ≡ true
 
-pub kept_extended : (test : Entry → Bool) → LetsKeep test → (f : Fault) (old new : SessionValue) → IsKept f old new → Extended test old new
+pub kept_extended : (test : Entry → Bool) → LetsKeep test → (f : Fault) (old new : SessionValue) → IsKept f old new
+    → Extended test old new
 kept_extended test lets f old new h = record {
-  past = subst (Extends test (past_of old.work)) (sym h.past) (extends_one test (entry.Kept f) (past_of old.work) (lets f));
+  past = subst (Extends test (past_of old.work)) (sym h.past)
+      (extends_one test (entry.Kept f) (past_of old.work) (lets f));
   lanes = h.lanes;
   options = h.options;
   version = subst (StaysThere old.version) (sym h.version) (stays_same old.version);
 }
 
-refused_extend : (test : Entry → Bool) → LetsKeep test → (fault : Option Fault) (past now : List Entry) → now ≡ refused_past fault past → Extends test past now
+refused_extend : (test : Entry → Bool) → LetsKeep test → (fault : Option Fault) (past now : List Entry) → now
+    ≡ refused_past fault past → Extends test past now
 refused_extend test lets None past now is = subst (Extends test past) (sym is) (extends_none test past)
-refused_extend test lets (Some f) past now is = subst (Extends test past) (sym is) (extends_one test (entry.Kept f) past (lets f))
+refused_extend test lets (Some f) past now is = subst (Extends test past) (sym is)
+    (extends_one test (entry.Kept f) past (lets f))
 
-refused_extended : (test : Entry → Bool) → LetsKeep test → (e : TakeError) (old new : SessionValue) → IsRefused e old new → Extended test old new
+refused_extended : (test : Entry → Bool) → LetsKeep test → (e : TakeError) (old new : SessionValue)
+    → IsRefused e old new → Extended test old new
 refused_extended test lets e old new h = record {
   past = refused_extend test lets (fault_of e) (past_of old.work) (past_of new.work) h.past;
   lanes = ap (λ (s : SessionValue). s.lanes) h.rest;
@@ -382,7 +415,8 @@ refused_extended test lets e old new h = record {
   version = subst (StaysThere old.version) (sym (ap (λ (s : SessionValue). s.version) h.rest)) (stays_same old.version);
 }
 
-stops_either : (test : Entry → Bool) → LetsKeep test → (body_reads : Result (Option ℕ × Reply) FrameError) (e : Error) (old new : SessionValue)
+stops_either : (test : Entry → Bool) → LetsKeep test → (body_reads : Result (Option ℕ × Reply) FrameError) (e : Error)
+    (old new : SessionValue)
     → IsRefusedBy body_reads e old new ⊎ IsUnawaited e old new → Extended test old new
 stops_either test lets body_reads e old new h =
     ⊎_elim (λ (r : IsRefusedBy body_reads e old new). refused_extended test lets r.error old new r.kept)

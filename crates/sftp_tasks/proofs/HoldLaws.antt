@@ -41,13 +41,13 @@ use Rattle.sftp_model.specs.declared.error.Error.TheVariants as error
 use Rattle.sftp_model.specs.declared.error.Fault.{Fault}
 use Rattle.session_driver.specs.declared.session.Phase.{Phase}
 use Rattle.session_driver.specs.declared.session.Phase.TheVariants.{Fresh, Open, Failed}
-use Rattle.session_model.specs.Readings.{unanswered}
+use Rattle.session_model.specs.Readings.{count_unanswered}
 use Rattle.session_model.specs.declared.entry.Entry.{Entry}
 use Rattle.session_model.specs.declared.entry.Entry.TheVariants as entry
 use Rattle.sftp_lanes.specs.Events.{HandsOutIn, TakesIn}
 use Rattle.sftp_lanes.specs.Seen.{SessionValue}
 use Rattle.session_work.specs.Working.{LanesValue, past_of}
-use Rattle.session_seats.specs.Sights.{FitsStage, Rises, StaysThere}
+use Rattle.session_seats.specs.Sights.{FitsStage, CountsRise, StaysThere}
 use Rattle.atomic_table.specs.Table.{Me}
 use Rattle.session_seats.specs.declared.view.Sight.{Sight}
 use Rattle.session_seats.specs.declared.view.View.{View}
@@ -55,24 +55,24 @@ use Rattle.session_seats.specs.Holds.{Allowance, GoesBy, Hold, claim_of, no_allo
 use Rattle.session_seats.proofs.Lists.{stays_on, stays_same}
 use Rattle.sftp_tasks.specs.declared.locked.Locked.{Locked}
 use Rattle.sftp_tasks.specs.Shows.{shown_of}
-use Rattle.sftp_model.specs.Pieces.{joined}
+use Rattle.sftp_model.specs.Pieces.{joined_pieces}
 use Rattle.sftp_model.specs.ReplyReadings.{reply_at}
 use Rattle.std.specs.Option.{option_map}
 use Rattle.plan_model.specs.declared.call.Call.{Call}
 use Rattle.sftp_lanes.specs.Adding.{AddsCall, IsSame}
 use Rattle.sftp_tasks.specs.SessionEvents.{GivesUp, KeepsFault, RefusesCall, RefusesToAdd, SubmitsCall, TakeStops}
 use Rattle.sftp_tasks.specs.LockedEvents.{
-  Finishing,
+  SettlesEnd,
   HandingOut,
-  Hands,
+  HandsOutFrames,
   IsFrame,
-  Taking,
+  CountsTakenFrame,
   TakingFrame,
   UnlessFault,
-  Writing,
+  NotesWritten,
   at_end,
   is_answered,
-  tells,
+  tells_written,
 }
 use Rattle.sftp_wire.specs.FrameReader.{Received, body_of}
 use Rattle.sftp_lanes.specs.Counts.{unsent_in}
@@ -96,7 +96,7 @@ use Rattle.sftp_tasks.proofs.EntryLaws.{
 }
 
 pub counts_goes : (test : Entry → Bool) (may : Allowance) (y z : Locked) → z.users ≡ y.users → z.seated ≡ y.seated
-    → z.counts.stage ≡ y.counts.stage → Rises y.counts z.counts
+    → z.counts.stage ≡ y.counts.stage → CountsRise y.counts z.counts
     → y.counts.handed + z.counts.written ≤ may.tells + z.counts.handed + y.counts.written
     → Extended test y.session z.session → GoesBy test may (shown_of y) (shown_of z)
 counts_goes test may y z users seated stage rises written e = (
@@ -111,7 +111,8 @@ counts_goes test may y z users seated stage rises written e = (
     rises = rises;
     written = written;
     users = omega arith;
-    ends = subst (λ (k : ℕ × ℕ). FitsStage y.counts.stage y.users → FitsStage k.0 k.1) (λ i. (sym stage i, sym users i)) (λ was. was);
+    ends = subst (λ (k : ℕ × ℕ). FitsStage y.counts.stage y.users → FitsStage k.0 k.1) (λ i. (sym stage i, sym users i))
+        (λ was. was);
   },
 )
 
@@ -143,44 +144,53 @@ handing_goes lane y z (Ok None) rest h = handed_goes _ y z rest (let same = h.1.
     (hands_extended y.session.phase lane y.session z.session None h.0)
 handing_goes lane y z (Ok (Some x)) rest h = handed_goes _ y z rest (let more = h.1.0.counts in omega arith)
     (hands_extended y.session.phase lane y.session z.session _ h.0)
-handing_goes lane y z (Err e) rest h = handed_goes _ y z rest (let same = h.1 in omega arith) (refuses_extended _ e y.session z.session h.0)
+handing_goes lane y z (Err e) rest h = handed_goes _ y z rest (let same = h.1 in omega arith)
+    (refuses_extended _ e y.session z.session h.0)
 
 -- frames were written
-pub writing_goes : (lane : Option ℕ) (frames : ℕ) (y z : Locked) → Writing frames y z
-    → y.counts.written ≤ z.counts.written → GoesBy (passes by_nothing lane) (tells frames) (shown_of y) (shown_of z)
+pub writing_goes : (lane : Option ℕ) (frames : ℕ) (y z : Locked) → NotesWritten frames y z
+    → y.counts.written ≤ z.counts.written → GoesBy (passes by_nothing lane) (tells_written frames) (shown_of y)
+    (shown_of z)
 writing_goes lane frames y z is small =
     let stage : z.counts.stage ≡ y.counts.stage = ap (λ (x : Locked). x.counts.stage) is in
-    let written : z.counts.written ≡ min (y.counts.written + frames) (2 ^ 64 - 1) = ap (λ (x : Locked). x.counts.written) is in
+    let written : z.counts.written ≡ min (y.counts.written + frames) (2 ^ 64 - 1) =
+    ap (λ (x : Locked). x.counts.written) is in
     let handed : z.counts.handed ≡ y.counts.handed = ap (λ (x : Locked). x.counts.handed) is in
     let taken : z.counts.taken ≡ y.counts.taken = ap (λ (x : Locked). x.counts.taken) is in
-    counts_goes _ (tells frames) y z (ap (λ (x : Locked). x.users) is) (ap (λ (x : Locked). x.seated) is) stage
+    counts_goes _ (tells_written frames) y z (ap (λ (x : Locked). x.users) is) (ap (λ (x : Locked). x.seated) is) stage
     record { handed = omega arith; written = omega arith; taken = omega arith; stage = omega arith } (omega arith)
     (same_extended _ y.session z.session (ap (λ (x : Locked). x.session) is))
 
 pub taking_goes : (lane : Option ℕ) (body : List ℕ) (y z : Locked) (r : Result (Unit {0}) Error) → z
     ≡ record y { session = z.session; counts = record y.counts { taken = z.counts.taken } }
     → y.counts.taken ≤ z.counts.taken
-    → Taking body y z r → GoesBy (passes by_read lane) no_allowance (shown_of y) (shown_of z)
-taking_goes lane body y z (Ok u) rest more h = taken_goes _ y z rest more (takes_extended y.session.phase _ lane y.session z.session h.0)
-taking_goes lane body y z (Err e) rest more h = taken_goes _ y z rest more (stops_extended _ (λ f. refl) _ e y.session z.session h.0)
+    → CountsTakenFrame body y z r → GoesBy (passes by_read lane) no_allowance (shown_of y) (shown_of z)
+taking_goes lane body y z (Ok u) rest more h = taken_goes _ y z rest more
+    (takes_extended y.session.phase _ lane y.session z.session h.0)
+taking_goes lane body y z (Err e) rest more h = taken_goes _ y z rest more
+    (stops_extended _ (λ f. refl) _ e y.session z.session h.0)
 
-pub failing_goes : (lane : Option ℕ) (f : Fault) (y z : Locked) (r : Result (Unit {0}) Error) → z ≡ record y { session = z.session }
+pub failing_goes : (lane : Option ℕ) (f : Fault) (y z : Locked) (r : Result (Unit {0}) Error) → z
+    ≡ record y { session = z.session }
     → KeepsFault f y.session z.session r → GoesBy (passes by_failing lane) no_allowance (shown_of y) (shown_of z)
 failing_goes lane f y z (Ok u) rest h = session_goes _ y z rest (kept_extended _ (λ g. refl) f y.session z.session h)
 failing_goes lane f y z (Err e) rest h = session_goes _ y z rest (same_extended _ y.session z.session h.1.1.1)
 
 hands_from : (y z : Locked) (handed : Option Handed) → MatchOption handed (z.counts.handed ≡ y.counts.handed)
     (λ h. z.counts.handed ≡ y.counts.handed + h.frames)
-    → MatchOption handed (Unit {0}) (λ h. y.session.phase ≢ Failed → h.frames ≡ unsent_in y.session.phase (past_of y.session.work))
-    → MatchOption handed (z.counts.handed ≡ y.counts.handed) (λ h. Hands y z h.frames)
+    → MatchOption handed (Unit {0}) (λ h. y.session.phase ≢ Failed → h.frames
+    ≡ unsent_in y.session.phase (past_of y.session.work))
+    → MatchOption handed (z.counts.handed ≡ y.counts.handed) (λ h. HandsOutFrames y z h.frames)
 hands_from y z None counts frames = counts
 hands_from y z (Some h) counts frames = record { counts = counts; frames = frames }
 
 pub handing_from : (y z : Locked) (r : Result (Option Handed) Error) → z
     ≡ record y { session = z.session; counts = record y.counts { handed = z.counts.handed } }
-    → IfOk r (λ handed. HandsOutIn y.session.phase y.session z.session (option_map (λ h. joined h.chunk) handed))
-    → IfOk r (λ handed. MatchOption handed (z.counts.handed ≡ y.counts.handed) (λ h. z.counts.handed ≡ y.counts.handed + h.frames))
-    → IfOk r (λ handed. MatchOption handed (Unit {0}) (λ h. y.session.phase ≢ Failed → h.frames ≡ unsent_in y.session.phase (past_of y.session.work)))
+    → IfOk r (λ handed. HandsOutIn y.session.phase y.session z.session (option_map (λ h. joined_pieces h.chunk) handed))
+    → IfOk r (λ handed. MatchOption handed (z.counts.handed ≡ y.counts.handed)
+    (λ h. z.counts.handed ≡ y.counts.handed + h.frames))
+    → IfOk r (λ handed. MatchOption handed (Unit {0}) (λ h. y.session.phase ≢ Failed → h.frames
+    ≡ unsent_in y.session.phase (past_of y.session.work)))
     → IfErr r (λ e. RefusesCall e y.session z.session × (z.counts.handed ≡ y.counts.handed)) → HandingOut y z r
 handing_from y z (Ok handed) rest a b c d = (a, (hands_from y z handed b c, ap (λ (x : Locked). x.counts.written) rest))
 handing_from y z (Err e) rest a b c d = d
@@ -188,7 +198,8 @@ handing_from y z (Err e) rest a b c d = d
 pub taking_from : (body : List ℕ) (y z : Locked) (r : Result (Unit {0}) Error)
     → OnOk r (TakesIn y.session.phase (reply_at body) y.session z.session)
     → OnOk r ((z.counts.taken ≡ min (y.counts.taken + 1) (2 ^ 64 - 1)) × (y.counts.taken ≤ z.counts.taken))
-    → IfErr r (λ e. TakeStops (reply_at body) e y.session z.session × (z.counts.taken ≡ y.counts.taken)) → Taking body y z r × (y.counts.taken ≤ z.counts.taken)
+    → IfErr r (λ e. TakeStops (reply_at body) e y.session z.session × (z.counts.taken ≡ y.counts.taken))
+    → CountsTakenFrame body y z r × (y.counts.taken ≤ z.counts.taken)
 taking_from body y z (Ok u) a b c = ((a, b.0), b.1)
 taking_from body y z (Err e) a b c = (c, let same = c.1 in omega arith)
 
@@ -198,13 +209,15 @@ gives_up_goes lane y z rest h = session_goes _ y z rest record {
   past = ([], ap (λ (s : SessionValue). past_of s.work) h, refl);
   lanes = ap (λ (s : SessionValue). s.lanes) h;
   options = ap (λ (s : SessionValue). s.options) h;
-  version = subst (StaysThere y.session.version) (sym (ap (λ (s : SessionValue). s.version) h)) (stays_same y.session.version);
+  version = subst (StaysThere y.session.version) (sym (ap (λ (s : SessionValue). s.version) h))
+      (stays_same y.session.version);
 }
 
 -- the end is settled
 answered_begun : (p : Phase) (stage unanswered : ℕ) → is_answered p stage unanswered ≡ true → 1 ≤ stage
 answered_begun Open stage unanswered is =
-    let low = (Rattle.session_seats.proofs.HoldLaws.both_true (nat_le 1 stage) (unanswered == 0) is).0 in grind (arith, nat_tests)
+    let low = (Rattle.session_seats.proofs.HoldLaws.both_true (nat_le 1 stage) (unanswered == 0) is).0 in
+    grind (arith, nat_tests)
 answered_begun Fresh stage unanswered is = absurd (true≢false (sym is))
 answered_begun other stage unanswered is = absurd (true≢false (sym is))
 
@@ -221,14 +234,20 @@ ends_at lane y true most begun =
         lanes = refl;
         options = refl;
         version = stays_same y.session.version;
-        rises = record { handed = omega arith; written = omega arith; taken = omega arith; stage = omega (arith, most) };
+        rises = record {
+          handed = omega arith;
+          written = omega arith;
+          taken = omega arith;
+          stage =
+              omega (arith, most);
+        };
         written = omega arith;
         users = omega arith;
         ends = λ was. (omega arith, λ rose. was.1 (omega (arith, low)));
       },
     )
 
-pub finishing_goes : (lane : Option ℕ) (y z : Locked) (r : Result Bool Error) → y.counts.stage ≤ 2 → Finishing y z r
+pub finishing_goes : (lane : Option ℕ) (y z : Locked) (r : Result Bool Error) → y.counts.stage ≤ 2 → SettlesEnd y z r
     → GoesBy (passes by_nothing lane) no_allowance (shown_of y) (shown_of z)
 finishing_goes lane y z (Ok all) most h =
     subst (λ (x : Locked). GoesBy (passes by_nothing lane) no_allowance (shown_of y) (shown_of x)) (sym h.1)
@@ -238,9 +257,9 @@ finishing_goes lane y z (Err e) most h =
     (session_goes _ y y refl (same_extended _ y.session y.session refl))
 
 pub finishing_from : (y z : Locked) (r : Result Bool Error)
-    → IfOk r (λ all. all ≡ is_answered y.session.phase y.counts.stage (unanswered (past_of y.session.work)))
+    → IfOk r (λ all. all ≡ is_answered y.session.phase y.counts.stage (count_unanswered (past_of y.session.work)))
     → IfOk r (λ all. z ≡ record y { counts = at_end all y.counts })
-    → IfErr r (λ e. RefusesCall e y.session y.session × (z ≡ y)) → Finishing y z r
+    → IfErr r (λ e. RefusesCall e y.session y.session × (z ≡ y)) → SettlesEnd y z r
 finishing_from y z (Ok all) told stage refused = (told, stage)
 finishing_from y z (Err e) told stage refused = (refused.1, refused.0)
 
@@ -249,21 +268,24 @@ finishing_from y z (Err e) told stage refused = (refused.1, refused.0)
 sames_contents : (old new : SessionValue) → IsSame old new → past_of new.work ≡ past_of old.work
 sames_contents old new h = ap (λ (c : LanesValue). c.past) h.contents
 
-pub refused_add_extended : (test : Entry → Bool) (e : Error) (old new : SessionValue) → RefusesToAdd e old new → Extended test old new
+pub refused_add_extended : (test : Entry → Bool) (e : Error) (old new : SessionValue) → RefusesToAdd e old new
+    → Extended test old new
 refused_add_extended test error.OutOfMemory old new h =
     ⊎_elim (same_extended test old new)
     (λ (s : IsSame old new). record {
       past = ([], sames_contents old new s, refl);
       lanes = ap (λ (x : SessionValue). x.lanes) s.rest;
       options = ap (λ (x : SessionValue). x.options) s.rest;
-      version = subst (StaysThere old.version) (sym (ap (λ (x : SessionValue). x.version) s.rest)) (stays_same old.version);
+      version = subst (StaysThere old.version) (sym (ap (λ (x : SessionValue). x.version) s.rest))
+          (stays_same old.version);
     })
     h
 refused_add_extended test (error.BackgroundTaskFailure fault) old new h = same_extended test old new h.1
 refused_add_extended test error.LinkFault old new h = absurd h
 refused_add_extended test other old new h = absurd h
 
-adds_call_extended : (lane : ℕ) (call : Call) (old new : SessionValue) → AddsCall lane call old new → Extended (passes by_submit (Some lane)) old new
+adds_call_extended : (lane : ℕ) (call : Call) (old new : SessionValue) → AddsCall lane call old new
+    → Extended (passes by_submit (Some lane)) old new
 adds_call_extended lane call old new h = record {
   past = subst (Extends (passes by_submit (Some lane)) (past_of old.work)) (sym (ap (λ (c : LanesValue). c.past) h.is))
       (extends_one _ (entry.Added lane call) (past_of old.work) (same_lane lane));
@@ -278,13 +300,20 @@ step_is_submit lane (entry.Added l call) h = absurd (true≢false (sym h))
 step_is_submit lane (entry.LetGo l) h = absurd (true≢false (sym h))
 step_is_submit lane (entry.Kept f) h = absurd (true≢false (sym h))
 
-weaker : (P Q : Entry → Bool) → ((e : Entry) → P e ≡ true → Q e ≡ true) → (es : List Entry) → list_all P es ≡ true → list_all Q es ≡ true
+weaker : (P Q : Entry → Bool) → ((e : Entry) → P e ≡ true → Q e ≡ true) → (es : List Entry) → list_all P es ≡ true
+    → list_all Q es ≡ true
 weaker P Q f [] h = refl
 weaker P Q f (e ∷ es) h = let b = Rattle.session_seats.proofs.HoldLaws.both_true (P e) (list_all P es) h in
     and_true (Q e) (list_all Q es) (f e b.0) (weaker P Q f es b.1)
 
-extended_as : (P Q : Entry → Bool) → ((e : Entry) → P e ≡ true → Q e ≡ true) → (old new : SessionValue) → Extended P old new → Extended Q old new
-extended_as P Q f old new h = record { past = (h.past.0, h.past.1, weaker P Q f h.past.0 h.past.2); lanes = h.lanes; options = h.options; version = h.version }
+extended_as : (P Q : Entry → Bool) → ((e : Entry) → P e ≡ true → Q e ≡ true) → (old new : SessionValue)
+    → Extended P old new → Extended Q old new
+extended_as P Q f old new h = record {
+  past = (h.past.0, h.past.1, weaker P Q f h.past.0 h.past.2);
+  lanes = h.lanes;
+  options = h.options;
+  version = h.version;
+}
 
 extended_on : (test : Entry → Bool) (a b c : SessionValue) → Extended test a b → Extended test b c → Extended test a c
 extended_on test a b c p q = record {
@@ -317,13 +346,15 @@ if_false (Ok did) P is p = subst P (sym is) p
 if_false (Err e) P is p = tt
 
 -- what a seat handed out it may tell as written
-pub handed_unwritten : (m n : Me Locked View) {Did : Locked → Locked → List Entry → Type 0} (h : Hold shown_of Did m n) (handed : Handed)
+pub handed_unwritten : (m n : Me Locked View) {Did : Locked → Locked → List Entry → Type 0} (h : Hold shown_of Did m n)
+    (handed : Handed)
     → UnlessFault HandingOut h.before h.after (Ok (Some handed)) → handed.frames ≤ (claim_of n).unwritten
 handed_unwritten m n h handed r =
     let un : (claim_of n).unwritten ≡ (claim_of m).unwritten + h.after.counts.handed + h.now.counts.written -
     (h.now.counts.handed + h.after.counts.written) = ap (λ (x : Me Locked View). (claim_of x).unwritten) h.is in
     let all : h.now.counts.handed ≡ h.before.counts.handed = ap (λ (s : Sight). s.counts.handed) h.took.shows.told in
-    let wrote : h.now.counts.written ≡ h.before.counts.written = ap (λ (s : Sight). s.counts.written) h.took.shows.told in
+    let wrote : h.now.counts.written ≡ h.before.counts.written = ap (λ (s : Sight). s.counts.written) h.took.shows.told
+    in
     let more = r.0.1.0.counts in
     let same = r.0.1.1 in
     omega arith
@@ -333,7 +364,9 @@ got_or body None = body
 got_or body (Some b) = b
 
 -- a frame's body is the one that was taken
-pub taking_frame : (frame : Received) (body : List ℕ) (y z : Locked) (r : Result (Unit {0}) Error) → body_of frame ≡ Some body → IsFrame frame body
-    → Taking body y z r → TakingFrame frame y z r
+pub taking_frame : (frame : Received) (body : List ℕ) (y z : Locked) (r : Result (Unit {0}) Error) → body_of frame
+    ≡ Some body → IsFrame frame body
+    → CountsTakenFrame body y z r → TakingFrame frame y z r
 taking_frame frame body y z r is spelled takes other same =
-    subst (λ (b : List ℕ). IsFrame frame b × Taking b y z r) (ap (got_or body) (sym is ∙ same)) (spelled, takes)
+    subst (λ (b : List ℕ). IsFrame frame b × CountsTakenFrame b y z r) (ap (got_or body) (sym is ∙ same))
+    (spelled, takes)

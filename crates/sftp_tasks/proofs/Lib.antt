@@ -1,18 +1,18 @@
-pub mod EntryLaws
-pub mod HoldLaws
-pub mod CallLaws
-pub mod RoundLaws
-pub mod StopLaws
-pub mod LaneLaws
-pub mod CloseLaws
-pub mod SameLocked
-pub mod EndedLaws
-pub mod PollLaws
-pub mod WorkLaws
+mod EntryLaws
+mod HoldLaws
+mod CallLaws
+mod RoundLaws
+mod StopLaws
+mod LaneLaws
+mod CloseLaws
+mod SameLocked
+mod EndedLaws
+mod PollLaws
+mod WorkLaws
 pub mod Sends
 pub mod SentLists
 pub mod SentEvents
 pub mod SentRounds
 pub mod TakenRounds
-pub mod OpeningLaws
+mod OpeningLaws
 pub mod SentWhole

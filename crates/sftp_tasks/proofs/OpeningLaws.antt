@@ -2,18 +2,18 @@
 use Rattle.std.proofs.Common.{◌≡◌, ◌⊎◌, ◌≤◌, ◌+◌, ◌-◌, ℕ, List, [], drop, Bool, true, false, true≢false, refl, sym, ap, ◌∙◌, subst, inl, inr, arith, Option, Some, None, Ok, Err}
 use Rattle.std.specs.Prelude.{IfErr, OnOk, Result}
 use Rattle.session_driver.specs.declared.session.Phase.TheVariants.{Fresh, Greeted}
-use Rattle.session_driver.specs.Session.{Seen}
+use Rattle.session_driver.specs.Session.{SessionView}
 use Rattle.session_driver.specs.declared.session.Phase.{Phase}
-use Rattle.session_exchange.specs.Causes.{Caused}
-use Rattle.session_exchange.specs.Reading.{IsWhole}
+use Rattle.link_frames.specs.Causes.{IsCausedByLink}
+use Rattle.link_frames.specs.Reading.{IsWhole}
 use Rattle.session_model.specs.declared.entry.Entry.{Entry}
 use Rattle.session_model.specs.declared.entry.Entry.TheVariants as entry
-use Rattle.session_model.specs.Settings.{greeting}
+use Rattle.session_model.specs.Settings.{version_reply_of}
 use Rattle.session_model.specs.Shown.{hello_frame}
 use Rattle.session_seats.specs.declared.view.Claim.{Claim}
 use Rattle.session_seats.specs.declared.view.Receipt.{Receipt}
 use Rattle.session_seats.specs.declared.view.Sight.{Sight}
-use Rattle.session_seats.specs.Holds.{Allowance, Applied, GoesBy, Grew, Hold, claim_of, no_allowance, passes}
+use Rattle.session_seats.specs.Holds.{Allowance, Applied, GoesBy, AddsEntries, Hold, claim_of, no_allowance, passes}
 use Rattle.session_seats.specs.Sights.{StaysThere}
 use Rattle.session_seats.proofs.GrowLaws.{grew_on, grew_weaker}
 use Rattle.session_seats.proofs.HoldLaws.{hold_map}
@@ -22,20 +22,20 @@ use Rattle.session_seats.proofs.RepeatLaws.{sees_version}
 use Rattle.session_work.specs.Working.{past_of}
 use Rattle.sftp_lanes.specs.Events.{BeginsBy, HandsHello, HandsOutIn, TakesIn, TakesVersion}
 use Rattle.sftp_lanes.specs.Seen.{SessionValue}
-use Rattle.sftp_link.specs.Told.{GotAll, Told}
+use Rattle.sftp_link.specs.Told.{GotAll, IfLogged}
 use Rattle.sftp_link.specs.Views.{LinkView}
 use Rattle.sftp_model.specs.declared.error.Error.{Error}
 use Rattle.sftp_model.specs.declared.error.Fault.TheVariants as fault
 use Rattle.sftp_model.specs.declared.frame_error.FrameError.{FrameError}
 use Rattle.sftp_model.specs.declared.reply.Reply.{Reply}
-use Rattle.sftp_model.specs.Pieces.{joined}
+use Rattle.sftp_model.specs.Pieces.{joined_pieces}
 use Rattle.sftp_model.specs.ReplyReadings.{reply_at}
 use Rattle.sftp_wire.specs.FrameReader.{Received, body_of}
 use Rattle.sftp_tasks.specs.declared.frames.Handed.{Handed}
 use Rattle.sftp_tasks.specs.declared.locked.Locked.{Locked}
-use Rattle.sftp_tasks.specs.Calls.{settled}
+use Rattle.sftp_tasks.specs.Calls.{with_receipt}
 use Rattle.sftp_tasks.specs.Entries.{by_failing, by_nothing}
-use Rattle.sftp_tasks.specs.LockedEvents.{HandingOut, IsFrame, Taking, UnlessFault, tells}
+use Rattle.sftp_tasks.specs.LockedEvents.{HandingOut, IsFrame, CountsTakenFrame, UnlessFault, tells_written}
 use Rattle.sftp_tasks.specs.Opening.{FindsHello, GetsSomeVersion, HandingHello, HandsOutHello, IsUnasked, TakingVersion, TakingVersionFrame, VersionStops, by_opening}
 use Rattle.sftp_tasks.specs.Rounds.{RefusesRound, Token}
 use Rattle.sftp_tasks.specs.SessionEvents.{HasNoFault, RefusesCall, TakeStops}
@@ -58,19 +58,23 @@ use Rattle.sftp_tasks.proofs.SentEvents.{whole_body}
 
 hello_extended : (test : Entry → Bool) (old new : SessionValue) → HandsHello old new → Extended test old new
 hello_extended test old new h = record {
-  past = ([], ap (λ (s : Seen). s.progress.past) h.greeted, refl);
-  lanes = ap (λ (s : Seen). s.given.lanes) h.greeted;
-  options = ap (λ (s : Seen). s.given.options) h.greeted;
-  version = subst (StaysThere old.version) (sym (ap (λ (s : Seen). s.version) h.greeted)) (stays_same old.version);
+  past = ([], ap (λ (s : SessionView). s.progress.past) h.greeted, refl);
+  lanes = ap (λ (s : SessionView). s.given.lanes) h.greeted;
+  options = ap (λ (s : SessionView). s.given.options) h.greeted;
+  version = subst (StaysThere old.version) (sym (ap (λ (s : SessionView). s.version) h.greeted))
+      (stays_same old.version);
 }
 
 pub hello_goes : (lane : Option ℕ) (y z : Locked) (r : Result (Option Handed) Error) → z
     ≡ record y { session = z.session; counts = record y.counts { handed = z.counts.handed } }
     → HandingHello y z r → GoesBy (passes by_nothing lane) no_allowance (shown_of y) (shown_of z)
-hello_goes lane y z (Ok None) rest h = subst (λ (x : Locked). GoesBy (passes by_nothing lane) no_allowance (shown_of y) (shown_of x)) (sym h.1)
+hello_goes lane y z (Ok None) rest h = subst (λ (x : Locked). GoesBy (passes by_nothing lane) no_allowance (shown_of y)
+    (shown_of x)) (sym h.1)
     (session_goes _ y y refl (same_extended _ y.session y.session refl))
-hello_goes lane y z (Ok (Some x)) rest h = handed_goes _ y z rest (let more = h.counts.counts in omega arith) (hello_extended _ y.session z.session h.hands)
-hello_goes lane y z (Err e) rest h = handed_goes _ y z rest (let same = h.1 in omega arith) (refuses_extended _ e y.session z.session h.0)
+hello_goes lane y z (Ok (Some x)) rest h = handed_goes _ y z rest (let more = h.counts.counts in omega arith)
+    (hello_extended _ y.session z.session h.hands)
+hello_goes lane y z (Err e) rest h = handed_goes _ y z rest (let same = h.1 in omega arith)
+    (refuses_extended _ e y.session z.session h.0)
 
 none-some : {A : Type 0} (x : A) → None ≡ Some x → ⊥
 none-some x e = cc e
@@ -79,31 +83,37 @@ some-same : (a b : List ℕ) → Some a ≡ Some b → a ≡ b
 some-same a b e = cc e
 
 -- what is handed out first is the hello
-pub hello_first : (y z : Locked) (r : Result (Option Handed) Error) → y.session.phase ≡ Fresh → HandingOut y z r → HandingHello y z r
+pub hello_first : (y z : Locked) (r : Result (Option Handed) Error) → y.session.phase ≡ Fresh → HandingOut y z r
+    → HandingHello y z r
 hello_first y z (Ok None) fresh h =
     absurd (none-some hello_frame (subst (λ (p : Phase). HandsOutIn p y.session z.session None) fresh h.0).0)
 hello_first y z (Ok (Some x)) fresh h =
-    let s = subst (λ (p : Phase). HandsOutIn p y.session z.session (Some (joined x.chunk))) fresh h.0 in
-    record { hello = some-same (joined x.chunk) hello_frame s.0; hands = s.1; counts = h.1.0; written = h.1.1 }
+    let s = subst (λ (p : Phase). HandsOutIn p y.session z.session (Some (joined_pieces x.chunk))) fresh h.0 in
+    record { hello = some-same (joined_pieces x.chunk) hello_frame s.0; hands = s.1; counts = h.1.0; written = h.1.1 }
 hello_first y z (Err e) fresh h = h
 
 -- what a seat handed out it may tell as written
-pub hello_unwritten : (m n : Token) {Did : Locked → Locked → List Entry → Type 0} (h : Hold shown_of Did m n) (handed : Handed)
+pub hello_unwritten : (m n : Token) {Did : Locked → Locked → List Entry → Type 0} (h : Hold shown_of Did m n)
+    (handed : Handed)
     → HandsOutHello h.before h.after handed → handed.frames ≤ (claim_of n).unwritten
 hello_unwritten m n h handed r =
     let un : (claim_of n).unwritten ≡ (claim_of m).unwritten + h.after.counts.handed + h.now.counts.written -
     (h.now.counts.handed + h.after.counts.written) = ap (λ (x : Token). (claim_of x).unwritten) h.is in
     let all : h.now.counts.handed ≡ h.before.counts.handed = ap (λ (s : Sight). s.counts.handed) h.took.shows.told in
-    let wrote : h.now.counts.written ≡ h.before.counts.written = ap (λ (s : Sight). s.counts.written) h.took.shows.told in
+    let wrote : h.now.counts.written ≡ h.before.counts.written = ap (λ (s : Sight). s.counts.written) h.took.shows.told
+    in
     let more = r.counts.counts in
     let same = r.written in
     omega arith
 
 -- a hold that takes no user out leaves the seat its share
-pub share_kept_by : {X Y : Type 0} {test : Entry → Bool} {Does : Locked → Locked → Type 0} {copied : Result X Y} {old new : List Receipt} (frames : ℕ) (m n : Token)
-    → Hold shown_of (Applied shown_of test (tells frames) Does copied old new) m n → (claim_of m).share ≤ (claim_of n).share
+pub share_kept_by : {X Y : Type 0} {test : Entry → Bool} {Does : Locked → Locked → Type 0} {copied : Result X Y}
+    {old new : List Receipt} (frames : ℕ) (m n : Token)
+    → Hold shown_of (Applied shown_of test (tells_written frames) Does copied old new) m n
+    → (claim_of m).share ≤ (claim_of n).share
 share_kept_by frames m n h =
-    let is : (claim_of n).share ≡ (claim_of m).share + h.after.users - h.before.users = ap (λ (x : Token). (claim_of x).share) h.is in
+    let is : (claim_of n).share ≡ (claim_of m).share + h.after.users - h.before.users =
+    ap (λ (x : Token). (claim_of x).share) h.is in
     let stay : h.before.users ≤ 0 + h.after.users = h.did.goes.users in
     omega (arith, is, stay)
 
@@ -111,10 +121,13 @@ share_kept_by frames m n h =
 
 begins_extend : (asks : Bool) (p : Phase) (before now : List Entry) (lane : Option ℕ) → BeginsBy asks p before now
     → Extends (passes by_opening lane) before now
-begins_extend false p before now lane h = subst (Extends (passes by_opening lane) before) (sym h.1) (extends_none _ before)
-begins_extend true p before now lane h = subst (Extends (passes by_opening lane) before) (sym h.1.1.1) (extends_one _ _ before refl)
+begins_extend false p before now lane h = subst (Extends (passes by_opening lane) before) (sym h.1)
+    (extends_none _ before)
+begins_extend true p before now lane h = subst (Extends (passes by_opening lane) before) (sym h.1.1.1)
+    (extends_one _ _ before refl)
 
-version_extended : (body_reads : Result (Option ℕ × Reply) FrameError) (asks : Bool) (lane : Option ℕ) (old new : SessionValue)
+version_extended : (body_reads : Result (Option ℕ × Reply) FrameError) (asks : Bool) (lane : Option ℕ)
+    (old new : SessionValue)
     → TakesVersion body_reads asks old new → Extended (passes by_opening lane) old new
 version_extended body_reads asks lane old new h = record {
   past = begins_extend asks new.phase (past_of old.work) (past_of new.work) lane h.begins;
@@ -125,19 +138,28 @@ version_extended body_reads asks lane old new h = record {
 
 -- a frame that is not taken as VERSION adds at most a fault
 untaken_extended : (lane : Option ℕ) (body : List ℕ) (e : Error) (old new : SessionValue)
-    → RefusesCall e old new ⊎ (TakeStops (reply_at body) e old new ⊎ IsUnasked e old new) → Extended (passes by_opening lane) old new
+    → RefusesCall e old new ⊎ (TakeStops (reply_at body) e old new ⊎ IsUnasked e old new)
+    → Extended (passes by_opening lane) old new
 untaken_extended lane body e old new (inl h) = refuses_extended _ e old new h
 untaken_extended lane body e old new (inr (inl h)) = stops_extended _ (λ f. refl) _ e old new h
 untaken_extended lane body e old new (inr (inr h)) = kept_extended _ (λ f. refl) (fault.Response None) old new h.kept
 
 pub version_goes : (lane : Option ℕ) (body : List ℕ) (y z : Locked) (r : Result (Unit {0}) Error) → z
     ≡ record y { session = z.session; counts = record y.counts { taken = z.counts.taken } }
-    → y.counts.taken ≤ z.counts.taken → TakingVersion body y z r → GoesBy (passes by_opening lane) no_allowance (shown_of y) (shown_of z)
-version_goes lane body y z (Ok u) rest more h = taken_goes _ y z rest more (version_extended _ h.0.0 lane y.session z.session h.0.1)
-version_goes lane body y z (Err e) rest more h = taken_goes _ y z rest more (untaken_extended lane body e y.session z.session h.0)
+    → y.counts.taken ≤ z.counts.taken → TakingVersion body y z r
+    → GoesBy (passes by_opening lane) no_allowance (shown_of y) (shown_of z)
+version_goes lane body y z (Ok u) rest more h = taken_goes _ y z rest more
+    (version_extended _ h.0.0 lane y.session z.session h.0.1)
+version_goes lane body y z (Err e) rest more h = taken_goes _ y z rest more
+    (untaken_extended lane body e y.session z.session h.0)
 
-pub version_awaited : (body : List ℕ) (y z : Locked) (r : Result (Unit {0}) Error) → y.session.phase ≡ Greeted → Taking body y z r → TakingVersion body y z r
-version_awaited body y z (Ok u) greeted h = (subst (λ (p : Phase). TakesIn p (reply_at body) y.session z.session) greeted h.0, h.1)
+pub version_awaited : (body : List ℕ) (y z : Locked) (r : Result (Unit {0}) Error) → y.session.phase ≡ Greeted
+    → CountsTakenFrame body y z r → TakingVersion body y z r
+version_awaited body y z (Ok u) greeted h = (
+  subst (λ (p : Phase). TakesIn p (reply_at body) y.session z.session)
+      greeted h.0,
+  h.1,
+)
 version_awaited body y z (Err e) greeted h = (inr (inl h.0), h.1)
 
 abbrev got_or : List ℕ → Option (List ℕ) → List ℕ
@@ -145,41 +167,54 @@ got_or body None = body
 got_or body (Some b) = b
 
 -- the body of the frame is taken
-pub taking_version : (frame : Received) (body : List ℕ) (y z : Locked) (r : Result (Unit {0}) Error) → body_of frame ≡ Some body → IsFrame frame body
+pub taking_version : (frame : Received) (body : List ℕ) (y z : Locked) (r : Result (Unit {0}) Error) → body_of frame
+    ≡ Some body → IsFrame frame body
     → TakingVersion body y z r → TakingVersionFrame frame y z r
 taking_version frame body y z r is spelled takes other same =
     subst (λ (b : List ℕ). IsFrame frame b × TakingVersion b y z r) (ap (got_or body) (sym is ∙ same)) (spelled, takes)
 
-module _ {X Y Service : Type 0} {test : Entry → Bool} {needs : Allowance} {old new : List Receipt} (copied : Result X Y) (m n : Token)
+module _ {X Y Service : Type 0} {test : Entry → Bool} {needs : Allowance} {old new : List Receipt} (copied : Result X Y)
+    (m n : Token)
     (frame : Received) (before now : LinkView Service) where
   -- a frame that was got and taken is VERSION
-  version_got : IsWhole frame → Told (GotAll frame.bytes) before.log now.log → Caused {T = Received} before now (Ok frame)
-      → Hold shown_of (Applied shown_of test needs (λ y z. UnlessFault (TakingVersionFrame frame) y z (Ok tt)) copied old new) m n → GetsSomeVersion m n before now
+  version_got : IsWhole frame → IfLogged (GotAll frame.bytes) before.log now.log
+      → IsCausedByLink {T = Received} before now (Ok frame)
+      → Hold shown_of (Applied shown_of test needs (λ y z. UnlessFault (TakingVersionFrame frame) y z (Ok tt)) copied
+      old new) m n → GetsSomeVersion m n before now
   version_got whole got caused h =
       let body = drop 4 frame.bytes in
       let t = h.did.does.0 body (whole_body frame whole) in
       let v = t.1.0.1 in (
-        greeting v.extensions,
+        version_reply_of v.extensions,
         record {
           frame = frame;
           got = got;
           caused = caused;
           reads = record { body = body; framed = t.0.0; short = t.0.1; reads = v.reads };
-          takes = hold_map shown_of m n h
-              (((t.1.0.0, subst (λ x. TakesVersion x t.1.0.0 h.before.session h.after.session) v.reads v), t.1.1), h.did.does.1);
+          takes = hold_map shown_of m n h (
+            ((t.1.0.0, subst (λ x. TakesVersion x t.1.0.0 h.before.session h.after.session) v.reads v), t.1.1),
+            h.did.does.1,
+          );
           sees = sees_version shown_of m n h ∙ v.told;
         },
       )
 
-  pub version_gets : (did : Result (Unit {0}) Error) → IsWhole frame → Told (GotAll frame.bytes) before.log now.log
-      → Caused {T = Received} before now (Ok frame)
-      → Hold shown_of (Applied shown_of test needs (λ y z. UnlessFault (TakingVersionFrame frame) y z did) copied old new) m n
-      → OnOk (settled did copied) (GetsSomeVersion m n before now) × IfErr (settled did copied) (λ e. VersionStops e m n before now)
-  version_gets (Err e) whole got caused h = (tt, inr (inl record { frame = frame; whole = whole; got = got; refuses = hold_map shown_of m n h h.did.does.0 }))
+  pub version_gets : (did : Result (Unit {0}) Error) → IsWhole frame → IfLogged (GotAll frame.bytes) before.log now.log
+      → IsCausedByLink {T = Received} before now (Ok frame)
+      → Hold shown_of (Applied shown_of test needs (λ y z. UnlessFault (TakingVersionFrame frame) y z did) copied old
+      new) m n
+      → OnOk (with_receipt did copied) (GetsSomeVersion m n before now)
+      × IfErr (with_receipt did copied) (λ e. VersionStops e m n before now)
+  version_gets (Err e) whole got caused h = (
+    tt,
+    inr (inl record
+        { frame = frame; whole = whole; got = got; refuses = hold_map shown_of m n h h.did.does.0 }),
+  )
   version_gets (Ok u) whole got caused h = by_copied copied (version_got whole got caused h)
     where
       by_copied : (c : Result X Y) → GetsSomeVersion m n before now
-          → OnOk (settled {X = X} {Y = Y} (Ok u) c) (GetsSomeVersion m n before now) × IfErr (settled {X = X} {Y = Y} (Ok u) c) (λ e. VersionStops e m n before now)
+          → OnOk (with_receipt {X = X} {Y = Y} (Ok u) c) (GetsSomeVersion m n before now)
+          × IfErr (with_receipt {X = X} {Y = Y} (Ok u) c) (λ e. VersionStops e m n before now)
       by_copied (Ok x) g = (g, tt)
       by_copied (Err y) g = (tt, inr (inr (refl, g)))
 
@@ -189,7 +224,8 @@ if_ok (Err e) P p = tt
 
 -- ---- which entries
 
-pub opening_nothing : (lane : Option ℕ) (a b : Claim) → Grew (by_nothing lane) a b → Grew (by_opening lane) a b
+pub opening_nothing : (lane : Option ℕ) (a b : Claim) → AddsEntries (by_nothing lane) a b
+    → AddsEntries (by_opening lane) a b
 opening_nothing lane a b g = grew_weaker (by_nothing lane) (by_opening lane) (λ e h. absurd (true≢false (sym h))) a b g
 
 failing_opens : (lane : Option ℕ) (e : Entry) → by_failing lane e ≡ true → by_opening lane e ≡ true
@@ -198,29 +234,38 @@ failing_opens lane (entry.Event x) h = absurd (true≢false (sym h))
 failing_opens lane (entry.Added l call) h = absurd (true≢false (sym h))
 failing_opens lane (entry.LetGo l) h = absurd (true≢false (sym h))
 
-pub opening_failing : (lane : Option ℕ) (a b : Claim) → Grew (by_failing lane) a b → Grew (by_opening lane) a b
+pub opening_failing : (lane : Option ℕ) (a b : Claim) → AddsEntries (by_failing lane) a b
+    → AddsEntries (by_opening lane) a b
 opening_failing lane a b g = grew_weaker (by_failing lane) (by_opening lane) (failing_opens lane) a b g
 
-pub opening_on : (lane other : Option ℕ) (a b c : Claim) → other ≡ lane → Grew (by_opening lane) a b → Grew (by_opening other) b c
-    → Grew (by_opening lane) a c
-opening_on lane other a b c same g h = grew_on (by_opening lane) a b c g (subst (λ (l : Option ℕ). Grew (by_opening l) b c) same h)
+pub opening_on : (lane other : Option ℕ) (a b c : Claim) → other ≡ lane → AddsEntries (by_opening lane) a b
+    → AddsEntries (by_opening other) b c
+    → AddsEntries (by_opening lane) a c
+opening_on lane other a b c same g h = grew_on (by_opening lane) a b c g
+    (subst (λ (l : Option ℕ). AddsEntries (by_opening l) b c) same h)
 
 -- ---- the holds
 
-module _ {X Y : Type 0} {test : Entry → Bool} {needs : Allowance} {old new : List Receipt} {copied : Result X Y} (m n : Token) where
+module _ {X Y : Type 0} {test : Entry → Bool} {needs : Allowance} {old new : List Receipt} {copied : Result X Y}
+    (m n : Token) where
   pub hello_none : (did : Result (Option Handed) Error) → did ≡ Ok None
-      → Hold shown_of (Applied shown_of test needs (λ y z. UnlessFault HandingHello y z did) copied old new) m n → FindsHello m n
+      → Hold shown_of (Applied shown_of test needs (λ y z. UnlessFault HandingHello y z did) copied old new) m n
+      → FindsHello m n
   hello_none did is h =
       let r = subst (λ (x : Result (Option Handed) Error). UnlessFault HandingHello h.before h.after x) is h.did.does in
       hold_map shown_of m n h (r.0.0, r.0.1, r.1)
 
-  pub hello_refused : {Service : Type 0} (before : LinkView Service) (did : Result (Option Handed) Error) (e : Error) → did ≡ Err e
-      → Hold shown_of (Applied shown_of test needs (λ y z. UnlessFault HandingHello y z did) copied old new) m n → RefusesRound e m n before before
+  pub hello_refused : {Service : Type 0} (before : LinkView Service) (did : Result (Option Handed) Error) (e : Error)
+      → did ≡ Err e
+      → Hold shown_of (Applied shown_of test needs (λ y z. UnlessFault HandingHello y z did) copied old new) m n
+      → RefusesRound e m n before before
   hello_refused before did e is h =
       let r = subst (λ (x : Result (Option Handed) Error). UnlessFault HandingHello h.before h.after x) is h.did.does in
       (hold_map shown_of m n h r.0.0, refl)
 
   pub hello_handed : (did : Result (Option Handed) Error) (handed : Handed) → did ≡ Ok (Some handed)
-      → (h : Hold shown_of (Applied shown_of test needs (λ y z. UnlessFault HandingHello y z did) copied old new) m n) → HandsOutHello h.before h.after handed × HasNoFault h.before.session
+      → (h : Hold shown_of (Applied shown_of test needs (λ y z. UnlessFault HandingHello y z did) copied old new) m n)
+      → HandsOutHello h.before h.after handed × HasNoFault h.before.session
   hello_handed did handed is h =
-      let r = subst (λ (x : Result (Option Handed) Error). UnlessFault HandingHello h.before h.after x) is h.did.does in (r.0, r.1)
+      let r = subst (λ (x : Result (Option Handed) Error). UnlessFault HandingHello h.before h.after x) is h.did.does in
+      (r.0, r.1)

@@ -5,7 +5,7 @@ use Rattle.plan_model.specs.declared.call.Lane.{Lane}
 use Rattle.session_model.specs.declared.entry.Entry.{Entry}
 use Rattle.session_model.specs.Calls.{current, lane_calls}
 use Rattle.session_model.specs.Journals.{IsJournal}
-use Rattle.session_model.specs.Readings.{ended, outcomes_of}
+use Rattle.session_model.specs.Readings.{count_ended, outcomes_of}
 use Rattle.run_laws.proofs.CallEnds.{outcomes_count}
 use Rattle.session_seats.specs.declared.view.Receipt.{Receipt}
 use Rattle.session_seats.specs.Holds.{Applied, Hold, claim_of, no_allowance, sight_by}
@@ -28,8 +28,8 @@ pub all_ended : (s : SessionValue) (lane calls : ℕ) → IsJournal (setting_at 
 all_ended s lane calls run none is =
     let past = past_of s.work in
     let most = ended_most (setting_at s) past lane run in
-    let least = none_left (lane_calls (setting_at s) past lane) (ended past lane) none in
-    let number : calls ≡ ended past lane = is ∙ outcomes_count past lane in
+    let least = none_left (lane_calls (setting_at s) past lane) (count_ended past lane) none in
+    let number : calls ≡ count_ended past lane = is ∙ outcomes_count past lane in
     record { are = omega (arith, most, least, number); have_ended = sym number }
 
 pub ended_as : (p : Polled) → is_ended p ≡ true → p ≡ polled.Ended (calls_in p)
@@ -43,21 +43,27 @@ pub sees_ended : (lane : Option ℕ) (calls : ℕ) (m n : Token) → InOneHold (
 sees_ended None calls m n h = ap calls_in h.did.0.1.1
 sees_ended (Some lane) calls m n h =
     let same : h.after.session ≡ h.before.session = h.did.0.1.1 in
-    let lanes : (sight_by n).lanes ≡ h.before.session.lanes = sees_lanes shown_of m n h ∙ ap (λ (s : SessionValue). s.lanes) same in
+    let lanes : (sight_by n).lanes ≡ h.before.session.lanes = sees_lanes shown_of m n h
+    ∙ ap (λ (s : SessionValue). s.lanes) same in
     let past = sees_past shown_of m n h ∙ ap (λ (s : SessionValue). past_of s.work) same in
     subst (λ (x : List Lane × List Entry). AllEnded x.0 x.1 lane calls) (λ i. (sym lanes i, sym past i)) h.did.0.1.0
 
 -- a hold that takes no user out leaves the seat's share
-pub share_kept : {Did : Locked → Locked → List Entry → Type 0} (m n : Token) (h : Hold shown_of Did m n) → h.after.users ≡ h.before.users
+pub share_kept : {Did : Locked → Locked → List Entry → Type 0} (m n : Token) (h : Hold shown_of Did m n) → h.after.users
+    ≡ h.before.users
     → (claim_of n).share ≡ (claim_of m).share
 share_kept m n h same =
-    let is : (claim_of n).share ≡ (claim_of m).share + h.after.users - h.before.users = ap (λ (x : Token). (claim_of x).share) h.is in
+    let is : (claim_of n).share ≡ (claim_of m).share + h.after.users - h.before.users =
+    ap (λ (x : Token). (claim_of x).share) h.is in
     omega (arith, is, same)
 
 -- nor does one that may take none out take any of it
-pub share_stays : {X Y : Type 0} {test : Entry → Bool} {Does : Locked → Locked → Type 0} {copied : Result X Y} {old new : List Receipt} (m n : Token)
-    → Hold shown_of (Applied shown_of test no_allowance Does copied old new) m n → (claim_of m).share ≤ (claim_of n).share
+pub share_stays : {X Y : Type 0} {test : Entry → Bool} {Does : Locked → Locked → Type 0} {copied : Result X Y}
+    {old new : List Receipt} (m n : Token)
+    → Hold shown_of (Applied shown_of test no_allowance Does copied old new) m n
+    → (claim_of m).share ≤ (claim_of n).share
 share_stays m n h =
-    let is : (claim_of n).share ≡ (claim_of m).share + h.after.users - h.before.users = ap (λ (x : Token). (claim_of x).share) h.is in
+    let is : (claim_of n).share ≡ (claim_of m).share + h.after.users - h.before.users =
+    ap (λ (x : Token). (claim_of x).share) h.is in
     let stay : h.before.users ≤ 0 + h.after.users = h.did.goes.users in
     omega (arith, is, stay)

@@ -5,7 +5,7 @@ use Rattle.session_model.specs.declared.entry.Entry.{Entry}
 use Rattle.session_model.specs.declared.entry.Entry.TheVariants as entry
 use Rattle.session_seats.specs.declared.view.Claim.{Claim}
 use Rattle.session_seats.specs.declared.view.Receipt.{Receipt}
-use Rattle.session_seats.specs.Holds.{Allowance, Applied, Grew, Hold, passes}
+use Rattle.session_seats.specs.Holds.{Allowance, Applied, AddsEntries, Hold, passes}
 use Rattle.session_seats.proofs.GrowLaws.{grew_on, grew_weaker}
 use Rattle.session_seats.proofs.HoldLaws.{hold_map}
 use Rattle.sftp_link.specs.Views.{LinkView}
@@ -14,11 +14,10 @@ use Rattle.sftp_wire.specs.FrameReader.{Received}
 use Rattle.sftp_tasks.specs.declared.frames.Handed.{Handed}
 use Rattle.sftp_tasks.specs.declared.locked.Locked.{Locked}
 use Rattle.sftp_tasks.specs.Entries.{by_failing, by_flush, by_nothing, by_read}
-use Rattle.sftp_tasks.specs.LockedEvents.{HandingOut, Looking, TakingFrame, UnlessFault, Writing, tells}
-use Rattle.sftp_tasks.specs.Rounds.{FlushesRound, ReadsRound, RefusesRound}
+use Rattle.sftp_tasks.specs.LockedEvents.{HandingOut, LooksForFrame, TakingFrame, UnlessFault, NotesWritten, tells_written}
+use Rattle.sftp_tasks.specs.Rounds.{FlushesRound, ReadsRound, RefusesRound, HoldsOnce, Token}
 use Rattle.sftp_tasks.specs.SessionEvents.{RefusesCall}
 use Rattle.sftp_tasks.specs.Shows.{shown_of}
-use Rattle.sftp_tasks.specs.Rounds.{HoldsOnce, Token}
 use Rattle.sftp_tasks.proofs.HoldLaws.{none_passes}
 
 -- ---- which entries
@@ -41,73 +40,101 @@ failing_reads lane (entry.Event x) h = absurd (true≢false (sym h))
 failing_reads lane (entry.Added l call) h = absurd (true≢false (sym h))
 failing_reads lane (entry.LetGo l) h = absurd (true≢false (sym h))
 
-pub nothing_fails : (lane : Option ℕ) (a b : Claim) → Grew (by_nothing lane) a b → Grew (by_failing lane) a b
+pub nothing_fails : (lane : Option ℕ) (a b : Claim) → AddsEntries (by_nothing lane) a b
+    → AddsEntries (by_failing lane) a b
 nothing_fails lane a b g = grew_weaker (by_nothing lane) (by_failing lane) (λ e h. absurd (true≢false (sym h))) a b g
 
 -- a hold, and then one that adds nothing, or a fault
-pub flush_then_nothing : (lane : Option ℕ) (a b c : Claim) → Grew (by_flush lane) a b → Grew (by_nothing lane) b c → Grew (by_flush lane) a c
-flush_then_nothing lane a b c g h = grew_on (by_flush lane) a b c g (grew_weaker (by_nothing lane) (by_flush lane) (nothing_flushes lane) b c h)
+pub flush_then_nothing : (lane : Option ℕ) (a b c : Claim) → AddsEntries (by_flush lane) a b
+    → AddsEntries (by_nothing lane) b c → AddsEntries (by_flush lane) a c
+flush_then_nothing lane a b c g h = grew_on (by_flush lane) a b c g
+    (grew_weaker (by_nothing lane) (by_flush lane) (nothing_flushes lane) b c h)
 
-pub flush_then_failing : (lane : Option ℕ) (a b c : Claim) → Grew (by_flush lane) a b → Grew (by_failing lane) b c → Grew (by_flush lane) a c
-flush_then_failing lane a b c g h = grew_on (by_flush lane) a b c g (grew_weaker (by_failing lane) (by_flush lane) (failing_flushes lane) b c h)
+pub flush_then_failing : (lane : Option ℕ) (a b c : Claim) → AddsEntries (by_flush lane) a b
+    → AddsEntries (by_failing lane) b c → AddsEntries (by_flush lane) a c
+flush_then_failing lane a b c g h = grew_on (by_flush lane) a b c g
+    (grew_weaker (by_failing lane) (by_flush lane) (failing_flushes lane) b c h)
 
-pub nothing_then_read : (lane : Option ℕ) (a b c : Claim) → Grew (by_nothing lane) a b → Grew (by_read lane) b c → Grew (by_read lane) a c
-nothing_then_read lane a b c g h = grew_on (by_read lane) a b c (grew_weaker (by_nothing lane) (by_read lane) (nothing_reads lane) a b g) h
+pub nothing_then_read : (lane : Option ℕ) (a b c : Claim) → AddsEntries (by_nothing lane) a b
+    → AddsEntries (by_read lane) b c → AddsEntries (by_read lane) a c
+nothing_then_read lane a b c g h = grew_on (by_read lane) a b c
+    (grew_weaker (by_nothing lane) (by_read lane) (nothing_reads lane) a b g) h
 
-pub nothing_then_failing : (lane : Option ℕ) (a b c : Claim) → Grew (by_nothing lane) a b → Grew (by_failing lane) b c → Grew (by_read lane) a c
-nothing_then_failing lane a b c g h = nothing_then_read lane a b c g (grew_weaker (by_failing lane) (by_read lane) (failing_reads lane) b c h)
+pub nothing_then_failing : (lane : Option ℕ) (a b c : Claim) → AddsEntries (by_nothing lane) a b
+    → AddsEntries (by_failing lane) b c → AddsEntries (by_read lane) a c
+nothing_then_failing lane a b c g h = nothing_then_read lane a b c g
+    (grew_weaker (by_failing lane) (by_read lane) (failing_reads lane) b c h)
 
-pub nothing_reads_all : (lane : Option ℕ) (a b : Claim) → Grew (by_nothing lane) a b → Grew (by_read lane) a b
+pub nothing_reads_all : (lane : Option ℕ) (a b : Claim) → AddsEntries (by_nothing lane) a b
+    → AddsEntries (by_read lane) a b
 nothing_reads_all lane a b g = grew_weaker (by_nothing lane) (by_read lane) (nothing_reads lane) a b g
 
-pub nothing_flushes_all : (lane : Option ℕ) (a b : Claim) → Grew (by_nothing lane) a b → Grew (by_flush lane) a b
+pub nothing_flushes_all : (lane : Option ℕ) (a b : Claim) → AddsEntries (by_nothing lane) a b
+    → AddsEntries (by_flush lane) a b
 nothing_flushes_all lane a b g = grew_weaker (by_nothing lane) (by_flush lane) (nothing_flushes lane) a b g
 
 -- where the second fault came with the answer of the hold
-pub kept_was_read : (lane : Option ℕ) (a b : Claim) → Grew (by_failing lane) a b → Grew (by_read lane) a b
+pub kept_was_read : (lane : Option ℕ) (a b : Claim) → AddsEntries (by_failing lane) a b → AddsEntries (by_read lane) a b
 kept_was_read lane a b g = grew_weaker (by_failing lane) (by_read lane) (failing_reads lane) a b g
 
 -- ---- the holds
 
-module _ {X Y : Type 0} {test : Entry → Bool} {needs : Allowance} {old new : List Receipt} {copied : Result X Y} (m n : Token) where
+module _ {X Y : Type 0} {test : Entry → Bool} {needs : Allowance} {old new : List Receipt} {copied : Result X Y}
+    (m n : Token) where
   pub handed_none : {Service : Type 0} (before : LinkView Service) (did : Result (Option Handed) Error) → did ≡ Ok None
-      → Hold shown_of (Applied shown_of test needs (λ y z. UnlessFault HandingOut y z did) copied old new) m n → FlushesRound false m n before before
+      → Hold shown_of (Applied shown_of test needs (λ y z. UnlessFault HandingOut y z did) copied old new) m n
+      → FlushesRound false m n before before
   handed_none before did is h =
       let r = subst (λ (x : Result (Option Handed) Error). UnlessFault HandingOut h.before h.after x) is h.did.does in
       (hold_map shown_of m n h (r.0.0, r.1), refl)
 
-  pub hand_refused : {Service : Type 0} (before : LinkView Service) (did : Result (Option Handed) Error) (e : Error) → did ≡ Err e
-      → Hold shown_of (Applied shown_of test needs (λ y z. UnlessFault HandingOut y z did) copied old new) m n → RefusesRound e m n before before
+  pub hand_refused : {Service : Type 0} (before : LinkView Service) (did : Result (Option Handed) Error) (e : Error)
+      → did ≡ Err e
+      → Hold shown_of (Applied shown_of test needs (λ y z. UnlessFault HandingOut y z did) copied old new) m n
+      → RefusesRound e m n before before
   hand_refused before did e is h =
       let r = subst (λ (x : Result (Option Handed) Error). UnlessFault HandingOut h.before h.after x) is h.did.does in
       (hold_map shown_of m n h r.0.0, refl)
 
   pub look_false : {Service : Type 0} (before : LinkView Service) (did : Result Bool Error) → did ≡ Ok false
-      → Hold shown_of (Applied shown_of test needs (λ y z. UnlessFault Looking y z did) copied old new) m n → ReadsRound false m n before before
-  look_false before did is h =
-      (hold_map shown_of m n h (subst (λ (x : Result Bool Error). UnlessFault Looking h.before h.after x) is h.did.does), refl)
+      → Hold shown_of (Applied shown_of test needs (λ y z. UnlessFault LooksForFrame y z did) copied old new) m n
+      → ReadsRound false m n before before
+  look_false before did is h = (
+    hold_map shown_of m n h (subst (λ (x : Result Bool Error). UnlessFault LooksForFrame h.before h.after x) is
+        h.did.does),
+    refl,
+  )
 
   pub look_refused : {Service : Type 0} (before : LinkView Service) (did : Result Bool Error) (e : Error) → did ≡ Err e
-      → Hold shown_of (Applied shown_of test needs (λ y z. UnlessFault Looking y z did) copied old new) m n → RefusesRound e m n before before
+      → Hold shown_of (Applied shown_of test needs (λ y z. UnlessFault LooksForFrame y z did) copied old new) m n
+      → RefusesRound e m n before before
   look_refused before did e is h =
-      let r = subst (λ (x : Result Bool Error). UnlessFault Looking h.before h.after x) is h.did.does in
-      (hold_map shown_of m n h (subst (λ (z : Locked). RefusesCall e h.before.session z.session) (sym r.0.0) r.0.1), refl)
+      let r = subst (λ (x : Result Bool Error). UnlessFault LooksForFrame h.before h.after x) is h.did.does in (
+        hold_map shown_of m n h (subst (λ (z : Locked). RefusesCall e h.before.session z.session) (sym r.0.0) r.0.1),
+        refl,
+      )
 
   pub look_true : (did : Result Bool Error) → did ≡ Ok true
-      → Hold shown_of (Applied shown_of test needs (λ y z. UnlessFault Looking y z did) copied old new) m n → HoldsOnce (λ y z more. UnlessFault Looking y z (Ok true)) m n
-  look_true did is h = hold_map shown_of m n h (subst (λ (x : Result Bool Error). UnlessFault Looking h.before h.after x) is h.did.does)
+      → Hold shown_of (Applied shown_of test needs (λ y z. UnlessFault LooksForFrame y z did) copied old new) m n
+      → HoldsOnce (λ y z more. UnlessFault LooksForFrame y z (Ok true)) m n
+  look_true did is h = hold_map shown_of m n h (subst (λ (x : Result Bool Error). UnlessFault LooksForFrame h.before
+      h.after x) is h.did.does)
 
   pub took : (frame : Received) (did r : Result (Unit {0}) Error) → did ≡ r
-      → Hold shown_of (Applied shown_of test needs (λ y z. UnlessFault (TakingFrame frame) y z did) copied old new) m n → HoldsOnce (λ y z more. UnlessFault (TakingFrame frame) y z r) m n
-  took frame did r is h = hold_map shown_of m n h (subst (λ (x : Result (Unit {0}) Error). UnlessFault (TakingFrame frame) h.before h.after x) is h.did.does)
+      → Hold shown_of (Applied shown_of test needs (λ y z. UnlessFault (TakingFrame frame) y z did) copied old new) m n
+      → HoldsOnce (λ y z more. UnlessFault (TakingFrame frame) y z r) m n
+  took frame did r is h = hold_map shown_of m n h (subst (λ (x : Result (Unit {0}) Error). UnlessFault
+      (TakingFrame frame) h.before h.after x) is h.did.does)
 
   pub refuses_frame : (frame : Received) (did : Result (Unit {0}) Error) (e : Error) → did ≡ Err e
       → Hold shown_of (Applied shown_of test needs (λ y z. UnlessFault (TakingFrame frame) y z did) copied old new) m n
       → HoldsOnce (λ y z more. TakingFrame frame y z (Err e)) m n
   refuses_frame frame did e is h =
-      hold_map shown_of m n h (subst (λ (x : Result (Unit {0}) Error). UnlessFault (TakingFrame frame) h.before h.after x) is h.did.does).0
+      hold_map shown_of m n h (subst (λ (x : Result (Unit {0}) Error). UnlessFault (TakingFrame frame) h.before h.after
+      x) is h.did.does).0
 
 pub noted : {X Y : Type 0} {frames : ℕ} {old new : List Receipt} {copied : Result X Y} (lane : Option ℕ) (m n : Token)
-    → Hold shown_of (Applied shown_of (passes by_nothing lane) (tells frames) (Writing frames) copied old new) m n
-    → HoldsOnce (λ y z more. (more ≡ []) × Writing frames y z) m n
+    → Hold shown_of (Applied shown_of (passes by_nothing lane) (tells_written frames) (NotesWritten frames) copied old
+    new) m n
+    → HoldsOnce (λ y z more. (more ≡ []) × NotesWritten frames y z) m n
 noted lane m n h = hold_map shown_of m n h (none_passes lane h.more h.did.goes.passes, h.did.does)

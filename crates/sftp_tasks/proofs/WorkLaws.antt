@@ -4,7 +4,7 @@ use Rattle.std.proofs.lemmas.Bool.Decides.{nat_tests}
 use Rattle.std.specs.Prelude.{nat_le}
 use Rattle.session_driver.specs.declared.session.Phase.{Phase}
 use Rattle.session_driver.specs.declared.session.Phase.TheVariants.{Fresh, Open}
-use Rattle.session_model.specs.Readings.{unanswered}
+use Rattle.session_model.specs.Readings.{count_unanswered}
 use Rattle.session_seats.specs.declared.view.Counts.{Counts}
 use Rattle.session_seats.specs.declared.view.Sight.{Sight}
 use Rattle.session_seats.specs.Holds.{sight_by}
@@ -16,10 +16,10 @@ use Rattle.sftp_tasks.specs.declared.locked.Locked.{Locked}
 use Rattle.sftp_tasks.specs.declared.workers.Shift.{Shift}
 use Rattle.sftp_tasks.specs.declared.workers.Shift.TheVariants.{Worked, Idle, Over}
 use Rattle.sftp_tasks.specs.Calls.{InOneHold}
-use Rattle.sftp_tasks.specs.LockedEvents.{Finishing, TellsStage, at_end, is_answered}
+use Rattle.sftp_tasks.specs.LockedEvents.{SettlesEnd, TellsStage, at_end, is_answered}
 use Rattle.sftp_tasks.specs.Rounds.{Token}
 use Rattle.sftp_tasks.specs.Shows.{shown_of}
-use Rattle.sftp_tasks.specs.Workers.{FlushShift, Post, ReadShift, SeesAnswered, is_over, over_if}
+use Rattle.sftp_tasks.specs.Workers.{FlushShift, WorkerState, ReadShift, SeesAnswered, is_over, over_if}
 
 pub over_as : (s : Shift) → is_over s ≡ true → s ≡ Over
 over_as Over is = refl
@@ -41,11 +41,13 @@ over_true false e = absurd (true≢false (ap is_over e))
 -- ---- the worker that sends
 
 -- a round leaves the link's count of faults, unless it is the last
-pub flush_faults : {Service : Type 0} (s : Shift) (a b : Post Service) → FlushShift (Ok s) a b → b.1.faults ≡ a.1.faults
+pub flush_faults : {Service : Type 0} (s : Shift) (a b : WorkerState Service) → FlushShift (Ok s) a b → b.1.faults
+    ≡ a.1.faults
 flush_faults s a b (inl h) = h.1.sent.caused.cause
 flush_faults s a b (inr h) = ap (λ v. v.faults) h.1.1.none.1
 
-stage_two : (stage : ℕ) (m n : Token) → InOneHold TellsStage (Ok stage) m n → nat_le 2 stage ≡ true → (sight_by n).counts.stage ≡ 2
+stage_two : (stage : ℕ) (m n : Token) → InOneHold TellsStage (Ok stage) m n → nat_le 2 stage ≡ true
+    → (sight_by n).counts.stage ≡ 2
 stage_two stage m n h least =
     let counts : (sight_by n).counts ≡ h.after.counts = sees_counts shown_of m n h in
     let seen : (sight_by n).counts.stage ≡ h.after.counts.stage = ap (λ (c : Counts). c.stage) counts in
@@ -56,13 +58,15 @@ stage_two stage m n h least =
     let low : 2 ≤ stage = grind (arith, nat_tests) in
     omega (arith, seen, same, told, was, most, low)
 
-pub flush_sees : {Service : Type 0} (a b : Post Service) → FlushShift (Ok Over) a b → (sight_by b.0).counts.stage ≡ 2
+pub flush_sees : {Service : Type 0} (a b : WorkerState Service) → FlushShift (Ok Over) a b → (sight_by b.0).counts.stage
+    ≡ 2
 flush_sees a b (inl h) = absurd (over_worked h.0)
 flush_sees a b (inr h) = stage_two h.0 h.1.1.mid b.0 h.1.1.looks (over_true (nat_le 2 h.0) h.1.0)
 
 -- ---- the worker that reads
 
-pub read_faults : {Service : Type 0} (s : Shift) (a b : Post Service) → ReadShift (Ok s) a b → b.1.faults ≡ a.1.faults
+pub read_faults : {Service : Type 0} (s : Shift) (a b : WorkerState Service) → ReadShift (Ok s) a b → b.1.faults
+    ≡ a.1.faults
 read_faults s a b (inl h) = h.1.caused.cause
 read_faults s a b (inr h) = ap (λ v. v.faults) h.1.1.none.1
 
@@ -71,15 +75,18 @@ answered_all Open stage unanswered is = eqb-true unanswered 0 (both_true (nat_le
 answered_all Fresh stage unanswered is = absurd (true≢false (sym is))
 answered_all other stage unanswered is = absurd (true≢false (sym is))
 
-finished : (all : Bool) (m n : Token) → InOneHold Finishing (Ok all) m n → all ≡ true → SeesAnswered (sight_by n)
+finished : (all : Bool) (m n : Token) → InOneHold SettlesEnd (Ok all) m n → all ≡ true → SeesAnswered (sight_by n)
 finished all m n h done =
     let y = h.before in
-    let after : h.after ≡ record y { counts = at_end true y.counts } = h.did.0.1 ∙ ap (λ (b : Bool). record y { counts = at_end b y.counts }) done in
-    let past : entries (sight_by n).log ≡ past_of y.session.work = sees_past shown_of m n h ∙ ap (λ (x : Locked). past_of x.session.work) after in (
+    let after : h.after ≡ record y { counts = at_end true y.counts } = h.did.0.1
+    ∙ ap (λ (b : Bool). record y { counts = at_end b y.counts }) done in
+    let past : entries (sight_by n).log ≡ past_of y.session.work = sees_past shown_of m n h
+    ∙ ap (λ (x : Locked). past_of x.session.work) after in (
       ap (λ (c : Counts). c.stage) (sees_counts shown_of m n h) ∙ ap (λ (x : Locked). x.counts.stage) after,
-      ap unanswered past ∙ answered_all y.session.phase y.counts.stage (unanswered (past_of y.session.work)) (sym h.did.0.0 ∙ done),
+      ap count_unanswered past ∙ answered_all y.session.phase y.counts.stage (count_unanswered (past_of y.session.work))
+          (sym h.did.0.0 ∙ done),
     )
 
-pub read_sees : {Service : Type 0} (a b : Post Service) → ReadShift (Ok Over) a b → SeesAnswered (sight_by b.0)
+pub read_sees : {Service : Type 0} (a b : WorkerState Service) → ReadShift (Ok Over) a b → SeesAnswered (sight_by b.0)
 read_sees a b (inl h) = absurd (over_worked h.0)
 read_sees a b (inr h) = finished h.0 h.1.1.mid b.0 h.1.1.looks (over_true h.0 h.1.0)

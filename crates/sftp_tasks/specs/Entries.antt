@@ -1,4 +1,4 @@
--- Which entries a call of the shared session may add.
+-- Entries that a call of the shared session may add.
 use Rattle.std.specs.Prelude.{◌≡◌, ℕ, Bool, true, false, Option, Some, None}
 use Rattle.std.proofs.Common.{refl}
 use Rattle.session_model.specs.declared.entry.Entry.{Entry}
@@ -8,22 +8,22 @@ use Rattle.session_model.specs.declared.event.Owner.TheVariants as owner
 use Rattle.sftp_model.specs.declared.request.Request.TheVariants as request
 use Rattle.session_seats.specs.Holds.{fits_lane}
 
--- the lane is the seat's
+-- True if the lane is the seat's.
 abbrev pub names : Option ℕ → ℕ → Bool
 names lane l = fits_lane (Some l) lane
 
--- CLOSEs of grants that nothing holds any more, which any call of a lane may leave, and any reply
+-- CLOSEs of grants that nothing holds any more, which any call of a lane may leave, and any reply.
 abbrev pub by_closing : Entry → Bool
 by_closing (entry.Event (Submit owner.Close id r)) = true
 by_closing other = false
 
--- a step of its lane: a request of the call, or its end
+-- A step of its lane: a request of the call, or its end.
 abbrev pub by_step : Option ℕ → Entry → Bool
 by_step lane (entry.Event (Submit (owner.Call l call) id r)) = names lane l
 by_step lane (entry.Event (End l call o)) = names lane l
 by_step lane e = by_closing e
 
--- a call that is added, and a step
+-- A call that is added, and a step.
 abbrev pub by_submit : Option ℕ → Entry → Bool
 by_submit lane (entry.Added l call) = names lane l
 by_submit lane e = by_step lane e
@@ -37,13 +37,13 @@ abbrev pub by_let_go : Option ℕ → Entry → Bool
 by_let_go lane (entry.LetGo l) = names lane l
 by_let_go lane e = by_closing e
 
--- a round that sends: what was handed out, and why no more could be sent
+-- A round that sends: the Send, and the fault if no more could be sent.
 abbrev pub by_flush : Option ℕ → Entry → Bool
 by_flush lane (entry.Event Send) = true
 by_flush lane (entry.Kept fault) = true
 by_flush lane e = false
 
--- a round that reads: the reply, the query for limits behind VERSION, and why none was taken
+-- A round that reads: the reply, the query for limits after VERSION, and the fault if none was taken.
 abbrev pub by_read : Option ℕ → Entry → Bool
 by_read lane (entry.Event (Take id r)) = true
 by_read lane (entry.Event (Submit owner.Setup id r)) = true
@@ -57,7 +57,7 @@ by_failing lane e = false
 abbrev pub by_nothing : Option ℕ → Entry → Bool
 by_nothing lane e = false
 
--- ---- worked rows
+-- ---- Worked rows
 
 pub steps_its_lane : by_step (Some 1) (entry.Event (Submit (owner.Call 1 0) 7 request.LimitsQuery)) ≡ true
 steps_its_lane = refl

@@ -1,4 +1,4 @@
--- What each event does to the locked value, for the lane that its seat names.
+-- Effects of each event on the locked value, for the lane that its seat names.
 use Rattle.std.specs.Prelude.{
   ◌≡◌,
   ◌≢◌,
@@ -35,12 +35,12 @@ use Rattle.sftp_model.specs.declared.error.Error.{Error}
 use Rattle.sftp_model.specs.declared.error.Fault.{Fault}
 use Rattle.sftp_model.specs.Frames.{frame}
 use Rattle.sftp_model.specs.Numbers.{MAX_BODY_LEN}
-use Rattle.sftp_model.specs.Pieces.{joined}
+use Rattle.sftp_model.specs.Pieces.{joined_pieces}
 use Rattle.sftp_model.specs.ReplyReadings.{reply_at}
 use Rattle.sftp_lanes.specs.Counts.{unsent_in}
 use Rattle.sftp_lanes.specs.Seen.{SessionValue}
 use Rattle.sftp_lanes.specs.Events.{CancelsIn, HandsOutIn, StepsIn, TakesIn}
-use Rattle.session_model.specs.Readings.{unanswered}
+use Rattle.session_model.specs.Readings.{count_unanswered}
 use Rattle.session_work.specs.Working.{past_of}
 use Rattle.sftp_wire.specs.FrameReader.{Received, body_of}
 use Rattle.session_seats.specs.declared.view.Counts.{Counts}
@@ -59,99 +59,100 @@ use Rattle.sftp_tasks.specs.SessionEvents.{
   TakeStops,
 }
 
--- A kept fault comes before each answer but want of memory: with Ok there was none.
+-- A recorded fault comes before each answer except out of memory: with Ok there was none.
 abbrev pub UnlessFault : {A : Type 0} → (Locked → Locked → Result A Error → Type 0) → Locked → Locked → Result A Error
     → Type 0
 UnlessFault Did y z r = Did y z r × OnOk r (HasNoFault y.session)
 
--- this is answered where nothing is done
-abbrev pub Idles : {A : Type 0} → A → SessionValue → Result A Error → Type 0
-Idles nothing s (Ok a) = a ≡ nothing
-Idles nothing s (Err e) = RefusesCall e s s
+-- The answer if nothing is done.
+abbrev pub DoesNothing : {A : Type 0} → A → SessionValue → Result A Error → Type 0
+DoesNothing nothing s (Ok a) = a ≡ nothing
+DoesNothing nothing s (Err e) = RefusesCall e s s
 
--- a seat that names no lane does nothing
+-- A seat that names no lane does nothing.
 abbrev pub OfLane : {A : Type 0} → (ℕ → Locked → Locked → Result A Error → Type 0) → A → Option ℕ → Locked → Locked
     → Result A Error → Type 0
-OfLane Did nothing None y z r = (z ≡ y) × Idles nothing y.session r
+OfLane Did nothing None y z r = (z ≡ y) × DoesNothing nothing y.session r
 OfLane Did nothing (Some lane) y z r = Did lane y z r
 
-abbrev pub Stepping : ℕ → Locked → Locked → Result Stepped Error → Type 0
-Stepping lane y z (Ok event) = StepsIn y.session.phase lane y.session z.session event
-Stepping lane y z (Err e) = RefusesCall e y.session z.session
+abbrev pub StepsOneLane : ℕ → Locked → Locked → Result Stepped Error → Type 0
+StepsOneLane lane y z (Ok event) = StepsIn y.session.phase lane y.session z.session event
+StepsOneLane lane y z (Err e) = RefusesCall e y.session z.session
 
-abbrev pub Cancelling : ℕ → Locked → Locked → Result Bool Error → Type 0
-Cancelling lane y z (Ok event) = CancelsIn y.session.phase lane y.session z.session event
-Cancelling lane y z (Err e) = RefusesCall e y.session z.session
+abbrev pub CancelsLaneCall : ℕ → Locked → Locked → Result Bool Error → Type 0
+CancelsLaneCall lane y z (Ok event) = CancelsIn y.session.phase lane y.session z.session event
+CancelsLaneCall lane y z (Err e) = RefusesCall e y.session z.session
 
 abbrev pub LettingGo : ℕ → Locked → Locked → Result Bool Error → Type 0
 LettingGo lane y z (Ok event) = LetsLaneGoIn lane y.session z.session event
 LettingGo lane y z (Err e) = RefusesCall e y.session z.session
 
-abbrev pub Polling : ℕ → Locked → Locked → Result Polled Error → Type 0
-Polling lane y z (Ok p) = PollsIn lane y.session z.session p
-Polling lane y z (Err e) = RefusesCall e y.session z.session
+abbrev pub PollsLane : ℕ → Locked → Locked → Result Polled Error → Type 0
+PollsLane lane y z (Ok p) = PollsIn lane y.session z.session p
+PollsLane lane y z (Err e) = RefusesCall e y.session z.session
 
--- what a seat lets go of before it leaves the users: its lane, or nothing where it names none
-abbrev pub Releasing : Option ℕ → Locked → Locked → Result Bool Error → Type 0
-Releasing lane y z r = (z ≡ record y { session = z.session }) × OfLane LettingGo true lane y z r
+-- The release by a seat before it leaves the users: its lane, or nothing if it names none.
+abbrev pub ReleasesLane : Option ℕ → Locked → Locked → Result Bool Error → Type 0
+ReleasesLane lane y z r = (z ≡ record y { session = z.session }) × OfLane LettingGo true lane y z r
 
-abbrev pub Submitting : Call → ℕ → Locked → Locked → Result Bool Error → Type 0
-Submitting call lane y z r = SubmitsCall lane call y.session z.session r
+abbrev pub SubmitsLaneCall : Call → ℕ → Locked → Locked → Result Bool Error → Type 0
+SubmitsLaneCall call lane y z r = SubmitsCall lane call y.session z.session r
 
--- what was handed out is counted, so many frames: all that are unsent
-pub record Hands (y z : Locked) (n : ℕ) : Type 0 where
+-- The frames that were handed out are counted: all that are unsent.
+pub record HandsOutFrames (y z : Locked) (n : ℕ) : Type 0 where
   pub counts : z.counts.handed ≡ y.counts.handed + n
   pub frames : y.session.phase ≢ Failed → n ≡ unsent_in y.session.phase (past_of y.session.work)
 
 abbrev pub HandingOut : Locked → Locked → Result (Option Handed) Error → Type 0
 HandingOut y z (Ok handed) =
-    HandsOutIn y.session.phase y.session z.session (option_map (λ h. joined h.chunk) handed)
-    × (MatchOption handed (z.counts.handed ≡ y.counts.handed) (λ h. Hands y z h.frames)
+    HandsOutIn y.session.phase y.session z.session (option_map (λ h. joined_pieces h.chunk) handed)
+    × (MatchOption handed (z.counts.handed ≡ y.counts.handed) (λ h. HandsOutFrames y z h.frames)
     × (z.counts.written ≡ y.counts.written))
 HandingOut y z (Err e) = RefusesCall e y.session z.session × (z.counts.handed ≡ y.counts.handed)
 
--- one frame more is counted as taken
+-- Another frame is counted as taken.
 abbrev pub CountsFrame : Locked → Locked → Type 0
 CountsFrame y z = z.counts.taken ≡ min (y.counts.taken + 1) (2 ^ 64 - 1)
 
--- a frame that is taken is counted, and one that is refused is not
-abbrev pub Taking : List ℕ → Locked → Locked → Result (Unit {0}) Error → Type 0
-Taking body y z (Ok u) = TakesIn y.session.phase (reply_at body) y.session z.session × CountsFrame y z
-Taking body y z (Err e) = TakeStops (reply_at body) e y.session z.session × (z.counts.taken ≡ y.counts.taken)
+-- A frame that is taken is counted, and one that is refused is not.
+abbrev pub CountsTakenFrame : List ℕ → Locked → Locked → Result (Unit {0}) Error → Type 0
+CountsTakenFrame body y z (Ok u) = TakesIn y.session.phase (reply_at body) y.session z.session × CountsFrame y z
+CountsTakenFrame body y z (Err e) = TakeStops (reply_at body) e y.session z.session × (z.counts.taken ≡ y.counts.taken)
 
--- what came is this body behind its length
+-- The bytes that came are this body after its length.
 abbrev pub IsFrame : Received → List ℕ → Type 0
 IsFrame received body = (received.bytes ≡ frame body) × (length body ≤ MAX_BODY_LEN)
 
--- the frame's body is taken, where it is whole
+-- The frame's body is taken, if it is whole.
 abbrev pub TakingFrame : Received → Locked → Locked → Result (Unit {0}) Error → Type 0
-TakingFrame received y z r = (body : List ℕ) → body_of received ≡ Some body → IsFrame received body × Taking body y z r
+TakingFrame received y z r = (body : List ℕ) → body_of received ≡ Some body → IsFrame received body
+    × CountsTakenFrame body y z r
 
-abbrev pub Writing : ℕ → Locked → Locked → Type 0
-Writing frames y z =
+abbrev pub NotesWritten : ℕ → Locked → Locked → Type 0
+NotesWritten frames y z =
     z ≡ record y { counts = record y.counts { written = min (y.counts.written + frames) (2 ^ 64 - 1) } }
 
-abbrev pub Failing : Fault → Locked → Locked → Result (Unit {0}) Error → Type 0
-Failing fault y z r = (z ≡ record y { session = z.session }) × KeepsFault fault y.session z.session r
+abbrev pub KeepsFirstFault : Fault → Locked → Locked → Result (Unit {0}) Error → Type 0
+KeepsFirstFault fault y z r = (z ≡ record y { session = z.session }) × KeepsFault fault y.session z.session r
 
 abbrev pub GivingUp : Locked → Locked → Type 0
 GivingUp y z = GivesUp y.session z.session
 
--- so many frames are told as written
-abbrev pub tells : ℕ → Allowance
-tells frames = record { tells = frames; leaves = 0 }
+-- This many frames are reported as written.
+abbrev pub tells_written : ℕ → Allowance
+tells_written frames = record { tells = frames; leaves = 0 }
 
--- a frame may be read where fewer were taken than were written
-abbrev pub Looking : Locked → Locked → Result Bool Error → Type 0
-Looking y z (Ok may) = (z ≡ y) × (may ≡ nat_lt y.counts.taken y.counts.written)
-Looking y z (Err e) = (z ≡ y) × RefusesCall e y.session y.session
+-- A frame may be read if fewer were taken than were written.
+abbrev pub LooksForFrame : Locked → Locked → Result Bool Error → Type 0
+LooksForFrame y z (Ok may) = (z ≡ y) × (may ≡ nat_lt y.counts.taken y.counts.written)
+LooksForFrame y z (Err e) = (z ≡ y) × RefusesCall e y.session y.session
 
--- how far the end has come
+-- The stage of the end is reported.
 abbrev pub TellsStage : Locked → Locked → Result ℕ Error → Type 0
 TellsStage y z (Ok stage) = (z ≡ y) × (stage ≡ y.counts.stage)
 TellsStage y z (Err e) = (z ≡ y) × RefusesCall e y.session y.session
 
--- the end has begun, and each request of an open session has its reply
+-- The end has started, and each request of an open session has its reply.
 abbrev pub is_answered : Phase → ℕ → ℕ → Bool
 is_answered Open stage unanswered = nat_le 1 stage && (unanswered == 0)
 is_answered other stage unanswered = false
@@ -160,9 +161,9 @@ abbrev pub at_end : Bool → Counts → Counts
 at_end true counts = record counts { stage = 2 }
 at_end false counts = counts
 
--- the end is settled where all is answered
-abbrev pub Finishing : Locked → Locked → Result Bool Error → Type 0
-Finishing y z (Ok all) =
-    (all ≡ is_answered y.session.phase y.counts.stage (unanswered (past_of y.session.work)))
+-- The end is settled if all is answered.
+abbrev pub SettlesEnd : Locked → Locked → Result Bool Error → Type 0
+SettlesEnd y z (Ok all) =
+    (all ≡ is_answered y.session.phase y.counts.stage (count_unanswered (past_of y.session.work)))
     × (z ≡ record y { counts = at_end all y.counts })
-Finishing y z (Err e) = (z ≡ y) × RefusesCall e y.session y.session
+SettlesEnd y z (Err e) = (z ≡ y) × RefusesCall e y.session y.session

@@ -1,4 +1,4 @@
--- What the locked value shows.
+-- The view of the locked value.
 use Rattle.session_seats.specs.Sights.{Shown}
 use Rattle.session_work.specs.Working.{past_of}
 use Rattle.sftp_tasks.specs.declared.locked.Locked.{Locked}

@@ -10,7 +10,8 @@ use sftp_model::Error;
 use ssh_encoding::OutOfMemory;
 
 impl Locked {
-    /// Whether a call may be put behind those of a lane. Refused where a fault is kept, and once the session has failed.
+    /// Returns true if a call may be appended to those of a lane. Fails if a fault is recorded, and once the session
+    /// has failed.
     fn may_add(&self, lane: u32, call: &Call) -> Result<bool, Error>
         ensures may { IfOk result (λ may. MatchBool may (CanAdd lane call.now self.now.session) (CannotAdd lane call.now self.now.session)) }
         ensures no_fault { OnOk result (HasNoFault self.now.session) }
@@ -25,9 +26,13 @@ impl Locked {
         Ok(self.session.can_add(lane, call))
     }
 
-    /// Puts a call behind those of a lane, and notes it in the journal; before the session is open it waits for a later step. False where
-    /// the lane isn't there or was let go, and where a session can't be given the lanes with the call; nothing changes then, nor with an
-    /// Err. Errors as of `step`.
+    /// Appends a call to those of a lane, and records it in the journal; before the session is open it waits for a
+    /// later step. Returns false if the lane doesn't exist or was released, and if a session can't be given the lanes
+    /// with the call; nothing changes then.
+    ///
+    /// # Errors
+    ///
+    /// Those of `step`; nothing changes then.
     pub fn push_call(&mut self, lane: u32, call: Call) -> Result<bool, Error>
         ensures rest { self.new ≡ record self.old { session = self.new.session } }
         ensures adds { IfOk result (λ event. AddsIn lane call self.old.session self.new.session event) }
@@ -45,7 +50,11 @@ impl Locked {
         }
     }
 
-    /// Adds a call to a lane as `push_call` does, and then steps the lane once. After an Err the call may have been added.
+    /// Adds a call to a lane as `push_call` does, and then steps the lane once.
+    ///
+    /// # Errors
+    ///
+    /// Those of `step`. The call may have been added then.
     pub fn submit(&mut self, lane: u32, call: Call) -> Result<bool, Error>
         ensures rest { self.new ≡ record self.old { session = self.new.session } }
         ensures submits { SubmitsCall lane call self.old.session self.new.session result }

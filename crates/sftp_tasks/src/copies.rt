@@ -5,7 +5,7 @@ use sftp_model::TryCopy;
 use ssh_encoding::OutOfMemory;
 use std::alloc::Global;
 
-/// Copies of the values, in order. Refused for want of memory.
+/// Returns copies of the values, in order. Fails if an allocation fails.
 pub(crate) fn copies_of<T: TryCopy + Drop>(
     alloc: Global,
     items: &[T],

@@ -1,4 +1,4 @@
-//! The events of the locked value, of which a hold of the lock does one.
+//! Events of the locked value; a hold of the lock does one of them.
 use crate::frames::Handed;
 use crate::locked::Locked;
 use crate::polls::Polled;
@@ -9,6 +9,8 @@ use sftp_model::{Error, Fault};
 use sftp_wire::FrameReader;
 
 /// One step of the seat's lane.
+///
+/// Used by the functions of this module.
 #[derive(Drop)]
 pub struct Step;
 
@@ -16,13 +18,13 @@ impl Event<Locked, Result<Stepped, Error>> for Step {
     ghost use Rattle.session_driver.specs.declared.session.Stepped.TheVariants as stepped;
     ghost use Rattle.session_seats.specs.Holds.{no_allowance};
     ghost use Rattle.sftp_tasks.specs.Entries.{by_step};
-    ghost use Rattle.sftp_tasks.specs.LockedEvents.{OfLane, Stepping, UnlessFault};
+    ghost use Rattle.sftp_tasks.specs.LockedEvents.{OfLane, StepsOneLane, UnlessFault};
 
     ghost only = { λ _. by_step };
 
     ghost needs = { λ _. no_allowance };
 
-    ghost does = { λ _ lane. UnlessFault (OfLane Stepping stepped.Nothing lane) };
+    ghost does = { λ _ lane. UnlessFault (OfLane StepsOneLane stepped.Nothing lane) };
 
     fn act(self, value: &mut Locked, lane: Option<u32>) -> Result<Stepped, Error> {
         let Some(lane) = lane else {
@@ -32,7 +34,9 @@ impl Event<Locked, Result<Stepped, Error>> for Step {
     }
 }
 
-/// Cancels the call of the seat's lane, where it was begun.
+/// Cancels the call of the seat's lane, if it was started.
+///
+/// Used in `crates/sftp_tasks/src/shared_sftp.rt`.
 #[derive(Drop)]
 pub struct CancelCall;
 
@@ -40,13 +44,13 @@ impl Event<Locked, Result<bool, Error>> for CancelCall {
     ghost use Rattle.std.specs.Prelude.{false};
     ghost use Rattle.session_seats.specs.Holds.{no_allowance};
     ghost use Rattle.sftp_tasks.specs.Entries.{by_cancel};
-    ghost use Rattle.sftp_tasks.specs.LockedEvents.{OfLane, Cancelling, UnlessFault};
+    ghost use Rattle.sftp_tasks.specs.LockedEvents.{OfLane, CancelsLaneCall, UnlessFault};
 
     ghost only = { λ _. by_cancel };
 
     ghost needs = { λ _. no_allowance };
 
-    ghost does = { λ _ lane. UnlessFault (OfLane Cancelling false lane) };
+    ghost does = { λ _ lane. UnlessFault (OfLane CancelsLaneCall false lane) };
 
     fn act(self, value: &mut Locked, lane: Option<u32>) -> Result<bool, Error> {
         let Some(lane) = lane else {
@@ -56,7 +60,9 @@ impl Event<Locked, Result<bool, Error>> for CancelCall {
     }
 }
 
-/// Lets go of the seat's lane, where its calls have ended.
+/// Releases the seat's lane, if its calls have ended.
+///
+/// Used in `crates/session_threads/src/ends.rt`.
 #[derive(Drop)]
 pub struct LetGo;
 
@@ -80,7 +86,9 @@ impl Event<Locked, Result<bool, Error>> for LetGo {
     }
 }
 
-/// Hands out what is unsent.
+/// Hands out the unsent frames.
+///
+/// Used in `crates/sftp_tasks/src/rounds.rt`.
 #[derive(Drop)]
 pub struct HandOut;
 
@@ -101,7 +109,9 @@ impl Event<Locked, Result<Option<Handed>, Error>> for HandOut {
     }
 }
 
-/// Notes that so many frames were written whole.
+/// Records that this many frames were written whole.
+///
+/// Used in `crates/sftp_tasks/src/rounds.rt`.
 #[derive(Drop)]
 pub struct Written {
     pub frames: u64,
@@ -109,13 +119,13 @@ pub struct Written {
 
 impl Event<Locked, ()> for Written {
     ghost use Rattle.sftp_tasks.specs.Entries.{by_nothing};
-    ghost use Rattle.sftp_tasks.specs.LockedEvents.{Writing, tells};
+    ghost use Rattle.sftp_tasks.specs.LockedEvents.{NotesWritten, tells_written};
 
     ghost only = { λ _. by_nothing };
 
-    ghost needs = { λ e. tells e.frames };
+    ghost needs = { λ e. tells_written e.frames };
 
-    ghost does = { λ e lane y z a. Writing e.frames y z };
+    ghost does = { λ e lane y z a. NotesWritten e.frames y z };
 
     fn act(self, value: &mut Locked, lane: Option<u32>) {
         let _ = lane;
@@ -123,7 +133,9 @@ impl Event<Locked, ()> for Written {
     }
 }
 
-/// Keeps a fault, unless one is kept.
+/// Records a fault, unless one is recorded.
+///
+/// Used in `crates/sftp_tasks/src/rounds.rt`.
 #[derive(Drop)]
 pub struct Fail {
     pub fault: Fault,
@@ -132,13 +144,13 @@ pub struct Fail {
 impl Event<Locked, Result<(), Error>> for Fail {
     ghost use Rattle.session_seats.specs.Holds.{no_allowance};
     ghost use Rattle.sftp_tasks.specs.Entries.{by_failing};
-    ghost use Rattle.sftp_tasks.specs.LockedEvents.{Failing};
+    ghost use Rattle.sftp_tasks.specs.LockedEvents.{KeepsFirstFault};
 
     ghost only = { λ _. by_failing };
 
     ghost needs = { λ _. no_allowance };
 
-    ghost does = { λ e lane. Failing e.fault };
+    ghost does = { λ e lane. KeepsFirstFault e.fault };
 
     fn act(self, value: &mut Locked, lane: Option<u32>) -> Result<(), Error> {
         let _ = lane;
@@ -147,6 +159,8 @@ impl Event<Locked, Result<(), Error>> for Fail {
 }
 
 /// Takes a frame that was read whole.
+///
+/// Used in `crates/sftp_tasks/src/rounds.rt`.
 #[derive(Drop)]
 pub struct TakeFrame {
     pub frame: FrameReader,
@@ -173,6 +187,8 @@ impl Event<Locked, Result<(), Error>> for TakeFrame {
 }
 
 /// Adds a call to the seat's lane, and steps the lane once.
+///
+/// Used in `crates/sftp_tasks/src/shared_sftp.rt`.
 #[derive(Drop)]
 pub struct Submit {
     pub call: Call,
@@ -182,13 +198,13 @@ impl Event<Locked, Result<bool, Error>> for Submit {
     ghost use Rattle.std.specs.Prelude.{false};
     ghost use Rattle.session_seats.specs.Holds.{no_allowance};
     ghost use Rattle.sftp_tasks.specs.Entries.{by_submit};
-    ghost use Rattle.sftp_tasks.specs.LockedEvents.{OfLane, Submitting, UnlessFault};
+    ghost use Rattle.sftp_tasks.specs.LockedEvents.{OfLane, SubmitsLaneCall, UnlessFault};
 
     ghost only = { λ _. by_submit };
 
     ghost needs = { λ _. no_allowance };
 
-    ghost does = { λ e lane. UnlessFault (OfLane (Submitting e.call) false lane) };
+    ghost does = { λ e lane. UnlessFault (OfLane (SubmitsLaneCall e.call) false lane) };
 
     fn act(self, value: &mut Locked, lane: Option<u32>) -> Result<bool, Error> {
         let Submit { call } = self;
@@ -199,7 +215,9 @@ impl Event<Locked, Result<bool, Error>> for Submit {
     }
 }
 
-/// Gives the session up, for want of memory.
+/// Gives the session up, for lack of memory.
+///
+/// Used in `crates/sftp_tasks/src/rounds.rt`.
 #[derive(Drop)]
 pub struct GiveUp;
 
@@ -220,20 +238,22 @@ impl Event<Locked, ()> for GiveUp {
     }
 }
 
-/// Looks whether a frame may be read.
+/// Checks whether a frame may be read.
+///
+/// Used in `crates/sftp_tasks/src/rounds.rt`.
 #[derive(Drop)]
 pub struct MayRead;
 
 impl Event<Locked, Result<bool, Error>> for MayRead {
     ghost use Rattle.session_seats.specs.Holds.{no_allowance};
     ghost use Rattle.sftp_tasks.specs.Entries.{by_nothing};
-    ghost use Rattle.sftp_tasks.specs.LockedEvents.{Looking, UnlessFault};
+    ghost use Rattle.sftp_tasks.specs.LockedEvents.{LooksForFrame, UnlessFault};
 
     ghost only = { λ _. by_nothing };
 
     ghost needs = { λ _. no_allowance };
 
-    ghost does = { λ _ lane. UnlessFault Looking };
+    ghost does = { λ _ lane. UnlessFault LooksForFrame };
 
     fn act(self, value: &mut Locked, lane: Option<u32>) -> Result<bool, Error> {
         let _ = lane;
@@ -242,6 +262,8 @@ impl Event<Locked, Result<bool, Error>> for MayRead {
 }
 
 /// One step of the seat's lane, unless all of its calls have ended. A seat that names no lane has none.
+///
+/// Used in `crates/sftp_tasks/src/polls.rt`.
 #[derive(Drop)]
 pub struct Poll;
 
@@ -265,20 +287,22 @@ impl Event<Locked, Result<Polled, Error>> for Poll {
     }
 }
 
-/// Lets go of the seat's lane, where its calls have ended. A seat that names no lane has nothing to let go of.
+/// Releases the seat's lane, if its calls have ended. A seat that names no lane has nothing to release.
+///
+/// Used in `crates/sftp_tasks/src/shared_sftp.rt`.
 #[derive(Drop)]
 pub struct Release;
 
 impl Event<Locked, Result<bool, Error>> for Release {
     ghost use Rattle.session_seats.specs.Holds.{no_allowance};
     ghost use Rattle.sftp_tasks.specs.Entries.{by_let_go};
-    ghost use Rattle.sftp_tasks.specs.LockedEvents.{Releasing, UnlessFault};
+    ghost use Rattle.sftp_tasks.specs.LockedEvents.{ReleasesLane, UnlessFault};
 
     ghost only = { λ _. by_let_go };
 
     ghost needs = { λ _. no_allowance };
 
-    ghost does = { λ _ lane. UnlessFault (Releasing lane) };
+    ghost does = { λ _ lane. UnlessFault (ReleasesLane lane) };
 
     fn act(self, value: &mut Locked, lane: Option<u32>) -> Result<bool, Error> {
         let Some(lane) = lane else {
@@ -288,7 +312,9 @@ impl Event<Locked, Result<bool, Error>> for Release {
     }
 }
 
-/// Looks how far the end has come.
+/// Looks at the stage of the end.
+///
+/// Used in `crates/sftp_tasks/src/workers.rt`.
 #[derive(Drop)]
 pub struct LookStage;
 
@@ -309,20 +335,22 @@ impl Event<Locked, Result<u64, Error>> for LookStage {
     }
 }
 
-/// Settles the end, where it has begun and each request of an open session has its reply.
+/// Settles the end, if it has started and each request of an open session has its reply.
+///
+/// Used in `crates/sftp_tasks/src/workers.rt`.
 #[derive(Drop)]
 pub struct Finish;
 
 impl Event<Locked, Result<bool, Error>> for Finish {
     ghost use Rattle.session_seats.specs.Holds.{no_allowance};
     ghost use Rattle.sftp_tasks.specs.Entries.{by_nothing};
-    ghost use Rattle.sftp_tasks.specs.LockedEvents.{Finishing, UnlessFault};
+    ghost use Rattle.sftp_tasks.specs.LockedEvents.{SettlesEnd, UnlessFault};
 
     ghost only = { λ _. by_nothing };
 
     ghost needs = { λ _. no_allowance };
 
-    ghost does = { λ _ lane. UnlessFault Finishing };
+    ghost does = { λ _ lane. UnlessFault SettlesEnd };
 
     fn act(self, value: &mut Locked, lane: Option<u32>) -> Result<bool, Error> {
         let _ = lane;

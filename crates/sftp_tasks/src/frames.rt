@@ -1,7 +1,7 @@
-//! Frames that go out and come in, and how many did.
+//! Frames that go out and come in, and their counts.
 ghost use Rattle.std.specs.Prelude.{◌≡◌, ◌≢◌, ◌≤◌, ◌+◌, ◌-◌, ◌^◌, min, nat_lt, None, IfOk, IfErr, OnOk, MatchOption};
 ghost use Rattle.std.specs.Option.{option_map};
-ghost use Rattle.sftp_model.specs.Pieces.{joined};
+ghost use Rattle.sftp_model.specs.Pieces.{joined_pieces};
 ghost use Rattle.sftp_model.specs.ReplyReadings.{reply_at};
 ghost use Rattle.session_driver.specs.declared.session.Phase.TheVariants as phases;
 ghost use Rattle.session_work.specs.Working.{past_of};
@@ -10,13 +10,15 @@ ghost use Rattle.sftp_lanes.specs.Events.{HandsOutIn, TakesIn};
 ghost use Rattle.sftp_tasks.specs.SessionEvents.{HasNoFault, RefusesCall, TakeStops};
 
 use crate::locked::Locked;
+use link_frames::refused;
 use session_driver::Phase;
-use session_exchange::refused;
 use sftp_core::Chunk;
 use sftp_model::{Error, Fault};
 use ssh_encoding::OutOfMemory;
 
-/// What was handed out, and how many frames it has.
+/// The frames that were handed out, and how many they are.
+///
+/// Used in `crates/sftp_tasks/src/opening.rt`.
 #[derive(Drop)]
 pub struct Handed {
     pub chunk: Chunk,
@@ -24,11 +26,15 @@ pub struct Handed {
 }
 
 impl Locked {
-    /// The frames that are to be sent next, the hello first; None where nothing is unsent, and while a reply of the opening is awaited.
-    /// They are counted as handed out. Errors as of `step`.
+    /// Returns the frames to send next, the hello first, or `None` if nothing is unsent, and while a reply of the
+    /// opening is awaited. They are counted as handed out.
+    ///
+    /// # Errors
+    ///
+    /// Those of `step`.
     pub fn hand_out(&mut self) -> Result<Option<Handed>, Error>
         ensures rest { self.new ≡ record self.old { session = self.new.session; counts = record self.old.counts { handed = self.new.counts.handed } } }
-        ensures hands_out { IfOk result (λ handed. HandsOutIn self.old.session.phase self.old.session self.new.session (option_map (λ h. joined h.chunk) handed)) }
+        ensures hands_out { IfOk result (λ handed. HandsOutIn self.old.session.phase self.old.session self.new.session (option_map (λ h. joined_pieces h.chunk) handed)) }
         ensures counts { IfOk result (λ handed. MatchOption handed (self.new.counts.handed ≡ self.old.counts.handed)
             (λ h. self.new.counts.handed ≡ self.old.counts.handed + h.frames)) }
         ensures frames { IfOk result (λ handed. MatchOption handed (Unit {0})
@@ -53,7 +59,7 @@ impl Locked {
         }
     }
 
-    /// Notes that so many of the frames that were handed out were written whole.
+    /// Records that this many of the frames that were handed out were written whole.
     pub fn written(&mut self, frames: u64)
         ensures is { self.new ≡ record self.old { counts = record self.old.counts { written = min (self.old.counts.written + frames) (2 ^ 64 - 1) } } }
         ensures rises { self.old.counts.written ≤ self.new.counts.written }
@@ -61,8 +67,12 @@ impl Locked {
         self.counts.written = self.counts.written.saturating_add(frames);
     }
 
-    /// Takes the body of a frame, and counts it. Refused by the first thing that is wrong with it, which the session keeps as its fault, or
-    /// for want of memory. A frame that comes before the hello was handed out is `InvalidResponse`.
+    /// Takes the body of a frame, and counts it.
+    ///
+    /// # Errors
+    ///
+    /// The first thing that is wrong with the frame, which the session records as its fault, or `OutOfMemory` if an
+    /// allocation fails. A frame that comes before the hello was handed out is `InvalidResponse`.
     pub fn take(&mut self, body: &[u8]) -> Result<(), Error>
         ensures rest { self.new ≡ record self.old { session = self.new.session; counts = record self.old.counts { taken = self.new.counts.taken } } }
         ensures takes { OnOk result (TakesIn self.old.session.phase (reply_at body.now) self.old.session self.new.session) }
@@ -86,7 +96,11 @@ impl Locked {
         }
     }
 
-    /// Whether fewer frames were taken than were written whole, so that one is awaited. Errors as of `step`.
+    /// Returns true if fewer frames were taken than were written whole, so that one is awaited.
+    ///
+    /// # Errors
+    ///
+    /// Those of `step`.
     pub fn may_read(&self) -> Result<bool, Error>
         ensures may { IfOk result (λ may. may ≡ nat_lt self.now.counts.taken self.now.counts.written) }
         ensures no_fault { OnOk result (HasNoFault self.now.session) }

@@ -1,6 +1,6 @@
-//! An SFTP session that threads share. Each thread has a seat at it: that of a lane submits calls, polls and cancels; those of
-//! workers send what is unsent and read what comes, each over its half of the link. Every entry of the journal has its receipt at
-//! the seat that made it.
+//! An SFTP session that threads share. Each thread has a seat at it: that of a lane submits calls, polls and cancels;
+//! those of workers send what is unsent and read what comes, each over its half of the link. Every entry of the journal
+//! has its receipt at the seat that made it.
 #![tactic(auto)]
 
 mod added_calls;

@@ -1,4 +1,4 @@
-//! What lies behind the lock, and what each call of its session is.
+//! The value that the lock protects, and each call of its session.
 ghost use Rattle.std.specs.Prelude.{◌≡◌, ◌≤◌, ◌+◌, IfOk, IfErr, OnOk};
 ghost use Rattle.sftp_lanes.specs.Events.{CancelsIn, StepsIn};
 ghost use Rattle.sftp_tasks.specs.SessionEvents.{GivesUp, HasNoFault, KeepsFault, LetsLaneGoIn, RefusesCall};
@@ -11,6 +11,8 @@ use sftp_model::{Error, Fault};
 use ssh_encoding::OutOfMemory;
 
 /// The session, the counts of its frames with the stage of its end, its users, and how many lanes have a seat.
+///
+/// Used in `crates/sftp_tasks/src/report.rt`.
 #[derive(Drop)]
 pub struct Locked {
     pub(crate) session: Session,
@@ -68,8 +70,12 @@ impl Held for Locked {
 }
 
 impl Locked {
-    /// One step of a lane: nothing before the session is open. `BackgroundTaskFailure` where a fault is kept, and nothing has changed
-    /// then; `OutOfMemory` for want of memory, and for good from then on.
+    /// Makes one step of a lane; before the session is open it does nothing.
+    ///
+    /// # Errors
+    ///
+    /// `BackgroundTaskFailure` if a fault is recorded; nothing has changed then. `OutOfMemory` if an allocation fails,
+    /// and always from then on.
     pub fn step(&mut self, lane: u32) -> Result<Stepped, Error>
         ensures rest { self.new ≡ record self.old { session = self.new.session } }
         ensures steps { IfOk result (λ event. StepsIn self.old.session.phase lane self.old.session self.new.session event) }
@@ -85,7 +91,11 @@ impl Locked {
         }
     }
 
-    /// Cancels the call of a lane that was begun, and answers whether it was: none is before the session is open. Errors as of `step`.
+    /// Cancels the call of a lane that was started. Returns true if it was: none is before the session is open.
+    ///
+    /// # Errors
+    ///
+    /// Those of `step`.
     pub fn cancel(&mut self, lane: u32) -> Result<bool, Error>
         ensures rest { self.new ≡ record self.old { session = self.new.session } }
         ensures cancels { IfOk result (λ event. CancelsIn self.old.session.phase lane self.old.session self.new.session event) }
@@ -101,8 +111,12 @@ impl Locked {
         }
     }
 
-    /// Lets go of all that the slots of a lane hold, once its calls have ended; false where one has not, and nothing changes then. Errors
-    /// as of `step`.
+    /// Releases all that the slots of a lane hold, once its calls have ended. Returns false if one has not; nothing
+    /// changes then.
+    ///
+    /// # Errors
+    ///
+    /// Those of `step`.
     pub fn let_go(&mut self, lane: u32) -> Result<bool, Error>
         ensures rest { self.new ≡ record self.old { session = self.new.session } }
         ensures lets_go { IfOk result (λ event. LetsLaneGoIn lane self.old.session self.new.session event) }
@@ -127,8 +141,11 @@ impl Locked {
         }
     }
 
-    /// Keeps a fault as the session's first, also as an entry of the journal. `BackgroundTaskFailure` with the one that is kept, where one
-    /// is, and nothing has changed then.
+    /// Records a fault as the session's first, also as an entry of the journal.
+    ///
+    /// # Errors
+    ///
+    /// `BackgroundTaskFailure` with the fault that is already recorded, if there is one; nothing has changed then.
     pub fn fail(&mut self, fault: Fault) -> Result<(), Error>
         ensures rest { self.new ≡ record self.old { session = self.new.session } }
         ensures keeps { KeepsFault fault self.old.session self.new.session result }
@@ -140,7 +157,8 @@ impl Locked {
         Ok(())
     }
 
-    /// Lets each later call of the lanes answer `OutOfMemory`, as where a link found no memory. Nothing is added to the journal.
+    /// Makes each later call of the lanes return `OutOfMemory`, as when a link ran out of memory. Nothing is added to
+    /// the journal.
     pub fn give_up(&mut self)
         ensures rest { self.new ≡ record self.old { session = self.new.session } }
         ensures gives_up { GivesUp self.old.session self.new.session }

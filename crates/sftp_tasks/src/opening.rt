@@ -1,7 +1,8 @@
-//! How a seat opens the session over both halves of the link, before other seats are given: it sends the hello, and takes VERSION.
+//! The opening of the session by a seat, over both halves of the link, before other seats are given: it sends the
+//! hello, and takes VERSION.
 ghost use Rattle.std.specs.Prelude.{◌≡◌, ◌<◌, ◌≤◌, ◌-◌, ◌^◌, IfErr, IfOk, OnOk};
-ghost use Rattle.session_seats.specs.Holds.{Grew, claim_of};
-ghost use Rattle.sftp_tasks.specs.Opening.{GetsSomeVersion, Greets, GreetStops, HandingHello, HelloStops, SendsHelloOrNot, TakingVersion, VersionStops, by_opening};
+ghost use Rattle.session_seats.specs.Holds.{AddsEntries, claim_of};
+ghost use Rattle.sftp_tasks.specs.Opening.{GetsSomeVersion, SendsHelloOnce, GreetStops, HandingHello, HelloStops, SendsHelloOrNot, TakingVersion, VersionStops, by_opening};
 ghost use Rattle.sftp_tasks.specs.SessionEvents.{HasNoFault};
 
 use crate::events::Written;
@@ -9,8 +10,8 @@ use crate::frames::Handed;
 use crate::locked::Locked;
 use crate::rounds::stop;
 use crate::shared_sftp::{Seat, SharedSftp, settle};
+use link_frames::{read_frame, send_pieces};
 use session_driver::Phase;
-use session_exchange::{read_frame, send_pieces};
 use session_seats::Event;
 use sftp_link::{LinkIn, LinkOut};
 use sftp_model::{Error, Fault};
@@ -18,8 +19,12 @@ use sftp_wire::FrameReader;
 use std::sync::Wait;
 
 impl Locked {
-    /// The hello, where it was not handed out yet; None where it was, and nothing has changed then. It is counted as handed out. Errors
-    /// as of `step`.
+    /// Returns the hello if it was not handed out yet, or `None` if it was; nothing has changed then. It is counted as
+    /// handed out.
+    ///
+    /// # Errors
+    ///
+    /// Those of `step`.
     pub fn hand_hello(&mut self) -> Result<Option<Handed>, Error>
         ensures rest { self.new ≡ record self.old { session = self.new.session; counts = record self.old.counts { handed = self.new.counts.handed } } }
         ensures hands { HandingHello self.old self.new result }
@@ -34,8 +39,12 @@ impl Locked {
         }
     }
 
-    /// Takes the body of VERSION, and counts it. A frame that comes where no VERSION is awaited is `InvalidResponse`, and the session keeps
-    /// that; else it is refused as by `take`.
+    /// Takes the body of VERSION, and counts it.
+    ///
+    /// # Errors
+    ///
+    /// `InvalidResponse` for a frame that comes while no VERSION is awaited; the session records that. Otherwise those
+    /// of `take`.
     pub fn take_version(&mut self, body: &[u8]) -> Result<(), Error>
         ensures rest { self.new ≡ record self.old { session = self.new.session; counts = record self.old.counts { taken = self.new.counts.taken } } }
         ensures takes { TakingVersion body.now self.old self.new result }
@@ -56,7 +65,9 @@ impl Locked {
     }
 }
 
-/// Hands the hello out, where it was not handed out yet.
+/// Hands the hello out, if it was not handed out yet.
+///
+/// Used by the functions of this module.
 #[derive(Drop)]
 pub struct HandHello;
 
@@ -78,7 +89,9 @@ impl Event<Locked, Result<Option<Handed>, Error>> for HandHello {
     }
 }
 
-/// Takes a frame that was read whole, where VERSION is awaited.
+/// Takes a frame that was read whole, if VERSION is awaited.
+///
+/// Used by the functions of this module.
 #[derive(Drop)]
 pub struct TakeVersion {
     pub frame: FrameReader,
@@ -104,7 +117,8 @@ impl Event<Locked, Result<(), Error>> for TakeVersion {
     }
 }
 
-/// Sends the hello, where it was not handed out yet. False where it was, and nothing is sent then. Errors as of `flush_round`.
+/// Sends the hello if it was not handed out yet. Returns false if it was; nothing is sent then. Errors are those of
+/// `flush_round`.
 fn send_hello<O: LinkOut, R: Wait>(
     rt: &R,
     shared: &SharedSftp,
@@ -115,11 +129,11 @@ fn send_hello<O: LinkOut, R: Wait>(
     requires count { (O.LinkState.state out.old).faults < 2 ^ 64 - 1 }
     ensures own { (seat.new.inner.table_id ≡ seat.old.inner.table_id) × (seat.new.lane ≡ seat.old.lane)
         × OnOk result ((claim_of seat.old.inner.me).share ≤ (claim_of seat.new.inner.me).share) }
-    ensures only { Grew (by_opening seat.old.lane) (claim_of seat.old.inner.me) (claim_of seat.new.inner.me) }
+    ensures only { AddsEntries (by_opening seat.old.lane) (claim_of seat.old.inner.me) (claim_of seat.new.inner.me) }
     ensures sends { IfOk result (λ did. SendsHelloOrNot did seat.old.inner.me seat.new.inner.me (O.LinkState.state out.old) (O.LinkState.state out.new)) }
     ensures stops { IfErr result (λ e. HelloStops e seat.old.inner.me seat.new.inner.me (O.LinkState.state out.old) (O.LinkState.state out.new)) }
 {
-    // The hello is no entry of the journal, so no receipt is wanting.
+    // The hello is no entry of the journal, so no receipt is missing.
     let (did, _) = seat.apply(rt, shared.alloc, &shared.shared, HandHello);
     let Handed { chunk, frames } = match did {
         Ok(Some(handed)) => handed,
@@ -134,7 +148,7 @@ fn send_hello<O: LinkOut, R: Wait>(
     Ok(true)
 }
 
-/// Reads one frame outside of the lock, and takes it under it as VERSION. Errors as of `read_round`.
+/// Reads one frame without the lock, and takes it as VERSION while holding the lock. Errors are those of `read_round`.
 fn take_version<I: LinkIn, R: Wait>(
     rt: &R,
     shared: &SharedSftp,
@@ -145,7 +159,7 @@ fn take_version<I: LinkIn, R: Wait>(
     requires count { (I.LinkState.state input.old).faults < 2 ^ 64 - 1 }
     ensures own { (seat.new.inner.table_id ≡ seat.old.inner.table_id) × (seat.new.lane ≡ seat.old.lane)
         × OnOk result ((claim_of seat.old.inner.me).share ≤ (claim_of seat.new.inner.me).share) }
-    ensures only { Grew (by_opening seat.old.lane) (claim_of seat.old.inner.me) (claim_of seat.new.inner.me) }
+    ensures only { AddsEntries (by_opening seat.old.lane) (claim_of seat.old.inner.me) (claim_of seat.new.inner.me) }
     ensures gets { OnOk result (GetsSomeVersion seat.old.inner.me seat.new.inner.me (I.LinkState.state input.old) (I.LinkState.state input.new)) }
     ensures stops { IfErr result (λ e. VersionStops e seat.old.inner.me seat.new.inner.me (I.LinkState.state input.old) (I.LinkState.state input.new)) }
 {
@@ -158,9 +172,13 @@ fn take_version<I: LinkIn, R: Wait>(
 }
 
 impl SharedSftp {
-    /// Sends the hello over the one half of the link, and takes VERSION from the other, where nobody has handed the hello out; true exactly
-    /// where this call did both. False where it was handed out before, and nothing is sent or read then. With an error the session keeps
-    /// its fault, or is given up for want of memory, as after a round.
+    /// Sends the hello over the one half of the link, and takes VERSION from the other, if nobody has handed the hello
+    /// out. Returns true exactly if this call did both. Returns false if the hello was handed out before; nothing is
+    /// sent or read then.
+    ///
+    /// # Errors
+    ///
+    /// Those of a round: the session records the fault, or is given up if an allocation failed.
     pub fn greet<O: LinkOut, I: LinkIn, R: Wait>(
         &self,
         rt: &R,
@@ -172,8 +190,8 @@ impl SharedSftp {
         requires counts { ((O.LinkState.state out.old).faults < 2 ^ 64 - 1) × ((I.LinkState.state input.old).faults < 2 ^ 64 - 1) }
         ensures own { (seat.new.inner.table_id ≡ seat.old.inner.table_id) × (seat.new.lane ≡ seat.old.lane)
             × OnOk result ((claim_of seat.old.inner.me).share ≤ (claim_of seat.new.inner.me).share) }
-        ensures only { Grew (by_opening seat.old.lane) (claim_of seat.old.inner.me) (claim_of seat.new.inner.me) }
-        ensures greets { IfOk result (λ did. Greets did seat.old.inner.me seat.new.inner.me
+        ensures only { AddsEntries (by_opening seat.old.lane) (claim_of seat.old.inner.me) (claim_of seat.new.inner.me) }
+        ensures greets { IfOk result (λ did. SendsHelloOnce did seat.old.inner.me seat.new.inner.me
             (O.LinkState.state out.old) (O.LinkState.state out.new) (I.LinkState.state input.old) (I.LinkState.state input.new)) }
         ensures stops { IfErr result (λ e. GreetStops e seat.old.inner.me seat.new.inner.me
             (O.LinkState.state out.old) (O.LinkState.state out.new) (I.LinkState.state input.old) (I.LinkState.state input.new)) }

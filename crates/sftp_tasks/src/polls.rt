@@ -1,6 +1,6 @@
-//! A lane that is polled until its calls have ended.
+//! Polls of a lane until its calls have ended.
 ghost use Rattle.std.specs.Prelude.{◌≡◌, Ok, IfErr, IfOk, IfSome, OnOk};
-ghost use Rattle.session_seats.specs.Holds.{Grew, claim_of, sight_by};
+ghost use Rattle.session_seats.specs.Holds.{AddsEntries, claim_of, sight_by};
 ghost use Rattle.sftp_tasks.specs.Calls.{AnswersSeat, InOneHold, PollsSeat, PollsUntil, SeesEnded, calls_in, is_ended};
 ghost use Rattle.sftp_tasks.specs.Entries.{by_step};
 ghost use Rattle.sftp_tasks.specs.SessionEvents.{AllEnded, HasNoFault, PollsIn, RefusesCall, polled_of};
@@ -13,10 +13,12 @@ use session_driver::Stepped;
 use sftp_model::Error;
 use std::sync::Wait;
 
-/// What one poll of a lane found.
+/// The result of one poll of a lane.
+///
+/// Used in `crates/sftp_tasks/src/events.rt`.
 #[derive(Clone, Copy)]
 pub enum Polled {
-    /// All calls of the lane have ended, so many.
+    /// All calls of the lane have ended; this is their number.
     Ended(u64),
     /// A request was submitted, or a call ended.
     Moved,
@@ -25,14 +27,14 @@ pub enum Polled {
 }
 
 impl Polled {
-    /// Whether all calls have ended.
+    /// Returns true if all calls have ended.
     fn is_ended(&self) -> bool
         ensures { result ≡ is_ended self.now }
     {
         matches!(self, Polled::Ended(_))
     }
 
-    /// How many calls have ended, where all have.
+    /// Returns how many calls have ended, if all have.
     fn calls(&self) -> u64
         ensures { result ≡ calls_in self.now }
     {
@@ -43,7 +45,7 @@ impl Polled {
     }
 }
 
-/// What a step tells of its lane.
+/// Returns the result of a poll for a step of its lane.
 fn polled_of(event: Stepped) -> Polled
     ensures { result ≡ polled_of event }
 {
@@ -55,7 +57,7 @@ fn polled_of(event: Stepped) -> Polled
 }
 
 impl Locked {
-    /// How many calls a lane has, where all have ended. Errors as of `step`.
+    /// Returns how many calls a lane has, if all have ended. Errors are those of `step`.
     fn ended_calls(&self, lane: u32) -> Result<Option<u64>, Error>
         ensures ended { IfOk result (λ calls. IfSome calls (AllEnded self.now.session.lanes (past_of self.now.session.work) lane)) }
         ensures no_fault { OnOk result (HasNoFault self.now.session) }
@@ -73,7 +75,11 @@ impl Locked {
         Ok(Some(self.session.outcomes(lane).len() as u64))
     }
 
-    /// One step of a lane, unless all of its calls have ended. Errors as of `step`.
+    /// Makes one step of a lane, unless all of its calls have ended.
+    ///
+    /// # Errors
+    ///
+    /// Those of `step`.
     pub fn poll(&mut self, lane: u32) -> Result<Polled, Error>
         ensures rest { self.new ≡ record self.old { session = self.new.session } }
         ensures polls { IfOk result (λ p. PollsIn lane self.old.session self.new.session p) }
@@ -93,14 +99,17 @@ impl Locked {
 }
 
 impl SharedSftp {
-    /// Steps the seat's lane until all of its calls have ended, and answers how many it has; it waits for VERSION and for replies
-    /// meanwhile. 0 where the seat names no lane. `BackgroundTaskFailure` once the session keeps a fault, and `OutOfMemory` for want of
-    /// memory.
+    /// Steps the seat's lane until all of its calls have ended, and returns how many it has. Meanwhile it waits for
+    /// VERSION and for replies. Returns 0 if the seat names no lane.
+    ///
+    /// # Errors
+    ///
+    /// `BackgroundTaskFailure` once the session has recorded a fault, and `OutOfMemory` if an allocation fails.
     pub fn poll_wait<R: Wait>(&self, rt: &R, seat: &mut Seat) -> Result<u64, Error>
         requires own { seat.old.inner.table_id ≡ self.now.shared.table.shared.table_id }
         ensures own { (seat.new.inner.table_id ≡ seat.old.inner.table_id) × (seat.new.lane ≡ seat.old.lane)
             × ((claim_of seat.new.inner.me).share ≡ (claim_of seat.old.inner.me).share) }
-        ensures only { Grew (by_step seat.old.lane) (claim_of seat.old.inner.me) (claim_of seat.new.inner.me) }
+        ensures only { AddsEntries (by_step seat.old.lane) (claim_of seat.old.inner.me) (claim_of seat.new.inner.me) }
         ensures polls { PollsUntil seat.old.lane result seat.old.inner.me seat.new.inner.me }
         ensures ended { IfOk result (λ calls. SeesEnded seat.old.lane calls (sight_by seat.new.inner.me)) }
     {
@@ -123,14 +132,14 @@ impl SharedSftp {
         requires own { seat.old.inner.table_id ≡ self.now.shared.table.shared.table_id }
         ensures own { (seat.new.inner.table_id ≡ seat.old.inner.table_id) × (seat.new.lane ≡ seat.old.lane)
             × ((claim_of seat.new.inner.me).share ≡ (claim_of seat.old.inner.me).share) }
-        ensures only { Grew (by_step seat.old.lane) (claim_of seat.old.inner.me) (claim_of seat.new.inner.me) }
+        ensures only { AddsEntries (by_step seat.old.lane) (claim_of seat.old.inner.me) (claim_of seat.new.inner.me) }
         ensures polls { InOneHold (PollsSeat seat.old.lane) result seat.old.inner.me seat.new.inner.me }
     {
         let (did, copied) = seat.apply(rt, self.alloc, &self.shared, Poll);
         settle(did, copied)
     }
 
-    /// Waits for a change where the poll found nothing to do.
+    /// Waits for a change if the poll found nothing to do.
     fn pause<R: Wait>(&self, rt: &R, polled: Polled, seen: u64) {
         if let Polled::Waits = polled {
             self.shared.wait(rt, seen);

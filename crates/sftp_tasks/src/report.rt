@@ -1,9 +1,9 @@
-//! The end of the shared session, and what it leaves.
+//! The end of the shared session, and its report.
 ghost use Rattle.std.specs.Prelude.{◌≡◌, ◌≤◌, ◌∷◌, [], IfErr, IfOk, length, map, vec_capacity};
 ghost use Rattle.session_seats.specs.Closes.{AllOf, claims_of, items_of};
-ghost use Rattle.session_seats.specs.Covers.{Complete, Once};
+ghost use Rattle.session_seats.specs.Covers.{HasAllSeats, CoversPlacesOnce};
 ghost use Rattle.session_work.specs.Working.{past_of};
-ghost use Rattle.sftp_lanes.specs.Seen.{Reports};
+ghost use Rattle.sftp_lanes.specs.Seen.{ReportsSession};
 ghost use Rattle.sftp_tasks.specs.Reported.{IsPrepared, Refused, Reported, reason_of};
 
 use crate::copies::copies_of;
@@ -17,30 +17,36 @@ use ssh_encoding::OutOfMemory;
 use std::alloc::Global;
 use std::sync::Wait;
 
-/// What a shared session did.
+/// The report of a shared session.
+///
+/// Example: `crates/example_threads/src/socket.rt`.
 #[derive(Drop)]
 pub struct SharedReport {
     /// VERSION, the events of the journal, and the outcomes of each lane's calls.
     pub report: Report,
     /// The journal, the first entry first.
     pub journal: Vec<Entry>,
-    /// The receipts of each seat, in the order of the seats that were handed in. Those of a lane's seat are of all entries of the lane.
+    /// The receipts of each seat, in the order of the seats that were passed in. Those of a lane's seat are of all
+    /// entries of the lane.
     pub receipts: Vec<Vec<Receipt>>,
-    /// Whether the session was open: then no grant is left that is to be closed.
+    /// True if the session was open: then no grant is left to close.
     pub is_open: bool,
 }
 
 /// A shared session could not be closed. Its seats come back, each with its receipts.
+///
+/// Used by the functions of this module.
 #[derive(Drop)]
 pub struct NotClosed {
-    /// `BackgroundTaskFailure` with the fault that is kept in the journal that the first seat has seen, or `OutOfMemory`.
+    /// `BackgroundTaskFailure` with the fault that is recorded in the journal that the first seat has seen, or
+    /// `OutOfMemory`.
     pub error: Error,
     pub seat: Seat,
     pub others: Vec<Seat>,
 }
 
-/// What is made before the session ends, so that its report takes no memory: a copy of its journal, an empty list that has room for
-/// its events, and whether the session is open.
+/// The values that are made before the session ends, so that its report allocates no memory: a copy of its journal, an
+/// empty list that has room for its events, and whether the session is open.
 #[derive(Drop)]
 struct Prepared {
     journal: Vec<Entry>,
@@ -48,7 +54,7 @@ struct Prepared {
     is_open: bool,
 }
 
-/// The session ends while calls of its lanes can be made.
+/// The check that a session ends while calls of its lanes can be made.
 #[derive(Drop)]
 struct Unfailed {
     alloc: Global,
@@ -76,7 +82,8 @@ impl Ending<Locked, Prepared, Error> for Unfailed {
 }
 
 impl Locked {
-    /// A copy of the journal, room for its events, and whether the session is open. Refused for want of memory.
+    /// Returns a copy of the journal, room for its events, and whether the session is open. Fails if an allocation
+    /// fails.
     fn prepared(&self, alloc: Global) -> Result<Prepared, OutOfMemory>
         ensures { IfOk result (λ p. IsPrepared self.now.session p.journal p.trace p.is_open) }
     {
@@ -90,11 +97,11 @@ impl Locked {
         })
     }
 
-    /// The report of the session, its events in an empty list that has room for the journal.
+    /// Returns the report of the session, with its events in an empty list that has room for the journal.
     fn report_into(self, trace: Vec<Event>) -> Report
         requires empty { trace.items ≡ [] }
         requires room { length (past_of self.session.work) ≤ vec_capacity trace }
-        ensures { Reports self.session result }
+        ensures { ReportsSession self.session result }
     {
         let Locked {
             session,
@@ -106,7 +113,7 @@ impl Locked {
     }
 }
 
-/// Why the session was not taken out: where nothing was told, for want of memory.
+/// Returns the reason that the session was not taken out: without a reported error, an allocation failed.
 fn reason(error: Option<Error>) -> Error
     ensures { result ≡ reason_of error }
 {
@@ -117,9 +124,13 @@ fn reason(error: Option<Error>) -> Error
 }
 
 impl SharedSftp {
-    /// Ends the session, and reports what it did, with the receipts of each seat. Nothing is sent, and nothing is added to the journal.
-    /// `BackgroundTaskFailure` where the session keeps a fault, and `OutOfMemory` for want of memory, also of a receipt. After an Err the
-    /// seats come back, each with its receipts.
+    /// Ends the session, and reports what it did, with the receipts of each seat. Nothing is sent, and nothing is added
+    /// to the journal.
+    ///
+    /// # Errors
+    ///
+    /// `BackgroundTaskFailure` if the session has recorded a fault, and `OutOfMemory` if an allocation fails, also one
+    /// for a receipt. The seats come back then, each with its receipts.
     pub fn close<R: Wait>(
         self,
         rt: &R,
@@ -128,7 +139,7 @@ impl SharedSftp {
     ) -> Result<SharedReport, NotClosed>
         requires own { AllOf self.shared.table.shared.table_id (seat ∷ others.items) }
         ensures closes { IfOk result (λ r. Reported (seat ∷ others.items) r) }
-        ensures covers { IfOk result (λ r. Complete (claims_of (seat ∷ others.items)) → Once (length r.journal.items) (map items_of r.receipts.items)) }
+        ensures covers { IfOk result (λ r. HasAllSeats (claims_of (seat ∷ others.items)) → CoversPlacesOnce (length r.journal.items) (map items_of r.receipts.items)) }
         ensures refused { IfErr result (λ n. Refused seat others.items n.error n.seat n.others.items) }
     {
         let SharedSftp {

@@ -1,20 +1,21 @@
-//! One round of a worker over its half of the link: under the lock it hands out or takes, outside of it it sends or reads.
+//! One round of a worker over its half of the link: it holds the lock while it hands out or takes, and not while it
+//! sends or reads.
 ghost use Rattle.std.specs.Prelude.{◌≡◌, ◌<◌, ◌-◌, ◌^◌, None, Some, IfErr, IfNone, IfOk, IfSome};
-ghost use Rattle.session_seats.specs.Holds.{Grew, claim_of};
+ghost use Rattle.session_seats.specs.Holds.{AddsEntries, claim_of};
 ghost use Rattle.sftp_tasks.specs.Entries.{by_failing, by_flush, by_read};
-ghost use Rattle.sftp_tasks.specs.Rounds.{FlushStops, FlushesRound, ReadStops, ReadsRound, Stops, fault_for};
+ghost use Rattle.sftp_tasks.specs.Rounds.{FlushStops, FlushesRound, ReadStops, ReadsRound, StopsByError, fault_for};
 
 use crate::events::{Fail, GiveUp, HandOut, MayRead, TakeFrame, Written};
 use crate::frames::Handed;
 use crate::shared_sftp::{Seat, SharedSftp, settle};
-use session_exchange::{read_frame, send_pieces};
+use link_frames::{read_frame, send_pieces};
 use sftp_link::{LinkIn, LinkOut};
 use sftp_model::{Error, Fault};
 use ssh_encoding::OutOfMemory;
 use std::sync::Wait;
 
-/// The fault that a session keeps where this went wrong in a round; None for want of memory, for a fault that was kept before, and for
-/// what a round never answers.
+/// Returns the fault that a session records if this went wrong in a round; `None` for running out of memory, for a
+/// fault that was recorded before, and for errors that a round never returns.
 pub fn fault_for(e: &Error) -> Option<Fault>
     ensures { result ≡ fault_for e.now }
 {
@@ -31,13 +32,14 @@ pub fn fault_for(e: &Error) -> Option<Fault>
     }
 }
 
-/// Stops the session by what went wrong in a round, and tells what the round answers: its fault is kept where it is the session's first,
-/// and else the one that was kept before is answered; for want of memory the session is given up.
+/// Stops the session for an error in a round, and returns the error of the round. The fault is recorded if it is the
+/// session's first; otherwise the one that was recorded before is returned. If an allocation failed the session is
+/// given up.
 pub(crate) fn stop<R: Wait>(rt: &R, shared: &SharedSftp, seat: &mut Seat, why: Error) -> Error
     requires own { seat.old.inner.table_id ≡ shared.now.shared.table.shared.table_id }
     ensures own { (seat.new.inner.table_id ≡ seat.old.inner.table_id) × (seat.new.lane ≡ seat.old.lane) }
-    ensures only { Grew (by_failing seat.old.lane) (claim_of seat.old.inner.me) (claim_of seat.new.inner.me) }
-    ensures stops { Stops why result seat.old.inner.me seat.new.inner.me }
+    ensures only { AddsEntries (by_failing seat.old.lane) (claim_of seat.old.inner.me) (claim_of seat.new.inner.me) }
+    ensures stops { StopsByError why result seat.old.inner.me seat.new.inner.me }
 {
     let Some(fault) = fault_for(&why) else {
         let _ = seat.apply(rt, shared.alloc, &shared.shared, GiveUp);
@@ -50,9 +52,14 @@ pub(crate) fn stop<R: Wait>(rt: &R, shared: &SharedSftp, seat: &mut Seat, why: E
     }
 }
 
-/// Hands out under the lock, sends it all outside of it, and then notes it as written. False exactly where nothing is unsent, or a reply
-/// of the opening is awaited; nothing is sent then. With `LinkFault` a prefix of the frames was sent, and the session keeps the fault;
-/// `OutOfMemory` for want of memory, for good where the link found none; `BackgroundTaskFailure` where a fault was kept before.
+/// Hands out while it holds the lock, sends everything without it, and then records it as written. Returns false
+/// exactly if nothing is unsent, or a reply of the opening is awaited; nothing is sent then.
+///
+/// # Errors
+///
+/// `LinkFault` if the link fails: a prefix of the frames was sent, and the session records the fault. `OutOfMemory` if
+/// an allocation fails, and for good if the link ran out of memory. `BackgroundTaskFailure` if a fault was recorded
+/// before.
 pub fn flush_round<O: LinkOut, R: Wait>(
     rt: &R,
     shared: &SharedSftp,
@@ -62,7 +69,7 @@ pub fn flush_round<O: LinkOut, R: Wait>(
     requires own { seat.old.inner.table_id ≡ shared.now.shared.table.shared.table_id }
     requires count { (O.LinkState.state out.old).faults < 2 ^ 64 - 1 }
     ensures own { (seat.new.inner.table_id ≡ seat.old.inner.table_id) × (seat.new.lane ≡ seat.old.lane) }
-    ensures only { Grew (by_flush seat.old.lane) (claim_of seat.old.inner.me) (claim_of seat.new.inner.me) }
+    ensures only { AddsEntries (by_flush seat.old.lane) (claim_of seat.old.inner.me) (claim_of seat.new.inner.me) }
     ensures flushes { IfOk result (λ did. FlushesRound did seat.old.inner.me seat.new.inner.me (O.LinkState.state out.old) (O.LinkState.state out.new)) }
     ensures stops { IfErr result (λ e. FlushStops e seat.old.inner.me seat.new.inner.me (O.LinkState.state out.old) (O.LinkState.state out.new)) }
 {
@@ -83,9 +90,13 @@ pub fn flush_round<O: LinkOut, R: Wait>(
     }
 }
 
-/// Reads one frame outside of the lock, and takes it under it. False exactly where at least as many frames were taken as were written
-/// whole; nothing is read then. With another error than `OutOfMemory` and `BackgroundTaskFailure` the session keeps it as its fault: the
-/// link's, or the first thing that is wrong with the frame.
+/// Reads one frame without the lock, and takes it while holding the lock. Returns false exactly if at least as many
+/// frames were taken as were written whole; nothing is read then.
+///
+/// # Errors
+///
+/// `OutOfMemory` if an allocation fails; `BackgroundTaskFailure` if a fault was recorded before. The session records
+/// any other error as its fault: the link's, or the first thing that is wrong with the frame.
 pub fn read_round<I: LinkIn, R: Wait>(
     rt: &R,
     shared: &SharedSftp,
@@ -95,7 +106,7 @@ pub fn read_round<I: LinkIn, R: Wait>(
     requires own { seat.old.inner.table_id ≡ shared.now.shared.table.shared.table_id }
     requires count { (I.LinkState.state input.old).faults < 2 ^ 64 - 1 }
     ensures own { (seat.new.inner.table_id ≡ seat.old.inner.table_id) × (seat.new.lane ≡ seat.old.lane) }
-    ensures only { Grew (by_read seat.old.lane) (claim_of seat.old.inner.me) (claim_of seat.new.inner.me) }
+    ensures only { AddsEntries (by_read seat.old.lane) (claim_of seat.old.inner.me) (claim_of seat.new.inner.me) }
     ensures reads { IfOk result (λ did. ReadsRound did seat.old.inner.me seat.new.inner.me (I.LinkState.state input.old) (I.LinkState.state input.new)) }
     ensures stops { IfErr result (λ e. ReadStops e seat.old.inner.me seat.new.inner.me (I.LinkState.state input.old) (I.LinkState.state input.new)) }
 {

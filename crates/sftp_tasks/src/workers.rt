@@ -1,9 +1,9 @@
 //! Workers, which make rounds until the end, each over its half of the link.
 ghost use Rattle.std.specs.Prelude.{◌≡◌, ◌<◌, ◌-◌, ◌^◌, OnOk};
-ghost use Rattle.session_seats.specs.Holds.{Grew, claim_of, sight_by};
+ghost use Rattle.session_seats.specs.Holds.{AddsEntries, claim_of, sight_by};
 ghost use Rattle.sftp_tasks.specs.Calls.{InOneHold};
 ghost use Rattle.sftp_tasks.specs.Entries.{by_flush, by_nothing, by_read};
-ghost use Rattle.sftp_tasks.specs.LockedEvents.{Finishing, TellsStage};
+ghost use Rattle.sftp_tasks.specs.LockedEvents.{SettlesEnd, TellsStage};
 ghost use Rattle.sftp_tasks.specs.Workers.{FlushShift, FlushWorks, ReadShift, ReadWorks, SeesAnswered, is_over, over_if};
 
 use crate::events::{Finish, LookStage};
@@ -14,7 +14,9 @@ use sftp_model::Error;
 use std::sync::Wait;
 use std::time::Clock;
 
-/// What one shift of a worker was.
+/// The kind of one shift of a worker.
+///
+/// Used by `flush_worker` and `read_worker` in this file.
 #[derive(Clone, Copy)]
 pub enum Shift {
     /// It sent frames, or took one.
@@ -26,7 +28,7 @@ pub enum Shift {
 }
 
 impl Shift {
-    /// Whether it was the worker's last.
+    /// Returns true if it was the worker's last.
     fn is_over(&self) -> bool
         ensures { result ≡ is_over self.now }
     {
@@ -34,7 +36,7 @@ impl Shift {
     }
 }
 
-/// A shift without work, the last one if nothing will be.
+/// Returns a shift without work, the last one if there will be none.
 fn over_if(over: bool) -> Shift
     ensures { result ≡ over_if over }
 {
@@ -45,25 +47,25 @@ fn over_if(over: bool) -> Shift
 fn stage<R: Wait>(rt: &R, shared: &SharedSftp, seat: &mut Seat) -> Result<u64, Error>
     requires own { seat.old.inner.table_id ≡ shared.now.shared.table.shared.table_id }
     ensures own { (seat.new.inner.table_id ≡ seat.old.inner.table_id) × (seat.new.lane ≡ seat.old.lane) }
-    ensures only { Grew (by_nothing seat.old.lane) (claim_of seat.old.inner.me) (claim_of seat.new.inner.me) }
+    ensures only { AddsEntries (by_nothing seat.old.lane) (claim_of seat.old.inner.me) (claim_of seat.new.inner.me) }
     ensures looks { InOneHold TellsStage result seat.old.inner.me seat.new.inner.me }
 {
     let (did, copied) = seat.apply(rt, shared.alloc, &shared.shared, LookStage);
     settle(did, copied)
 }
 
-/// Settles the end, where it has begun and each request of an open session has its reply.
+/// Settles the end, if it has started and each request of an open session has its reply.
 fn finish<R: Wait>(rt: &R, shared: &SharedSftp, seat: &mut Seat) -> Result<bool, Error>
     requires own { seat.old.inner.table_id ≡ shared.now.shared.table.shared.table_id }
     ensures own { (seat.new.inner.table_id ≡ seat.old.inner.table_id) × (seat.new.lane ≡ seat.old.lane) }
-    ensures only { Grew (by_nothing seat.old.lane) (claim_of seat.old.inner.me) (claim_of seat.new.inner.me) }
-    ensures looks { InOneHold Finishing result seat.old.inner.me seat.new.inner.me }
+    ensures only { AddsEntries (by_nothing seat.old.lane) (claim_of seat.old.inner.me) (claim_of seat.new.inner.me) }
+    ensures looks { InOneHold SettlesEnd result seat.old.inner.me seat.new.inner.me }
 {
     let (did, copied) = seat.apply(rt, shared.alloc, &shared.shared, Finish);
     settle(did, copied)
 }
 
-/// A round that sends, and where nothing was unsent a look at the stage. Errors as of `flush_round`.
+/// Makes a round that sends and, if nothing was unsent, looks at the stage. Errors are those of `flush_round`.
 fn flush_shift<O: LinkOut, R: Wait>(
     rt: &R,
     shared: &SharedSftp,
@@ -73,7 +75,7 @@ fn flush_shift<O: LinkOut, R: Wait>(
     requires own { seat.old.inner.table_id ≡ shared.now.shared.table.shared.table_id }
     requires count { (O.LinkState.state out.old).faults < 2 ^ 64 - 1 }
     ensures own { (seat.new.inner.table_id ≡ seat.old.inner.table_id) × (seat.new.lane ≡ seat.old.lane) }
-    ensures only { Grew (by_flush seat.old.lane) (claim_of seat.old.inner.me) (claim_of seat.new.inner.me) }
+    ensures only { AddsEntries (by_flush seat.old.lane) (claim_of seat.old.inner.me) (claim_of seat.new.inner.me) }
     ensures shift { FlushShift result (seat.old.inner.me, O.LinkState.state out.old) (seat.new.inner.me, O.LinkState.state out.new) }
 {
     match flush_round(rt, shared, seat, out) {
@@ -87,7 +89,8 @@ fn flush_shift<O: LinkOut, R: Wait>(
     }
 }
 
-/// A round that reads, and where no reply is awaited the end is settled if it can be. Errors as of `read_round`.
+/// Makes a round that reads and, if no reply is awaited, settles the end if it can be. Errors are those of
+/// `read_round`.
 fn read_shift<I: LinkIn, R: Wait>(
     rt: &R,
     shared: &SharedSftp,
@@ -97,7 +100,7 @@ fn read_shift<I: LinkIn, R: Wait>(
     requires own { seat.old.inner.table_id ≡ shared.now.shared.table.shared.table_id }
     requires count { (I.LinkState.state input.old).faults < 2 ^ 64 - 1 }
     ensures own { (seat.new.inner.table_id ≡ seat.old.inner.table_id) × (seat.new.lane ≡ seat.old.lane) }
-    ensures only { Grew (by_read seat.old.lane) (claim_of seat.old.inner.me) (claim_of seat.new.inner.me) }
+    ensures only { AddsEntries (by_read seat.old.lane) (claim_of seat.old.inner.me) (claim_of seat.new.inner.me) }
     ensures shift { ReadShift result (seat.old.inner.me, I.LinkState.state input.old) (seat.new.inner.me, I.LinkState.state input.new) }
 {
     match read_round(rt, shared, seat, input) {
@@ -111,8 +114,12 @@ fn read_shift<I: LinkIn, R: Wait>(
     }
 }
 
-/// Makes rounds that send until the stage of the end is 2. Where nothing is unsent it waits for a change, at most for the session's
-/// flush interval; an interval of 0 bounds no wait. Errors as of `flush_round`.
+/// Makes rounds that send until the stage of the end is 2. If nothing is unsent it waits for a change, at most for the
+/// session's flush interval; an interval of 0 bounds no wait.
+///
+/// # Errors
+///
+/// Those of `flush_round`.
 pub fn flush_worker<O: LinkOut, R: Wait + Clock>(
     rt: &R,
     shared: &SharedSftp,
@@ -122,7 +129,7 @@ pub fn flush_worker<O: LinkOut, R: Wait + Clock>(
     requires own { seat.old.inner.table_id ≡ shared.now.shared.table.shared.table_id }
     requires count { (O.LinkState.state out.old).faults < 2 ^ 64 - 1 }
     ensures own { (seat.new.inner.table_id ≡ seat.old.inner.table_id) × (seat.new.lane ≡ seat.old.lane) }
-    ensures only { Grew (by_flush seat.old.lane) (claim_of seat.old.inner.me) (claim_of seat.new.inner.me) }
+    ensures only { AddsEntries (by_flush seat.old.lane) (claim_of seat.old.inner.me) (claim_of seat.new.inner.me) }
     ensures rounds { FlushWorks result (seat.old.inner.me, O.LinkState.state out.old) (seat.new.inner.me, O.LinkState.state out.new) }
     ensures stage { OnOk result ((sight_by seat.new.inner.me).counts.stage ≡ 2) }
 {
@@ -140,9 +147,13 @@ pub fn flush_worker<O: LinkOut, R: Wait + Clock>(
     unreachable!()
 }
 
-/// Makes rounds that read, each only where fewer frames were taken than were written whole, until the end has begun and each request of
-/// an open session has its reply; with that it raises the stage of the end to 2. Where no reply is awaited it waits for a change. Errors as of
-/// `read_round`.
+/// Makes rounds that read, each only if fewer frames were taken than were written whole, until the end has started and
+/// each request of an open session has its reply. It then raises the stage of the end to 2. If no reply is awaited it
+/// waits for a change.
+///
+/// # Errors
+///
+/// Those of `read_round`.
 pub fn read_worker<I: LinkIn, R: Wait>(
     rt: &R,
     shared: &SharedSftp,
@@ -152,7 +163,7 @@ pub fn read_worker<I: LinkIn, R: Wait>(
     requires own { seat.old.inner.table_id ≡ shared.now.shared.table.shared.table_id }
     requires count { (I.LinkState.state input.old).faults < 2 ^ 64 - 1 }
     ensures own { (seat.new.inner.table_id ≡ seat.old.inner.table_id) × (seat.new.lane ≡ seat.old.lane) }
-    ensures only { Grew (by_read seat.old.lane) (claim_of seat.old.inner.me) (claim_of seat.new.inner.me) }
+    ensures only { AddsEntries (by_read seat.old.lane) (claim_of seat.old.inner.me) (claim_of seat.new.inner.me) }
     ensures rounds { ReadWorks result (seat.old.inner.me, I.LinkState.state input.old) (seat.new.inner.me, I.LinkState.state input.new) }
     ensures answered { OnOk result (SeesAnswered (sight_by seat.new.inner.me)) }
 {
@@ -178,7 +189,7 @@ impl SharedSftp {
         }
     }
 
-    /// Waits for a change after a shift without work, at most for the flush interval, where there is one.
+    /// Waits for a change after a shift without work, at most for the flush interval, if there is one.
     fn rest_briefly<R: Wait + Clock>(&self, rt: &R, shift: Shift, seen: u64) {
         if self.flush_interval.is_zero() {
             self.rest(rt, shift, seen);

@@ -1,1 +1,1 @@
-pub mod WindowLaws
+mod WindowLaws

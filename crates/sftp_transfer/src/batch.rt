@@ -1,18 +1,17 @@
-//! Files that are copied many at once.
+//! A queue of files that are copied many at once.
 ghost use Rattle.std.specs.Prelude.{◌≡◌};
-ghost use Rattle.transfer_copier.specs.Jobs.{NotesOver};
+ghost use Rattle.transfer_pool.specs.Jobs.{NotesOver};
 
 use crate::copy::copy_of;
 use crate::local_side::keep_local;
-use crate::reason::{Reason, ends_all, is_starved, no_text, tell_of};
 use crate::system::SystemFile;
+use crate::transfer_error::{TransferError, ends_all, is_starved, no_text, tell_of};
 use std::str;
-use transfer_copier::{Copied, CopyJobs, Wanted};
-use transfer_jobs::{Tally, Verdict};
-use transfer_walk::{Found, Task};
-use transfer_words::{Options, Way};
+use transfer_args::{Direction, Options};
+use transfer_plan::{Found, JobVerdict, Tally, Task};
+use transfer_pool::{Copied, CopyJobs, Wanted};
 
-/// How many files and bytes were copied, and whether there was no memory.
+/// The number of files and bytes copied, and a flag that is true if an allocation failed.
 #[derive(Clone, Copy)]
 pub(crate) struct Totals {
     pub(crate) files: u64,
@@ -20,18 +19,18 @@ pub(crate) struct Totals {
     pub(crate) starved: bool,
 }
 
-/// A file whose copy was begun, by its place among the jobs, and what came of it; `Stop` as long as that isn't told.
+/// A file whose copy was started, by its place among the jobs, and its verdict; `Stop` until the result is reported.
 #[derive(Clone, Copy)]
 pub(crate) struct Given {
     pub(crate) place: usize,
-    pub(crate) verdict: Verdict,
+    pub(crate) verdict: JobVerdict,
 }
 
-/// The files among jobs, from the first one that was not given yet on, and what came of those that were.
+/// The files among jobs that were not given yet, and the verdicts on those that were.
 #[derive(Drop)]
 pub(crate) struct Batch<'a> {
     rt: &'a HostRuntime,
-    way: Way,
+    way: Direction,
     options: Options,
     jobs: &'a [Found],
     tally: &'a Tally,
@@ -42,14 +41,14 @@ pub(crate) struct Batch<'a> {
     given: Vec<Given>,
 }
 
-/// Gives a local file that was copied its permissions and times, where that is asked for.
+/// Gives a local file that was copied its permissions and times, if that is asked for.
 pub(crate) fn keep_file(
     rt: &HostRuntime,
-    way: Way,
+    way: Direction,
     options: Options,
     found: &Found,
-) -> Result<(), Reason> {
-    if !options.preserve || way == Way::Put {
+) -> Result<(), TransferError> {
+    if !options.preserve || way == Direction::Put {
         return Ok(());
     }
     match str::from_utf8(found.target.as_slice()) {
@@ -59,11 +58,11 @@ pub(crate) fn keep_file(
 }
 
 impl<'a> Batch<'a> {
-    /// All files among the jobs but those that the tally skips. Each begins behind as many bytes as its place among the starts
-    /// has, and at 0 where there is none.
+    /// Returns a queue of all files among the jobs except those that the tally skips. Each copy starts after the number
+    /// of bytes at its place in `starts`, and at 0 if there is none.
     pub(crate) fn new(
         rt: &'a HostRuntime,
-        way: Way,
+        way: Direction,
         options: Options,
         jobs: &'a [Found],
         tally: &'a Tally,
@@ -84,30 +83,30 @@ impl<'a> Batch<'a> {
         }
     }
 
-    /// How much was copied, and what came of each file whose copy was begun, in the order of the jobs.
+    /// Returns the totals, and the verdict on each file whose copy was started, in the order of the jobs.
     pub(crate) fn into_parts(self) -> (Totals, Vec<Given>) {
         let Batch { totals, given, .. } = self;
         (totals, given)
     }
 
-    /// Tells why something was not done, and what that is of the others.
-    fn refuse(&mut self, path: &[u8], reason: &Reason) -> Verdict {
+    /// Reports why an entry was not done, and returns its verdict.
+    fn refuse(&mut self, path: &[u8], reason: &TransferError) -> JobVerdict {
         tell_of(self.rt, path, reason);
         self.totals.starved = self.totals.starved || is_starved(reason);
         if ends_all(reason) {
             self.ended = true;
-            return Verdict::Stop;
+            return JobVerdict::Stop;
         }
-        Verdict::NotDone
+        JobVerdict::NotDone
     }
 
-    /// The copy of a file; None where it can't be begun, and why is told.
+    /// Returns the copy of a file, or `None` if it can't be started; the reason is reported then.
     fn begin(&mut self, place: usize, found: &Found) -> Option<Wanted<SystemFile<'a>>> {
         let number = self.given.len();
         let path = found.source.as_slice();
-        let verdict = Verdict::Stop;
+        let verdict = JobVerdict::Stop;
         if self.given.push(Given { place, verdict }).is_err() {
-            self.refuse(path, &Reason::OutOfMemory);
+            self.refuse(path, &TransferError::OutOfMemory);
             return None;
         }
         let begins_at = match self.starts.get(place) {
@@ -128,29 +127,29 @@ impl<'a> Batch<'a> {
         }
     }
 
-    /// Notes what came of the copy with a number.
-    fn set_verdict(&mut self, number: usize, verdict: Verdict) {
+    /// Records the verdict on the copy with a number.
+    fn set_verdict(&mut self, number: usize, verdict: JobVerdict) {
         if let Some(given) = self.given.get_mut(number) {
             given.verdict = verdict;
         }
     }
 
-    /// A file was copied, so many bytes of it by this run. A local one is given its permissions and times where that is asked
-    /// for, unless it is read back before.
-    fn finish(&mut self, found: &Found, len: u64) -> Verdict {
+    /// Records that a file was copied, `len` bytes of it by this run. A local file is given its permissions and times
+    /// if that is asked for, unless it is to be read back first.
+    fn finish(&mut self, found: &Found, len: u64) -> JobVerdict {
         self.totals.files = self.totals.files.saturating_add(1);
         self.totals.bytes = self.totals.bytes.saturating_add(len);
         self.show_progress();
         if self.options.verify {
-            return Verdict::Done;
+            return JobVerdict::Done;
         }
         match keep_file(self.rt, self.way, self.options, found) {
-            Ok(()) => Verdict::Done,
+            Ok(()) => JobVerdict::Done,
             Err(reason) => self.refuse(found.source.as_slice(), &reason),
         }
     }
 
-    /// Tells how far the transfer has come, on a line that the next one replaces.
+    /// Reports the progress of the transfer, on a line that the next report replaces.
     fn show_progress(&mut self) {
         if self.options.progress && !self.options.quiet {
             let _ = eprint!(self.rt;
@@ -204,7 +203,7 @@ impl<'a> CopyJobs for Batch<'a> {
         };
         let verdict = match result {
             Ok(len) => self.finish(found, len.saturating_sub(job.begins_at)),
-            Err(e) => self.refuse(job.from.as_str().as_bytes(), &Reason::from(e)),
+            Err(e) => self.refuse(job.from.as_str().as_bytes(), &TransferError::from(e)),
         };
         self.set_verdict(number, verdict);
     }

@@ -1,15 +1,14 @@
-//! A local file that is compared with what is read back from the server.
+//! A local file that is compared with the bytes read back from the server.
 use crate::comparison::{compare_end, compare_next};
 use bytes::Bytes;
 use std::alloc::Global;
 use std::fs::File;
 use std::io::ErrorKind;
 use std::marker::Model;
-use transfer_copier::{LocalError, LocalFile};
+use transfer_pool::{LocalError, LocalFile};
 
-/// A file of the system, and the number of its copy. Where a copy from the server would write it, its bytes are compared
-/// with those that come; where the copy would give it its name, its end is looked for. Nothing is written. It tells
-/// nothing of its acts.
+/// A file of the system, and the number of its copy. A write to it compares its bytes with those that come, and a
+/// rename checks that it has ended. Nothing is written. It does not record its operations.
 #[derive(Drop)]
 pub(crate) struct ComparedFile<'a> {
     runtime: &'a HostRuntime,
@@ -17,13 +16,13 @@ pub(crate) struct ComparedFile<'a> {
     file: Option<File>,
 }
 
-/// The file was not opened, or the call is one that a comparison doesn't make.
+/// Returns the error for a file that was not opened, or for a call that a comparison doesn't make.
 fn unopened() -> LocalError {
     LocalError::Failed(ErrorKind::NotFound.into())
 }
 
 impl<'a> ComparedFile<'a> {
-    /// No file yet, of the copy with a number.
+    /// Returns a value without a file, for the copy with a number.
     pub(crate) fn new(runtime: &'a HostRuntime, number: usize) -> ComparedFile<'a> {
         ComparedFile {
             runtime,
@@ -32,7 +31,7 @@ impl<'a> ComparedFile<'a> {
         }
     }
 
-    /// The number of its copy.
+    /// Returns the number of its copy.
     pub(crate) fn number(&self) -> usize {
         self.number
     }

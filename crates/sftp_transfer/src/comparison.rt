@@ -1,13 +1,13 @@
-//! The bytes of a reader beside others.
+//! The comparison of a reader's bytes with others.
 ghost use Rattle.std.specs.Prelude.{OnOk};
 ghost use Rattle.std.specs.Io.KnownBytes.{Consumes, IsAtEnd, ReadConsumes};
 
 use std::alloc::Global;
 use std::io;
 use std::io::{ErrorKind, Read};
-use transfer_copier::LocalError;
+use transfer_pool::LocalError;
 
-/// Reads some bytes into a room, again where a signal came between.
+/// Reads some bytes into a buffer, and repeats the read if a signal interrupted it.
 pub(crate) fn read_some<F: Read>(file: &mut F, room: &mut [u8]) -> io::Result<usize>
     ensures { OnOk result (ReadConsumes (F.remaining file.old) (F.remaining file.new) result room.new) }
 {
@@ -20,8 +20,8 @@ pub(crate) fn read_some<F: Read>(file: &mut F, room: &mut [u8]) -> io::Result<us
     Err(ErrorKind::Interrupted.into())
 }
 
-/// Compares the next bytes of a reader with these. `Differs` where it has others, or has ended; a failure where it can't be
-/// read.
+/// Compares the next bytes of a reader with these. Fails with `Differs` if it has other bytes or has ended, and with
+/// another error if it can't be read.
 pub(crate) fn compare_next<F: Read>(
     alloc: Global,
     file: &mut F,
@@ -44,7 +44,7 @@ pub(crate) fn compare_next<F: Read>(
     }
 }
 
-/// Looks for the end of a reader. `Differs` where it has not ended; a failure where it can't be read.
+/// Checks that a reader has ended. Fails with `Differs` if it has not, and with another error if it can't be read.
 pub(crate) fn compare_end<F: Read>(file: &mut F) -> Result<(), LocalError>
     ensures { OnOk result (IsAtEnd (F.remaining file.new)) }
 {

@@ -1,60 +1,61 @@
-//! Who copies between the server and the local side.
+//! Runs the jobs of a transfer over one session.
 ghost use Rattle.std.specs.Prelude.{◌≡◌};
-ghost use Rattle.transfer_copier.specs.Sessions.{IsGoing};
+ghost use Rattle.transfer_pool.specs.Sessions.{IsGoing};
 
 use crate::batch::{Batch, Given, Totals};
 use crate::copy::kept_attrs;
 use crate::local_side::{keep_local, make_local_folder, make_local_link};
-use crate::reason::{Reason, ends_all, is_starved, no_text, refusal_of, tell, tell_of};
+use crate::transfer_error::{
+    TransferError, ends_all, is_starved, no_text, refusal_of, tell, tell_of,
+};
 use crate::verify::Checks;
 use crate::window::{count_files, window_for};
 use sftp_client::Sftp;
 use sftp_link::Link;
 use std::{fs, mem, str};
-use transfer_copier::{Failure, copy_all};
-use transfer_jobs::{Hand, Tally, Verdict};
+use transfer_args::{Direction, Options};
+use transfer_plan::{Found, Hand, JobVerdict, Tally, Task};
+use transfer_pool::{CopyError, copy_all};
 use transfer_remote::{
     make_remote_folder, make_remote_link, read_remote_link, remote_metadata, set_remote_attrs,
 };
-use transfer_walk::{Found, Task};
-use transfer_words::{Options, Way};
 
-/// A session, and what is told of the copies over it.
+/// A session, and the results of the copies over it.
 #[derive(Drop)]
 pub(crate) struct Courier<'a, L> {
     pub(crate) rt: &'a HostRuntime,
     pub(crate) sftp: Sftp<L>,
-    pub(crate) way: Way,
+    pub(crate) way: Direction,
     pub(crate) options: Options,
     pub(crate) totals: Totals,
-    /// The files that were copied, in the order of the jobs, and how many of them were asked for.
+    /// The files that were copied, in the order of the jobs, and the number of them that were asked for.
     pub(crate) given: Vec<Given>,
     pub(crate) answered: usize,
 }
 
-/// A local path, as text.
-fn text_of(path: &[u8]) -> Result<&str, Reason> {
+/// Returns a local path as text.
+fn text_of(path: &[u8]) -> Result<&str, TransferError> {
     match str::from_utf8(path) {
         Ok(text) => Ok(text),
         Err(_) => Err(no_text()),
     }
 }
 
-/// Makes a local symbolic link, or finds there one that names the same.
-fn link_here(rt: &HostRuntime, names: &[u8], path: &[u8]) -> Result<(), Reason> {
+/// Creates a local symbolic link, or accepts an existing one with the same target.
+fn link_here(rt: &HostRuntime, names: &[u8], path: &[u8]) -> Result<(), TransferError> {
     Ok(make_local_link(rt, text_of(names)?, text_of(path)?)?)
 }
 
 impl<'a, L: Link> Courier<'a, L> {
-    /// Makes a folder, or finds it there.
-    fn make_folder(&mut self, found: &Found) -> Result<(), Reason>
+    /// Creates a directory, or accepts an existing one.
+    fn make_folder(&mut self, found: &Found) -> Result<(), TransferError>
         requires { IsGoing L.LinkState.state self.old.sftp }
         ensures { IsGoing L.LinkState.state self.new.sftp }
     {
         let target = found.target.as_slice();
         match self.way {
-            Way::Get => Ok(make_local_folder(self.rt, text_of(target)?, found.depth == 0)?),
-            Way::Put => {
+            Direction::Get => Ok(make_local_folder(self.rt, text_of(target)?, found.depth == 0)?),
+            Direction::Put => {
                 let alloc = self.rt.alloc();
                 let Err(e) = make_remote_folder(alloc, &mut self.sftp, target) else {
                     return Ok(());
@@ -69,7 +70,7 @@ impl<'a, L: Link> Courier<'a, L> {
         }
     }
 
-    /// How many requests for bytes are under way for each of so many files.
+    /// Returns the number of requests for bytes that are in flight for each of this many files.
     fn window(&mut self, files: u32) -> u32
         ensures { self.new.sftp ≡ self.old.sftp }
     {
@@ -80,7 +81,7 @@ impl<'a, L: Link> Courier<'a, L> {
         window_for(self.options.window, self.options.limit, files, len)
     }
 
-    /// Copies the files among the jobs but those that the tally skips, many at once, and keeps what came of each.
+    /// Copies the files among the jobs except those that the tally skips, many at once, and keeps the result of each.
     fn copy_files(&mut self, jobs: &[Found], tally: &Tally)
         requires { IsGoing L.LinkState.state self.old.sftp }
         ensures { IsGoing L.LinkState.state self.new.sftp }
@@ -109,7 +110,8 @@ impl<'a, L: Link> Courier<'a, L> {
         }
     }
 
-    /// Reads the files that were copied back from the server, many at once, compares them, and keeps what came of each.
+    /// Reads back from the server the files that were copied, many at once, compares them, and keeps the result of
+    /// each.
     fn verify_files(&mut self, jobs: &[Found], files: usize, window: u32)
         requires { IsGoing L.LinkState.state self.old.sftp }
         ensures { IsGoing L.LinkState.state self.new.sftp }
@@ -124,30 +126,30 @@ impl<'a, L: Link> Courier<'a, L> {
         self.tell_stop(compared);
     }
 
-    /// Tells that there was no memory to go on with copies.
-    fn tell_stop(&mut self, copied: Result<(), Failure>)
+    /// Reports that the copies stopped because an allocation failed.
+    fn tell_stop(&mut self, copied: Result<(), CopyError>)
         ensures { self.new.sftp ≡ self.old.sftp }
     {
         if let Err(e) = copied {
             self.totals.starved = true;
-            tell(self.rt, "the session", &Reason::from(e));
+            tell(self.rt, "the session", &TransferError::from(e));
         }
     }
 
-    /// What came of the next file that was copied; `Stop` where its copy was not begun.
-    fn answer(&mut self) -> Verdict
+    /// Returns the verdict on the next file that was copied; `Stop` if its copy was not started.
+    fn answer(&mut self) -> JobVerdict
         ensures { self.new.sftp ≡ self.old.sftp }
     {
         let number = self.answered;
         self.answered = number.saturating_add(1);
         match self.given.get(number) {
             Some(given) => given.verdict,
-            None => Verdict::Stop,
+            None => JobVerdict::Stop,
         }
     }
 
-    /// Makes a local symbolic link that names what the server's does, or finds it there.
-    fn link_down(&mut self, found: &Found) -> Result<(), Reason>
+    /// Creates a local symbolic link with the target of the server's, or accepts an existing one.
+    fn link_down(&mut self, found: &Found) -> Result<(), TransferError>
         requires { IsGoing L.LinkState.state self.old.sftp }
         ensures { IsGoing L.LinkState.state self.new.sftp }
     {
@@ -157,7 +159,7 @@ impl<'a, L: Link> Courier<'a, L> {
         }
     }
 
-    /// Whether the server has a symbolic link at a path that names this.
+    /// Returns true if the server has a symbolic link at a path with this target.
     fn has_link(&mut self, names: &[u8], path: &[u8]) -> bool
         requires { IsGoing L.LinkState.state self.old.sftp }
         ensures { IsGoing L.LinkState.state self.new.sftp }
@@ -168,8 +170,8 @@ impl<'a, L: Link> Courier<'a, L> {
         }
     }
 
-    /// Makes a symbolic link of the server that names what the local one does, or finds it there.
-    fn link_up(&mut self, found: &Found) -> Result<(), Reason>
+    /// Creates a symbolic link on the server with the target of the local one, or accepts an existing one.
+    fn link_up(&mut self, found: &Found) -> Result<(), TransferError>
         requires { IsGoing L.LinkState.state self.old.sftp }
         ensures { IsGoing L.LinkState.state self.new.sftp }
     {
@@ -187,26 +189,26 @@ impl<'a, L: Link> Courier<'a, L> {
         }
     }
 
-    /// Makes a symbolic link that names what the one that was found names, or finds it there.
-    fn copy_link(&mut self, found: &Found) -> Result<(), Reason>
+    /// Creates a symbolic link with the target of the one that was found, or accepts an existing one.
+    fn copy_link(&mut self, found: &Found) -> Result<(), TransferError>
         requires { IsGoing L.LinkState.state self.old.sftp }
         ensures { IsGoing L.LinkState.state self.new.sftp }
     {
         match self.way {
-            Way::Get => self.link_down(found),
-            Way::Put => self.link_up(found),
+            Direction::Get => self.link_down(found),
+            Direction::Put => self.link_up(found),
         }
     }
 
-    /// Gives a folder the permissions and times of the one that it was copied from.
-    fn keep_attrs(&mut self, found: &Found) -> Result<(), Reason>
+    /// Gives a directory the permissions and times of the one that it was copied from.
+    fn keep_attrs(&mut self, found: &Found) -> Result<(), TransferError>
         requires { IsGoing L.LinkState.state self.old.sftp }
         ensures { IsGoing L.LinkState.state self.new.sftp }
     {
         let target = found.target.as_slice();
         match self.way {
-            Way::Get => Ok(keep_local(self.rt, text_of(target)?, &found.attrs)?),
-            Way::Put => {
+            Direction::Get => Ok(keep_local(self.rt, text_of(target)?, &found.attrs)?),
+            Direction::Put => {
                 let attrs = kept_attrs(&found.attrs);
                 match set_remote_attrs(self.rt.alloc(), &mut self.sftp, target, attrs) {
                     Ok(()) => Ok(()),
@@ -216,34 +218,34 @@ impl<'a, L: Link> Courier<'a, L> {
         }
     }
 
-    /// Does a job by its task, of which no file is copied.
-    fn do_task(&mut self, found: &Found) -> Result<(), Reason>
+    /// Does a job by its task, except the copy of a file.
+    fn do_task(&mut self, found: &Found) -> Result<(), TransferError>
         requires { IsGoing L.LinkState.state self.old.sftp }
         ensures { IsGoing L.LinkState.state self.new.sftp }
     {
         match found.task {
             Task::MakeFolder => self.make_folder(found),
             Task::CopyLink => self.copy_link(found),
-            other => Err(Reason::Refused(refusal_of(other))),
+            other => Err(TransferError::Refused(refusal_of(other))),
         }
     }
 
-    /// What came of a job; why it was not done is told.
-    fn verdict_of(&mut self, found: &Found, done: Result<(), Reason>) -> Verdict
+    /// Returns the verdict on a job, and reports the reason if it was not done.
+    fn verdict_of(&mut self, found: &Found, done: Result<(), TransferError>) -> JobVerdict
         ensures { self.new.sftp ≡ self.old.sftp }
     {
         let Err(reason) = done else {
-            return Verdict::Done;
+            return JobVerdict::Done;
         };
         tell_of(self.rt, found.source.as_slice(), &reason);
         self.totals.starved = self.totals.starved || is_starved(&reason);
         if ends_all(&reason) || self.sftp.core().fault().is_some() {
-            return Verdict::Stop;
+            return JobVerdict::Stop;
         }
-        Verdict::NotDone
+        JobVerdict::NotDone
     }
 
-    /// Tells at the end how much was copied, where there was more than one job or the progress was told.
+    /// Reports at the end how much was copied, if there was more than one job or the progress was reported.
     pub(crate) fn tell_end(&mut self, several: bool)
         ensures { self.new ≡ self.old }
     {
@@ -271,7 +273,7 @@ impl<'a, L: Link> Hand for Courier<'a, L> {
         self.copy_files(jobs, tally);
     }
 
-    fn work(&mut self, found: &Found) -> Verdict {
+    fn work(&mut self, found: &Found) -> JobVerdict {
         if found.task == Task::CopyFile {
             return self.answer();
         }
@@ -279,13 +281,13 @@ impl<'a, L: Link> Hand for Courier<'a, L> {
         self.verdict_of(found, done)
     }
 
-    fn keep(&mut self, found: &Found) -> Verdict {
+    fn keep(&mut self, found: &Found) -> JobVerdict {
         let done = self.keep_attrs(found);
         self.verdict_of(found, done)
     }
 
     fn skip(&mut self, found: &Found) {
-        let reason = Reason::Refused("not done: a folder above it was not made");
+        let reason = TransferError::Refused("not copied: its directory could not be created");
         tell_of(self.rt, found.source.as_slice(), &reason);
     }
 }

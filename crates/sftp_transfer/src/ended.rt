@@ -1,41 +1,45 @@
-//! What a run came to, and its status.
+//! The result of a run, and its exit status.
 ghost use Rattle.std.specs.Prelude.{◌≡◌};
 ghost use Rattle.sftp_transfer.specs.Ended.{ended_by, status_of, text_of};
 ghost use Rattle.std.specs.Prelude.{map};
 ghost use Rattle.std.specs.String.{string_bytes};
 
-/// What came of work over a link.
+/// The result of work over a link.
+///
+/// Used in `crates/sftp_transfer/src/terminal.rt`.
 #[derive(Clone, Copy, Debug, PartialEq, Eq)]
 pub enum Reach {
-    /// All was done.
+    /// Everything was done.
     Done,
-    /// Something was not, or the session failed.
+    /// Something was not done, or the session failed.
     NotDone,
-    /// There was no memory.
+    /// Out of memory.
     OutOfMemory,
-    /// Nothing answers.
+    /// Nothing answers at the address.
     NoLink,
 }
 
-/// A text that the program writes of itself.
+/// A text that the program writes about itself.
+///
+/// Used in `crates/sftp_transfer/src/run.rt`.
 #[derive(Clone, Copy, Debug, PartialEq, Eq)]
 pub enum Text {
-    /// How it is used.
+    /// Its usage.
     Help,
     /// Its version.
     Version,
 }
 
-/// The status where the words can't be used.
+/// The status if the command line can't be used.
 pub(crate) const WORDS: u8 = 2;
 
-/// The status where the local side failed before anything was done.
+/// The status if the local side failed before anything was done.
 pub(crate) const LOCAL: u8 = 3;
 
-/// The status where there was no memory.
+/// The status if an allocation failed.
 pub(crate) const OUT_OF_MEMORY: u8 = 5;
 
-/// The status of work over a link.
+/// Returns the status of work over a link.
 pub(crate) fn status_of(reach: Reach) -> u8
     ensures { result ≡ status_of reach }
 {
@@ -47,7 +51,8 @@ pub(crate) fn status_of(reach: Reach) -> u8
     }
 }
 
-/// What came of jobs: whether there was no memory, whether each source gave all its jobs, and whether all jobs were done.
+/// Returns the result of the jobs, where `starved` is true if an allocation failed, `complete` if each source
+/// contributed all its jobs, and `all_done` if all jobs were done.
 pub(crate) fn ended_by(starved: bool, complete: bool, all_done: bool) -> Reach
     ensures { result ≡ ended_by starved complete all_done }
 {
@@ -60,7 +65,7 @@ pub(crate) fn ended_by(starved: bool, complete: bool, all_done: bool) -> Reach
     }
 }
 
-/// The text that the one word `--help` or `--version` asks for.
+/// Returns the text that the single argument `--help` or `--version` asks for.
 pub(crate) fn text_of(words: &[String]) -> Option<Text>
     ensures { result ≡ text_of (map string_bytes words.now) }
 {

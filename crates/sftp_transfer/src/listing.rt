@@ -1,19 +1,18 @@
-//! A folder of the server is listed.
-ghost use Rattle.transfer_copier.specs.Sessions.{IsGoing};
+//! Lists a directory of the server.
+ghost use Rattle.transfer_pool.specs.Sessions.{IsGoing};
 
 use crate::ended::{Reach, ended_by};
 use crate::printable::printable;
-use crate::reason::{Reason, is_starved, tell};
+use crate::transfer_error::{TransferError, is_starved, tell};
 use sftp_client::Sftp;
 use sftp_link::Link;
 use sftp_model::FileAttrs;
 use std::io;
-use transfer_paths::path_in;
+use transfer_args::Listing;
+use transfer_plan::{Found, Task, Walk, path_in};
 use transfer_remote::list_remote;
-use transfer_walk::{Found, Task, Walk};
-use transfer_words::Listing;
 
-/// The letter of a kind of file, as `ls -l` writes it.
+/// Returns the letter of a file type, as `ls -l` writes it.
 fn letter_of(task: Task) -> &'static str {
     match task {
         Task::CopyFile => "-",
@@ -36,7 +35,7 @@ fn write_entry(rt: &HostRuntime, found: &Found, folder_len: usize, long: bool) -
     }
 }
 
-/// Writes the names of a folder, one a line, and answers what it came to.
+/// Writes the names of a directory, one a line, and returns the result.
 pub(crate) fn list<L: Link>(rt: &HostRuntime, sftp: &mut Sftp<L>, listing: &Listing<'_>) -> Reach
     requires { IsGoing L.LinkState.state sftp.old }
 {
@@ -53,7 +52,7 @@ fn list_into<L: Link>(
     rt: &HostRuntime,
     sftp: &mut Sftp<L>,
     listing: &Listing<'_>,
-) -> Result<(), Reason>
+) -> Result<(), TransferError>
     requires { IsGoing L.LinkState.state sftp.old }
 {
     let alloc = rt.alloc();
@@ -68,7 +67,7 @@ fn list_into<L: Link>(
         Walk::new(alloc, path, b"", none, false),
         path_in(alloc, path, b""),
     ) else {
-        return Err(Reason::OutOfMemory);
+        return Err(TransferError::OutOfMemory);
     };
     if let Err(e) = list_remote(alloc, sftp, &mut walk) {
         return Err(e.into());

@@ -1,14 +1,14 @@
-//! Folders, links and attributes of the local side.
-use crate::reason::{Reason, no_text, tell};
+//! Directories, links and attributes of the local side.
+use crate::transfer_error::{TransferError, no_text, tell_of};
 use sftp_model::FileAttrs;
 use std::fs::{File, FileTimes, Metadata, OpenFile, Permissions};
 use std::io::ErrorKind;
 use std::os::unix::fs::{MetadataExt, PermissionsExt};
 use std::time::{Duration, SystemTime};
 use std::{fs, io, str};
-use transfer_walk::{EntryKind, Walk, WalkError};
+use transfer_plan::{EntryKind, Walk, WalkError};
 
-/// What is told of a local file, in the words of the server's side.
+/// Returns the file attributes for the metadata of a local file.
 pub(crate) fn attrs_of(metadata: &Metadata) -> FileAttrs {
     let accessed = u32::try_from(metadata.atime());
     let modified = u32::try_from(metadata.mtime());
@@ -24,7 +24,7 @@ pub(crate) fn attrs_of(metadata: &Metadata) -> FileAttrs {
     }
 }
 
-/// What a local entry is.
+/// Returns the kind of a local entry.
 pub(crate) fn kind_of(metadata: &Metadata) -> EntryKind {
     let kind = metadata.file_type();
     if kind.is_file() {
@@ -38,7 +38,7 @@ pub(crate) fn kind_of(metadata: &Metadata) -> EntryKind {
     }
 }
 
-/// Whether a folder stands at a path; a symbolic link is followed.
+/// Returns true if a directory exists at a path; a symbolic link is followed.
 pub(crate) fn is_folder(rt: &HostRuntime, path: &str) -> bool {
     match fs::metadata(rt, path) {
         Ok(metadata) => metadata.is_dir(),
@@ -46,7 +46,8 @@ pub(crate) fn is_folder(rt: &HostRuntime, path: &str) -> bool {
     }
 }
 
-/// Makes a folder, or finds it there. A symbolic link that stands there is no folder, but for the root of a tree.
+/// Creates a directory, or accepts an existing one. An existing symbolic link is no directory, except for the root of a
+/// tree.
 pub(crate) fn make_local_folder(rt: &HostRuntime, path: &str, is_root: bool) -> io::Result<()> {
     let Err(e) = fs::create_dir(rt, path) else {
         return Ok(());
@@ -62,7 +63,7 @@ pub(crate) fn make_local_folder(rt: &HostRuntime, path: &str, is_root: bool) -> 
     }
 }
 
-/// Makes a symbolic link, or finds there one that names the same.
+/// Creates a symbolic link, or accepts an existing one with the same target.
 pub(crate) fn make_local_link(rt: &HostRuntime, names: &str, path: &str) -> io::Result<()> {
     let Err(e) = std::os::unix::fs::symlink(rt, names, path) else {
         return Ok(());
@@ -73,12 +74,13 @@ pub(crate) fn make_local_link(rt: &HostRuntime, names: &str, path: &str) -> io::
     }
 }
 
-/// The moment of so many seconds.
+/// Returns the time at this many seconds.
 fn moment(seconds: u32) -> SystemTime {
     SystemTime::UNIX_EPOCH + Duration::from_secs(u64::from(seconds))
 }
 
-/// Gives a local file or folder the permissions and times that are told, where they are. A symbolic link is followed.
+/// Gives a local file or directory the permissions and times of these attributes, if they have them. A symbolic link is
+/// followed.
 pub(crate) fn keep_local(rt: &HostRuntime, path: &str, attrs: &FileAttrs) -> io::Result<()> {
     if let Some((accessed, modified)) = attrs.time {
         let times = FileTimes::new()
@@ -92,12 +94,13 @@ pub(crate) fn keep_local(rt: &HostRuntime, path: &str, attrs: &FileAttrs) -> io:
     Ok(())
 }
 
-/// Adds what a local folder has to a walk. A name that isn't UTF-8 can't be opened: it is told, and the walk isn't complete.
+/// Adds the entries of a local directory to a walk. A name that isn't UTF-8 can't be opened: it is reported, and the
+/// walk isn't complete.
 pub(crate) fn list_local(
     rt: &HostRuntime,
     walk: &mut Walk,
     complete: &mut bool,
-) -> Result<(), Reason> {
+) -> Result<(), TransferError> {
     let Ok(path) = str::from_utf8(walk.folder().source.as_slice()) else {
         return Err(no_text());
     };
@@ -110,17 +113,17 @@ pub(crate) fn list_local(
                 match walk.add(rt.alloc(), name, kind_of(&metadata), attrs_of(&metadata)) {
                     Ok(()) => {}
                     Err(WalkError::TooMany) => {
-                        return Err(Reason::TooManyEntries);
+                        return Err(TransferError::TooManyEntries);
                     }
-                    Err(WalkError::OutOfMemory) => return Err(Reason::OutOfMemory),
+                    Err(WalkError::OutOfMemory) => return Err(TransferError::OutOfMemory),
                 }
             }
             Err(e) if e.kind() == ErrorKind::InvalidFilename => {
                 *complete = false;
-                tell(
+                tell_of(
                     rt,
-                    "a name in a local folder",
-                    &Reason::Refused("passed over: it isn't UTF-8"),
+                    walk.folder().source.as_slice(),
+                    &TransferError::Refused("an entry is skipped: its name is not UTF-8"),
                 );
             }
             Err(e) => return Err(e.into()),

@@ -10,13 +10,13 @@ mod ended;
 mod listing;
 mod local_side;
 mod printable;
-mod reason;
 mod resume;
 mod run;
 mod sources;
 mod system;
 mod terminal;
 mod texts;
+mod transfer_error;
 mod verify;
 mod window;
 mod work;
@@ -38,7 +38,7 @@ fn main(rt: HostRuntime) -> ExitCode {
                 starved |= words.push(word).is_err();
             }
         }
-        // an argument that is no text is no word, and no words are refused
+        // An argument that is not UTF-8 leaves no command line, and an empty command line is refused.
         Err(error) => starved = error.kind() == ErrorKind::OutOfMemory,
     }
     let status = if starved {

@@ -1,8 +1,8 @@
-//! Names on a terminal.
+//! Names as they are shown on a terminal.
 use std::alloc::{AllocError, Global};
 
-/// A name as it is written for people: what is no UTF-8 and what moves the cursor of a terminal or changes its colours is
-/// replaced.
+/// Returns a name as it is written for people. Bytes that are no UTF-8 are replaced, and so is everything that moves
+/// the cursor of a terminal or changes its colours.
 pub(crate) fn printable(alloc: Global, bytes: &[u8]) -> Result<String, AllocError> {
     let text = String::from_utf8_lossy(alloc, bytes)?;
     let mut shown = String::new(alloc);

@@ -1,17 +1,15 @@
-//! How many bytes of its part a copy goes on behind.
-ghost use Rattle.transfer_copier.specs.Sessions.{IsGoing};
+//! The offsets at which interrupted copies continue.
+ghost use Rattle.transfer_pool.specs.Sessions.{IsGoing};
 
 use crate::copy::resumed_at;
 use crate::courier::Courier;
 use sftp_link::Link;
 use std::{fs, str};
-use transfer_jobs::Tally;
-use transfer_paths::part_path;
+use transfer_args::Direction;
+use transfer_plan::{Found, Tally, Task, part_path};
 use transfer_remote::remote_metadata;
-use transfer_walk::{Found, Task};
-use transfer_words::Way;
 
-/// How many bytes a local regular file has; None where none stands there. A symbolic link is not followed.
+/// Returns the size of a local regular file, or `None` if there is none. A symbolic link is not followed.
 fn local_len(rt: &HostRuntime, path: &[u8]) -> Option<u64> {
     let Ok(path) = str::from_utf8(path) else {
         return None;
@@ -23,7 +21,7 @@ fn local_len(rt: &HostRuntime, path: &[u8]) -> Option<u64> {
 }
 
 impl<'a, L: Link> Courier<'a, L> {
-    /// How many bytes a regular file of the server has; None where it tells of none.
+    /// Returns the size of a regular file of the server, or `None` if the server reports none.
     fn remote_len(&mut self, path: &[u8]) -> Option<u64>
         requires { IsGoing L.LinkState.state self.old.sftp }
         ensures { IsGoing L.LinkState.state self.new.sftp }
@@ -36,7 +34,7 @@ impl<'a, L: Link> Courier<'a, L> {
         }
     }
 
-    /// How many bytes the part of a file has; None where there is no part.
+    /// Returns the size of a file's part file, or `None` if there is no part file.
     fn part_len(&mut self, found: &Found) -> Option<u64>
         requires { IsGoing L.LinkState.state self.old.sftp }
         ensures { IsGoing L.LinkState.state self.new.sftp }
@@ -45,12 +43,12 @@ impl<'a, L: Link> Courier<'a, L> {
             return None;
         };
         match self.way {
-            Way::Get => local_len(self.rt, part.as_slice()),
-            Way::Put => self.remote_len(part.as_slice()),
+            Direction::Get => local_len(self.rt, part.as_slice()),
+            Direction::Put => self.remote_len(part.as_slice()),
         }
     }
 
-    /// How many bytes of its part the copy of a file goes on behind.
+    /// Returns the number of bytes of its part file after which the copy of a file continues.
     fn start_of(&mut self, found: &Found, tally: &Tally) -> u64
         requires { IsGoing L.LinkState.state self.old.sftp }
         ensures { IsGoing L.LinkState.state self.new.sftp }
@@ -62,8 +60,9 @@ impl<'a, L: Link> Courier<'a, L> {
         resumed_at(found.attrs.size, had)
     }
 
-    /// How many bytes of its part each file among the jobs goes on behind, where that is asked for; the server is asked for the
-    /// parts of files that go up, one after another. Files behind the last of these numbers begin anew.
+    /// Returns the number of bytes of its part file after which each file among the jobs continues, if that is asked
+    /// for. The server is asked for the part files of uploads, one after another. Files after the last of these numbers
+    /// start at 0.
     pub(crate) fn starts(&mut self, jobs: &[Found], tally: &Tally) -> Vec<u64>
         requires { IsGoing L.LinkState.state self.old.sftp }
         ensures { IsGoing L.LinkState.state self.new.sftp }

@@ -1,22 +1,21 @@
-//! What the sources of a transfer are, and where they go.
+//! The sources of a transfer, and the paths that they are copied to.
 ghost use Rattle.std.specs.Prelude.{◌≡◌};
-ghost use Rattle.transfer_copier.specs.Sessions.{IsGoing};
+ghost use Rattle.transfer_pool.specs.Sessions.{IsGoing};
 
 use crate::courier::Courier;
 use crate::local_side::{attrs_of, kind_of, list_local};
-use crate::reason::{Reason, is_starved, tell_of};
+use crate::transfer_error::{TransferError, is_starved, tell_of};
 use sftp_link::Link;
 use sftp_meta::FileType;
 use sftp_model::FileAttrs;
 use sftp_values::ByteText;
 use std::alloc::Global;
 use std::fs;
-use transfer_paths::{last_component, path_in};
+use transfer_args::Direction;
+use transfer_plan::{EntryKind, Found, MAX_ENTRIES, Task, Walk, last_component, path_in};
 use transfer_remote::{list_remote, remote_metadata};
-use transfer_walk::{EntryKind, Found, MAX_ENTRIES, Task, Walk};
-use transfer_words::Way;
 
-/// The jobs of a transfer, and whether each source gave all of its own.
+/// The jobs of a transfer, and a flag that is true if each source contributed all of its own.
 #[derive(Drop)]
 pub(crate) struct Gathered {
     pub(crate) jobs: Vec<Found>,
@@ -31,32 +30,32 @@ struct Source<'a> {
     attrs: FileAttrs,
 }
 
-/// The path that a source goes to: the target, or with `into` the source's last component in it.
+/// Returns the path that a source is copied to: the target, or with `into` the source's last component in it.
 fn target_of(
     alloc: Global,
     source: &Source<'_>,
     target: &str,
     into: bool,
-) -> Result<Vec<u8>, Reason> {
+) -> Result<Vec<u8>, TransferError> {
     let name = match last_component(source.path.as_bytes()) {
         Some(name) if into => name,
         None if into && source.kind == EntryKind::File => {
-            return Err(Reason::Refused("it has no name to be copied under"));
+            return Err(TransferError::Refused("it has no name to copy it under"));
         }
         _ => return copied(alloc, target.as_bytes()),
     };
     Ok(path_in(alloc, target.as_bytes(), name)?)
 }
 
-/// A copy of a path.
-fn copied(alloc: Global, path: &[u8]) -> Result<Vec<u8>, Reason> {
+/// Returns a copy of a path.
+fn copied(alloc: Global, path: &[u8]) -> Result<Vec<u8>, TransferError> {
     match Vec::from_slice(alloc, path) {
         Ok(copy) => Ok(copy),
-        Err(_) => Err(Reason::OutOfMemory),
+        Err(_) => Err(TransferError::OutOfMemory),
     }
 }
 
-/// What a remote source is, by its type; a file where the server doesn't tell.
+/// Returns the kind of a remote source, by its type; a file if the server doesn't report the type.
 fn remote_kind(kind: Option<FileType>) -> EntryKind {
     match kind {
         Some(kind) if kind.is_dir() => EntryKind::Folder,
@@ -66,13 +65,13 @@ fn remote_kind(kind: Option<FileType>) -> EntryKind {
 }
 
 impl<'a, L: Link> Courier<'a, L> {
-    /// Looks what a source is; a symbolic link is followed.
-    fn look<'b>(&mut self, path: &'b str) -> Result<Source<'b>, Reason>
+    /// Looks up a source; a symbolic link is followed.
+    fn look<'b>(&mut self, path: &'b str) -> Result<Source<'b>, TransferError>
         requires { IsGoing L.LinkState.state self.old.sftp }
         ensures { IsGoing L.LinkState.state self.new.sftp }
     {
         match self.way {
-            Way::Get => {
+            Direction::Get => {
                 match remote_metadata(self.rt.alloc(), &mut self.sftp, path.as_bytes()) {
                     Ok(metadata) => Ok(Source {
                         path,
@@ -82,7 +81,7 @@ impl<'a, L: Link> Courier<'a, L> {
                     Err(e) => Err(e.into()),
                 }
             }
-            Way::Put => {
+            Direction::Put => {
                 let metadata = fs::metadata(self.rt, path)?;
                 Ok(Source {
                     path,
@@ -93,18 +92,18 @@ impl<'a, L: Link> Courier<'a, L> {
         }
     }
 
-    /// Adds what the walk's folder has. What can't be listed is told, and the walk isn't complete then; an error comes where
-    /// it can't go on.
-    fn list_folder(&mut self, walk: &mut Walk, complete: &mut bool) -> Result<(), Reason>
+    /// Adds the entries of the walk's current directory. An entry that can't be listed is reported, and the walk isn't
+    /// complete then. Fails only if the walk can't continue.
+    fn list_folder(&mut self, walk: &mut Walk, complete: &mut bool) -> Result<(), TransferError>
         requires { IsGoing L.LinkState.state self.old.sftp }
         ensures { IsGoing L.LinkState.state self.new.sftp }
     {
         let listed = match self.way {
-            Way::Get => match list_remote(self.rt.alloc(), &mut self.sftp, walk) {
+            Direction::Get => match list_remote(self.rt.alloc(), &mut self.sftp, walk) {
                 Ok(()) => Ok(()),
                 Err(e) => Err(e.into()),
             },
-            Way::Put => list_local(self.rt, walk, complete),
+            Direction::Put => list_local(self.rt, walk, complete),
         };
         let Err(reason) = listed else {
             return Ok(());
@@ -117,17 +116,17 @@ impl<'a, L: Link> Courier<'a, L> {
         Ok(())
     }
 
-    /// Finds all that stands in a folder, folders before what stands in them.
+    /// Finds everything in a directory, each directory before its contents.
     fn walk_tree(
         &mut self,
         source: &Source<'_>,
         target: &[u8],
         complete: &mut bool,
-    ) -> Result<Vec<Found>, Reason>
+    ) -> Result<Vec<Found>, TransferError>
         requires { IsGoing L.LinkState.state self.old.sftp }
         ensures { IsGoing L.LinkState.state self.new.sftp }
     {
-        let texts = self.way == Way::Get;
+        let texts = self.way == Direction::Get;
         let walk = Walk::new(
             self.rt.alloc(),
             source.path.as_bytes(),
@@ -152,7 +151,7 @@ impl<'a, L: Link> Courier<'a, L> {
         target: &str,
         into: bool,
         gathered: &mut Gathered,
-    ) -> Result<(), Reason>
+    ) -> Result<(), TransferError>
         requires { IsGoing L.LinkState.state self.old.sftp }
         ensures { IsGoing L.LinkState.state self.new.sftp }
     {
@@ -176,12 +175,12 @@ impl<'a, L: Link> Courier<'a, L> {
                 }
                 Ok(())
             }
-            EntryKind::Folder => Err(Reason::Refused("it is a folder, and -r isn't given")),
-            _ => Err(Reason::Refused("it is no file and no folder")),
+            EntryKind::Folder => Err(TransferError::Refused("is a directory (use -r to copy it)")),
+            _ => Err(TransferError::Refused("not a file or a directory")),
         }
     }
 
-    /// The jobs of all sources. None where it can't go on; why is told.
+    /// Returns the jobs of all sources. Returns `None` if they can't be gathered, and reports the reason.
     pub(crate) fn gather(
         &mut self,
         sources: &[String],
@@ -210,18 +209,18 @@ impl<'a, L: Link> Courier<'a, L> {
     }
 }
 
-/// Whether a walk can't go on.
-fn ends_walk(reason: &Reason) -> bool {
+/// Returns true if a walk can't continue.
+fn ends_walk(reason: &TransferError) -> bool {
     match reason {
-        Reason::TooManyEntries => true,
+        TransferError::TooManyEntries => true,
         _ => is_starved(reason),
     }
 }
 
-/// Adds a job behind others.
-fn add_job(jobs: &mut Vec<Found>, found: Found) -> Result<(), Reason> {
+/// Adds a job after others.
+fn add_job(jobs: &mut Vec<Found>, found: Found) -> Result<(), TransferError> {
     match jobs.push(found) {
         Ok(()) => Ok(()),
-        Err(_) => Err(Reason::OutOfMemory),
+        Err(_) => Err(TransferError::OutOfMemory),
     }
 }

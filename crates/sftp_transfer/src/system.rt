@@ -7,9 +7,11 @@ use std::io::{ErrorKind, Seek, SeekFrom, Write};
 use std::marker::Model;
 use std::os::unix::fs::MetadataExt;
 use std::{fs, io};
-use transfer_copier::{LocalError, LocalFile};
+use transfer_pool::{LocalError, LocalFile};
 
-/// A file of the system, and the number of its copy. It tells nothing of its acts.
+/// A file of the system, and the number of its copy. It does not record its operations.
+///
+/// Used in `crates/sftp_transfer/src/batch.rt`.
 #[derive(Drop)]
 pub struct SystemFile<'a> {
     runtime: &'a HostRuntime,
@@ -18,7 +20,7 @@ pub struct SystemFile<'a> {
 }
 
 impl<'a> SystemFile<'a> {
-    /// No file yet, of the copy with a number.
+    /// Returns a value without a file, for the copy with a number.
     pub fn new(runtime: &'a HostRuntime, number: usize) -> SystemFile<'a> {
         SystemFile {
             runtime,
@@ -27,7 +29,7 @@ impl<'a> SystemFile<'a> {
         }
     }
 
-    /// The number of its copy.
+    /// Returns the number of its copy.
     pub fn number(&self) -> usize {
         self.number
     }
@@ -86,7 +88,7 @@ impl<'a> LocalFile for SystemFile<'a> {
     }
 }
 
-/// Makes a file. What has the name is taken away, so that a symbolic link there isn't followed.
+/// Creates a file. An existing entry with the name is removed, so that a symbolic link there isn't followed.
 fn create_anew(rt: &HostRuntime, name: &str) -> io::Result<File> {
     match File::create_new(rt, name) {
         Err(e) if e.kind() == ErrorKind::AlreadyExists => {
@@ -97,13 +99,16 @@ fn create_anew(rt: &HostRuntime, name: &str) -> io::Result<File> {
     }
 }
 
-/// The file is not the one that was found.
+/// Returns the error for a file that is not the one that was found.
 fn changed() -> io::Error {
-    io::Error::new(ErrorKind::InvalidInput, "its part was changed meanwhile")
+    io::Error::new(
+        ErrorKind::InvalidInput,
+        "its part file was changed by another program",
+    )
 }
 
-/// Opens a regular file of just so many bytes, to write behind them. A symbolic link is refused, also one that was put there
-/// in the meantime: what was opened is the file that was looked at.
+/// Opens a regular file of exactly `len` bytes, for writing after them. A symbolic link is refused, also one that was
+/// put there in the meantime: the file that was opened is the one that was examined.
 fn open_behind(rt: &HostRuntime, name: &str, len: u64) -> io::Result<File> {
     let seen = fs::symlink_metadata(rt, name)?;
     if !seen.is_file() || seen.len() != len {

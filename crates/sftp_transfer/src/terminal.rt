@@ -1,30 +1,32 @@
-//! What stands around the program as it is run.
+//! The environment of the program as it is run.
 ghost use Rattle.std.specs.Prelude.{◌<◌, ◌-◌, ◌^◌};
 
 use crate::ended::{Reach, Text};
 use crate::run::Outside;
 use crate::texts::written;
 use crate::work::{can_begin, over};
-use sftp_link::{Dial, Duplex, ReadSource, StreamLink, UnixDial, WriteSink};
+use sftp_link::{Duplex, ReadSource, StreamLink, WriteSink};
+use std::io;
 use std::net::TcpStream;
-use transfer_words::{Asked, LinkAt, Work};
+use std::os::unix::net::UnixStream;
+use transfer_args::{Asked, LinkAt, Work};
 
-/// The files, the streams and the network of the system. It tells nothing of what is done with it.
+/// The files, the streams and the network of the system. It does not record what is done with it.
 #[derive(Drop)]
 pub(crate) struct Terminal<'a> {
     rt: &'a HostRuntime,
 }
 
 impl<'a> Terminal<'a> {
-    /// What this runtime reaches.
+    /// Returns the environment of this runtime.
     pub(crate) fn new(rt: &'a HostRuntime) -> Terminal<'a> {
         Terminal { rt }
     }
 }
 
-/// Tells that nothing answers.
-fn no_link(rt: &HostRuntime, place: &str) -> Reach {
-    let _ = eprintln!(rt; "sftp_transfer: {place}: nothing answers");
+/// Reports why no connection could be made. If standard error fails too, the message is lost.
+fn no_link(rt: &HostRuntime, place: &str, why: io::Error) -> Reach {
+    let _ = eprintln!(rt; "sftp_transfer: {place}: {why}");
     Reach::NoLink
 }
 
@@ -40,9 +42,7 @@ impl<'a> Outside for Terminal<'a> {
     }
 
     fn refuse(&mut self) {
-        let _ = eprintln!(self.rt;
-            "sftp_transfer: the words can't be used; sftp_transfer --help tells them"
-        );
+        let _ = eprintln!(self.rt; "sftp_transfer: invalid arguments (try sftp_transfer --help)");
     }
 
     fn look(&mut self, work: &Work<'_>) -> bool {
@@ -54,13 +54,13 @@ impl<'a> Outside for Terminal<'a> {
 
     fn go(&mut self, asked: &Asked<'_>) -> Reach {
         match asked.link {
-            LinkAt::Unix(path) => match UnixDial::new(self.rt).dial(path) {
-                Ok(link) => over(self.rt, link, asked.work),
-                Err(_) => no_link(self.rt, path),
+            LinkAt::Unix(path) => match UnixStream::connect(self.rt, path) {
+                Ok(stream) => over(self.rt, StreamLink::new(stream), asked.work),
+                Err(why) => no_link(self.rt, path, why),
             },
             LinkAt::Tcp(address) => match TcpStream::connect(self.rt, address) {
                 Ok(stream) => over(self.rt, StreamLink::new(stream), asked.work),
-                Err(_) => no_link(self.rt, address),
+                Err(why) => no_link(self.rt, address, why),
             },
             LinkAt::Stdio => {
                 let link = Duplex::new(

@@ -1,7 +1,7 @@
-//! The texts that the program writes of itself.
+//! The texts that the program writes about itself.
 use crate::ended::Text;
 
-/// What `--help` writes.
+/// Returns the text of `--help`.
 fn help_text() -> &'static str {
     "\
 Usage: sftp_transfer LINK get [OPTIONS] REMOTE.. LOCAL
@@ -9,41 +9,45 @@ Usage: sftp_transfer LINK get [OPTIONS] REMOTE.. LOCAL
        sftp_transfer LINK list [-l] [PATH]
        sftp_transfer --help | --version
 
-Copies files and trees from or to an SFTP server, many files at once and with many requests
-under way for each, or lists a folder of it.
+Copies files and directory trees from or to an SFTP server, many files at once and with
+many requests in flight for each, or lists a directory on the server.
 
-LINK is unix:PATH, a Unix socket on which the server listens, tcp:HOST:PORT, or stdio, where
+LINK is unix:PATH, a Unix socket on which the server listens, tcp:HOST:PORT, or stdio, if
 standard input and output are the connection. With ssh:
 
   socat UNIX-LISTEN:sftp.socket,fork EXEC:'ssh -s HOST sftp' &
   sftp_transfer unix:sftp.socket get -r /etc/ssh copies
 
-  -r           folders too, with all that stands in them; symbolic links as links
-  -p           permissions and times are kept
-  --resume     files go on behind the bytes that an earlier run has left in their parts
-  --verify     files that were copied are read back from the server, and compared
-  -q           nothing is told but what was not done
-  --progress   how far the transfer has come, on standard error
-  --files N    files copied at once, from 1 to 256; 32 without this option
-  --window N   requests under way for a file, from 1 to 1024; 64 without this option
-  --limit N    bytes under way for all files together; 16777216 without this option
+  -r           copy directories with their contents; symbolic links are copied as links
+  -p           keep permissions and times
+  --resume     continue files from the bytes that an earlier run left in their part files
+  --verify     read copied files back from the server, and compare them
+  -q           report only what was not done
+  --progress   report the progress on standard error
+  --files N    copy N files at once, 1 to 256; the default is 32
+  --window N   keep N requests in flight for each file, 1 to 1024; the default is 64
+  --limit N    keep at most N bytes in flight for all files together; the default is 16777216
 
-Where the target is a folder, or there are several sources, each is copied into it. A file
-NAME is written as .NAME.part beside it, and gets its name when all its bytes are there; a
-file that had the name is gone then. What is not done is told on standard error.
+If the target is a directory, or if there are several sources, each source is copied into
+the target. A file NAME is written as .NAME.part beside it, and gets its name once all its
+bytes have arrived; it replaces a file of that name. Failures are reported on standard error.
 
-The status is 0 where all was done, 1 where something was not, 2 for words that can't be
-used, 3 where the local side failed before anything was done, 5 where memory ran out, and 6
-where nothing answers at LINK.
+Exit status:
+  0  everything was done
+  1  something was not done
+  2  the arguments are invalid
+  3  the local side failed before anything was done
+  5  out of memory
+  6  no server could be reached at LINK
 "
 }
 
-/// What `--version` writes.
+/// Returns the text of `--version`.
 fn version_text() -> &'static str {
     "tilfrjon 0.1.0\n"
 }
 
-/// What is written as a text.
+/// Returns the content of a text.
 pub(crate) fn written(text: Text) -> &'static str {
     match text {
         Text::Help => help_text(),

@@ -1,21 +1,20 @@
-//! Files that were copied are read back from the server, many at once, and compared.
+//! Reads copied files back from the server, many at once, and compares them.
 ghost use Rattle.std.specs.Prelude.{◌≡◌};
-ghost use Rattle.transfer_copier.specs.Jobs.{NotesOver};
+ghost use Rattle.transfer_pool.specs.Jobs.{NotesOver};
 
 use crate::batch::{Given, keep_file};
 use crate::compared::ComparedFile;
 use crate::copy::read_back_of;
-use crate::reason::{Reason, ends_all, is_starved, tell_of};
-use transfer_copier::{Copied, CopyJobs, Wanted};
-use transfer_jobs::Verdict;
-use transfer_walk::Found;
-use transfer_words::{Options, Way};
+use crate::transfer_error::{TransferError, ends_all, is_starved, tell_of};
+use transfer_args::{Direction, Options};
+use transfer_plan::{Found, JobVerdict};
+use transfer_pool::{Copied, CopyJobs, Wanted};
 
-/// The files that were copied, from the first one that was not read back yet on, and what came of each.
+/// The copied files that were not read back yet, and the verdict on each.
 #[derive(Drop)]
 pub(crate) struct Checks<'a> {
     rt: &'a HostRuntime,
-    way: Way,
+    way: Direction,
     options: Options,
     jobs: &'a [Found],
     next: usize,
@@ -25,10 +24,10 @@ pub(crate) struct Checks<'a> {
 }
 
 impl<'a> Checks<'a> {
-    /// All that were copied.
+    /// Returns the checks of all files that were copied.
     pub(crate) fn new(
         rt: &'a HostRuntime,
-        way: Way,
+        way: Direction,
         options: Options,
         jobs: &'a [Found],
         given: Vec<Given>,
@@ -45,44 +44,45 @@ impl<'a> Checks<'a> {
         }
     }
 
-    /// Whether there was no memory, and what came of each file: `Done` only where it was read back and is the same.
+    /// Returns true if an allocation failed, and the verdict on each file: `Done` only if it was read back and is the
+    /// same.
     pub(crate) fn into_parts(self) -> (bool, Vec<Given>) {
         let Checks { starved, given, .. } = self;
         (starved, given)
     }
 
-    /// Tells why a file was not compared, or that it differs, and what that is of the others.
-    fn refuse(&mut self, found: &Found, reason: &Reason) -> Verdict {
+    /// Reports why a file was not compared, or that it differs, and returns its verdict.
+    fn refuse(&mut self, found: &Found, reason: &TransferError) -> JobVerdict {
         tell_of(self.rt, found.source.as_slice(), reason);
         self.starved = self.starved || is_starved(reason);
         if ends_all(reason) {
             self.ended = true;
-            return Verdict::Stop;
+            return JobVerdict::Stop;
         }
-        Verdict::NotDone
+        JobVerdict::NotDone
     }
 
-    /// Notes what came of the file with a number.
-    fn set_verdict(&mut self, number: usize, verdict: Verdict) {
+    /// Records the verdict on the file with a number.
+    fn set_verdict(&mut self, number: usize, verdict: JobVerdict) {
         if let Some(given) = self.given.get_mut(number) {
             given.verdict = verdict;
         }
     }
 
-    /// The file with a number, where it was copied; it isn't done as long as it isn't compared.
+    /// Returns the file with a number, if it was copied; it isn't done as long as it isn't compared.
     fn copied(&mut self, number: usize) -> Option<&'a Found> {
         let jobs = self.jobs;
         let Some(given) = self.given.get_mut(number) else {
             return None;
         };
-        if given.verdict != Verdict::Done {
+        if given.verdict != JobVerdict::Done {
             return None;
         }
-        given.verdict = Verdict::Stop;
+        given.verdict = JobVerdict::Stop;
         jobs.get(given.place)
     }
 
-    /// What is read back of a file; None where it can't be begun, and why is told.
+    /// Returns the copy that reads a file back, or `None` if it can't be started; the reason is reported then.
     fn begin(&mut self, number: usize, found: &Found) -> Option<Wanted<ComparedFile<'a>>> {
         match read_back_of(self.rt.alloc(), self.way, found) {
             Ok(job) => Some(Wanted {
@@ -97,10 +97,11 @@ impl<'a> Checks<'a> {
         }
     }
 
-    /// A file is the same on both sides. A local one is given its permissions and times where that is asked for.
-    fn finish(&mut self, found: &Found) -> Verdict {
+    /// Records that a file is the same on both sides. A local file is given its permissions and times if that is asked
+    /// for.
+    fn finish(&mut self, found: &Found) -> JobVerdict {
         match keep_file(self.rt, self.way, self.options, found) {
-            Ok(()) => Verdict::Done,
+            Ok(()) => JobVerdict::Done,
             Err(reason) => self.refuse(found, &reason),
         }
     }
@@ -148,7 +149,7 @@ impl<'a> CopyJobs for Checks<'a> {
         };
         let verdict = match result {
             Ok(_) => self.finish(found),
-            Err(e) => self.refuse(found, &Reason::from(e)),
+            Err(e) => self.refuse(found, &TransferError::from(e)),
         };
         self.set_verdict(number, verdict);
     }

@@ -1,9 +1,9 @@
-//! How many requests are under way for a file.
+//! The number of requests in flight for a file.
 ghost use Rattle.std.specs.Prelude.{◌≤◌, ◌*◌, max};
 
-use transfer_walk::{Found, Task};
+use transfer_plan::{Found, Task};
 
-/// How many files are copied at once: the files among the jobs, at most so many and one at least.
+/// Returns the number of files copied at once: the number of files among the jobs, but at most `most` and at least one.
 pub(crate) fn count_files(jobs: &[Found], most: u32) -> u32
     ensures some { 1 ≤ result }
     ensures few { result ≤ max 1 most }
@@ -17,8 +17,8 @@ pub(crate) fn count_files(jobs: &[Found], most: u32) -> u32
     files.max(1)
 }
 
-/// How many requests for at most `len` bytes are under way for each of so many files: at most `most`, and so many that all
-/// of them together carry at most `limit` bytes; but one for each file in any case.
+/// Returns the number of requests for at most `len` bytes that are in flight for each of this many files. It is at most
+/// `most`, and small enough that all of them together carry at most `limit` bytes. It is at least one in any case.
 pub(crate) fn window_for(most: u32, limit: u32, files: u32, len: u32) -> u32
     ensures some { 1 ≤ result }
     ensures few { result ≤ max 1 most }

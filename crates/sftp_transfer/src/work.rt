@@ -1,32 +1,32 @@
-//! What is done over a link.
+//! The work that is done over a link.
 ghost use Rattle.std.specs.Prelude.{◌<◌, ◌-◌, ◌^◌};
-ghost use Rattle.transfer_copier.specs.Sessions.{IsGoing};
+ghost use Rattle.transfer_pool.specs.Sessions.{IsGoing};
 
 use crate::batch::Totals;
 use crate::courier::Courier;
 use crate::ended::{Reach, ended_by};
 use crate::listing::list;
 use crate::local_side::{is_folder, make_local_folder};
-use crate::reason::{Reason, is_starved, tell, tell_of};
-use buffered_link::BufferedLink;
+use crate::transfer_error::{TransferError, is_starved, tell, tell_of};
+use link_buffered::BufferedLink;
 use sftp_client::Sftp;
 use sftp_link::Link;
 use sftp_model::SftpOptions;
 use std::fs;
-use transfer_jobs::{carry_out, keep_apart};
+use transfer_args::{Direction, Transfer, Work};
+use transfer_plan::{carry_out, keep_apart};
 use transfer_remote::{make_remote_folder, remote_metadata};
-use transfer_words::{Transfer, Way, Work};
 
-/// Whether the local side lets a transfer begin: it has a source of those that go up, and a folder for those that come down.
-/// Why it doesn't is told.
+/// Returns true if the local side lets a transfer start: it has a source for an upload, and a directory for a download.
+/// Otherwise reports the reason.
 pub(crate) fn can_begin(rt: &HostRuntime, transfer: &Transfer<'_>) -> bool {
     match transfer.way {
-        Way::Put => has_source(rt, transfer.sources),
-        Way::Get => has_target(rt, transfer.target, transfer.sources.len() > 1),
+        Direction::Put => has_source(rt, transfer.sources),
+        Direction::Get => has_target(rt, transfer.target, transfer.sources.len() > 1),
     }
 }
 
-/// Whether one of the sources is there. Where none is, why is told of each.
+/// Returns true if one of the sources exists. If none does, the reason is reported for each.
 fn has_source(rt: &HostRuntime, sources: &[String]) -> bool {
     for source in sources {
         if fs::metadata(rt, source.as_str()).is_ok() {
@@ -35,13 +35,14 @@ fn has_source(rt: &HostRuntime, sources: &[String]) -> bool {
     }
     for source in sources {
         if let Err(e) = fs::metadata(rt, source.as_str()) {
-            tell(rt, source.as_str(), &Reason::from(e));
+            tell(rt, source.as_str(), &TransferError::from(e));
         }
     }
     false
 }
 
-/// Whether a target is a folder, or can be made in one. Several sources want a folder, which is made.
+/// Returns true if a target is a directory, or can be created in one. With several sources, a missing target directory
+/// is created. The reason for a failure is reported.
 fn has_target(rt: &HostRuntime, target: &str, several: bool) -> bool {
     if is_folder(rt, target) {
         return true;
@@ -57,13 +58,13 @@ fn has_target(rt: &HostRuntime, target: &str, several: bool) -> bool {
     match made {
         Ok(()) => true,
         Err(e) => {
-            tell(rt, target, &Reason::from(e));
+            tell(rt, target, &TransferError::from(e));
             false
         }
     }
 }
 
-/// The folder that a path stands in.
+/// Returns the directory that contains a path.
 fn folder_of(path: &str) -> &str {
     match path.trim_end_matches('/').rsplit_once('/') {
         Some(("", _)) => "/",
@@ -72,7 +73,7 @@ fn folder_of(path: &str) -> &str {
     }
 }
 
-/// Does what is asked for over a link, which is read ahead and dropped then, and answers what it came to.
+/// Does the requested work over a link, which is read ahead and dropped at the end, and returns the result.
 pub(crate) fn over<L: Link + Drop>(rt: &HostRuntime, link: L, work: Work<'_>) -> Reach
     requires { (L.LinkState.state link).faults < 2 ^ 64 - 1 }
 {
@@ -101,22 +102,26 @@ pub(crate) fn over<L: Link + Drop>(rt: &HostRuntime, link: L, work: Work<'_>) ->
             }
         },
         Err((e, _link)) => {
-            let reason = Reason::from(e);
+            let reason = TransferError::from(e);
             tell(rt, "the session", &reason);
             ended_by(is_starved(&reason), false, false)
         }
     }
 }
 
-/// Whether the sources go into the target: it is a folder, or there are several. That folder is made where it isn't there.
-fn goes_into<L: Link>(courier: &mut Courier<'_, L>, transfer: &Transfer<'_>) -> Result<bool, Reason>
+/// Returns true if the sources go into the target: it is a directory, or there are several sources. The directory is
+/// created if it doesn't exist.
+fn goes_into<L: Link>(
+    courier: &mut Courier<'_, L>,
+    transfer: &Transfer<'_>,
+) -> Result<bool, TransferError>
     requires { IsGoing L.LinkState.state courier.old.sftp }
     ensures { IsGoing L.LinkState.state courier.new.sftp }
 {
     let several = transfer.sources.len() > 1;
     match transfer.way {
-        Way::Get => Ok(several || is_folder(courier.rt, transfer.target)),
-        Way::Put => {
+        Direction::Get => Ok(several || is_folder(courier.rt, transfer.target)),
+        Direction::Put => {
             let target = transfer.target.as_bytes();
             match remote_metadata(courier.rt.alloc(), &mut courier.sftp, target) {
                 Ok(metadata) if metadata.file_type().is_some_and(|kind| kind.is_dir()) => Ok(true),
@@ -132,7 +137,7 @@ fn goes_into<L: Link>(courier: &mut Courier<'_, L>, transfer: &Transfer<'_>) -> 
     }
 }
 
-/// Copies files, and answers what it came to.
+/// Copies files, and returns the result.
 fn copy<L: Link>(courier: &mut Courier<'_, L>, transfer: &Transfer<'_>) -> Reach
     requires { IsGoing L.LinkState.state courier.old.sftp }
 {

@@ -7,13 +7,13 @@ use Rattle.std.proofs.lemmas.Bool.Decides.{Decides-eqb}
 use Rattle.std.proofs.lemmas.Slice.Eq.{slice_eq-Decides}
 use Rattle.std.proofs.Common.{ap}
 
--- both parts are equal
+-- Both parts are equal.
 pub and_decides : {P Q : Type 0} (p q : Bool) → Decides p P → Decides q Q → Decides (p && q) (P × Q)
 and_decides true true h k = (λ e. (h.0 refl, k.0 refl), λ e. refl)
 and_decides true false h k = (λ e. absurd cc, λ e. k.1 e.1)
 and_decides false q h k = (λ e. absurd cc, λ e. h.1 e.0)
 
--- a fact in other words
+-- A test that decides a fact decides any equivalent fact.
 pub decides_by : {P Q : Type 0} (p : Bool) → (P → Q) → (Q → P) → Decides p P → Decides p Q
 decides_by p f g h = (λ e. f (h.0 e), λ q. h.1 (g q))
 

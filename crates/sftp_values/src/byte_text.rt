@@ -1,3 +1,4 @@
+//! Owned bytes that contracts see as a list.
 ghost use Rattle.std.specs.Prelude.{◌≡◌, ◌==◌, List, ℕ};
 ghost use Rattle.std.proofs.Common.{rules};
 ghost use Rattle.std.specs.Cmp.Lexicographic.{pointwise};
@@ -5,7 +6,9 @@ ghost use Rattle.std.specs.Cmp.Rules.{comparing};
 
 use std::marker::Model;
 
-/// Owned bytes. A contract sees them as their list, whatever their place and capacity in memory.
+/// Owned bytes. A contract sees them as their list, independent of their address and capacity in memory.
+///
+/// Example: `crates/example_threads/src/receipts.rt`.
 #[derive(Debug, Drop)]
 pub struct ByteText {
     bytes: Vec<u8>,
@@ -18,21 +21,21 @@ impl Model for ByteText {
 }
 
 impl ByteText {
-    /// The bytes of a vector. Takes no memory.
+    /// Creates it from the bytes of a vector. Does not allocate.
     pub fn new(bytes: Vec<u8>) -> ByteText
         ensures { result ≡ bytes.items }
     {
         ByteText { bytes }
     }
 
-    /// The bytes.
+    /// Returns the bytes.
     pub fn as_slice(&self) -> &[u8]
         ensures { result.now ≡ self.now }
     {
         self.bytes.as_slice()
     }
 
-    /// The vector, given back without taking memory.
+    /// Returns the vector. Does not allocate.
     pub fn into_vec(self) -> Vec<u8>
         ensures { result.items ≡ self }
     {

@@ -1,3 +1,4 @@
+//! Owned values that contracts see as a list.
 ghost use Rattle.std.specs.Prelude.{◌≡◌, ◌<◌, List, Some, length, slice_get, slice_set};
 ghost use Rattle.std.proofs.Common.{rules};
 ghost use Rattle.std.specs.Cmp.Lexicographic.{pointwise};
@@ -5,7 +6,9 @@ ghost use Rattle.std.specs.Cmp.Rules.{comparing};
 
 use std::marker::Model;
 
-/// Owned values in order. A contract sees them as their list, whatever their place and capacity in memory.
+/// Owned values in order. A contract sees them as their list, independent of their address and capacity in memory.
+///
+/// Example: `crates/example_threads/src/receipts.rt`.
 #[derive(Debug, Drop)]
 pub struct Items<T> {
     items: Vec<T>,
@@ -18,21 +21,21 @@ impl<T> Model for Items<T> {
 }
 
 impl<T> Items<T> {
-    /// The values of a vector. Takes no memory.
+    /// Creates it from the values of a vector. Does not allocate.
     pub fn new(items: Vec<T>) -> Items<T>
         ensures { result ≡ items.items }
     {
         Items { items }
     }
 
-    /// The values.
+    /// Returns the values.
     pub fn as_slice(&self) -> &[T]
         ensures { result.now ≡ self.now }
     {
         self.items.as_slice()
     }
 
-    /// Puts a value in the place of the one at `index`, and gives that back.
+    /// Replaces the value at `index`, and returns the old one.
     pub fn replace(&mut self, index: usize, item: T) -> T
         requires { index < length self.old }
         ensures answer { slice_get self.old index ≡ Some result }
@@ -41,7 +44,7 @@ impl<T> Items<T> {
         std::mem::replace(&mut self.items[index], item)
     }
 
-    /// The vector, given back without taking memory.
+    /// Returns the vector. Does not allocate.
     pub fn into_vec(self) -> Vec<T>
         ensures { result.items ≡ self }
     {
@@ -50,7 +53,7 @@ impl<T> Items<T> {
 }
 
 impl<T: Drop> Items<T> {
-    /// Puts a value in the place of the one at `index`, which is let go.
+    /// Replaces the value at `index`, and drops the old one.
     pub fn set(&mut self, index: usize, item: T)
         requires { index < length self.old }
         ensures { self.new ≡ slice_set self.old index item }

@@ -1,4 +1,4 @@
-//! Vectors that contracts see as lists, and equality that decides.
+//! Vectors that contracts see as lists, and equality tests that decide equality.
 #![tactic(auto)]
 
 mod byte_text;

@@ -9,7 +9,7 @@ use Rattle.plan_model.specs.declared.call.Call.{Call}
 use Rattle.plan_model.specs.declared.call.Lane.{Lane}
 use Rattle.plan_model.specs.Lanes.{are_ok, is_within, lane_weight, weight}
 use Rattle.session_model.specs.declared.entry.Entry.{Entry}
-use Rattle.session_model.specs.Calls.{added, calls_of}
+use Rattle.session_model.specs.Calls.{calls_added_to, calls_of}
 use Rattle.session_driver.specs.Adding.{with_call}
 use Rattle.view_model.specs.Calls.{AreFew, call_limit, is_light}
 use Rattle.view_model.specs.Viewed.{Doing, makes, ◌>>=◌}
@@ -32,8 +32,10 @@ few_first n xs ys few = record {
 
 pub may_first : {A B : Type 0} (m : Doing A) (k : A → Doing B) {past : List Entry} → MayDo (m >>= k) past → MayDo m past
 may_first m k {past = past} may = record {
-  few = λ outcomes. few_first call_limit (added past 0 ++ (m outcomes).calls) (k (m outcomes).value (m outcomes).later).calls
-      (subst (AreFew call_limit) (sym (append_assoc (added past 0) (m outcomes).calls (k (m outcomes).value (m outcomes).later).calls)) (may.few outcomes));
+  few = λ outcomes. few_first call_limit (calls_added_to past 0 ++ (m outcomes).calls)
+      (k (m outcomes).value (m outcomes).later).calls
+      (subst (AreFew call_limit) (sym (append_assoc (calls_added_to past 0) (m outcomes).calls
+      (k (m outcomes).value (m outcomes).later).calls)) (may.few outcomes));
 }
 
 -- ---- the lane with one call more
@@ -74,13 +76,14 @@ few_ok xs few =
 
 -- the lanes of a session of one lane, with a call more
 with_one : (ws : List Lane) (past : List Entry) (c : Call) → length ws ≡ length one_lane
-    → ((lane : ℕ) → calls_of (slice_get ws lane) ≡ calls_of (slice_get one_lane lane) ++ added past lane)
-    → with_call ws 0 c ≡ record { calls = added past 0 ++ c ∷ [] } ∷ []
+    → ((lane : ℕ) → calls_of (slice_get ws lane) ≡ calls_of (slice_get one_lane lane) ++ calls_added_to past lane)
+    → with_call ws 0 c ≡ record { calls = calls_added_to past 0 ++ c ∷ [] } ∷ []
 with_one [] past c count each = absurd (omega (arith, count))
 with_one (w ∷ []) past c count each = λ i. record { calls = each 0 i ++ c ∷ [] } ∷ []
 with_one (w ∷ x ∷ ws) past c count each = absurd (omega (arith, count))
 
 pub may_add : (ws : List Lane) (past : List Entry) (c : Call) → MayDo (makes c) past → length ws ≡ length one_lane
-    → ((lane : ℕ) → calls_of (slice_get ws lane) ≡ calls_of (slice_get one_lane lane) ++ added past lane)
+    → ((lane : ℕ) → calls_of (slice_get ws lane) ≡ calls_of (slice_get one_lane lane) ++ calls_added_to past lane)
     → are_ok (with_call ws 0 c) ≡ true
-may_add ws past c may count each = ap are_ok (with_one ws past c count each) ∙ few_ok (added past 0 ++ c ∷ []) (may.few [])
+may_add ws past c may count each = ap are_ok (with_one ws past c count each)
+    ∙ few_ok (calls_added_to past 0 ++ c ∷ []) (may.few [])

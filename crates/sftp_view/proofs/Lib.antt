@@ -1,18 +1,18 @@
-pub mod OneCall
-pub mod RunLaws
-pub mod FewLaws
-pub mod IdleLaws
-pub mod CallLaws
-pub mod BlockLaws
-pub mod WorkLaws
-pub mod GatherLaws
-pub mod PutLaws
-pub mod OpLaws
-pub mod AllLaws
-pub mod DrainLaws
-pub mod ClosingLaws
-pub mod ViewLaws
-pub mod MemoryLaws
-pub mod CalledLaws
-pub mod Running
-pub mod Exits
+mod OneCall
+mod RunLaws
+mod FewLaws
+mod IdleLaws
+mod CallLaws
+mod BlockLaws
+mod WorkLaws
+mod GatherLaws
+mod PutLaws
+mod OpLaws
+mod AllLaws
+mod DrainLaws
+mod ClosingLaws
+mod ViewLaws
+mod MemoryLaws
+mod CalledLaws
+mod Running
+mod Exits

@@ -12,27 +12,27 @@ use Rattle.sftp_model.specs.declared.options.SftpOptions.{SftpOptions}
 use Rattle.machine_model.specs.FitTrees.{IsFit}
 use Rattle.sftp_model.specs.Numbers.{SSH_FX_OK}
 use Rattle.machine_model.proofs.FirstFits.{first_fits}
-use Rattle.session_model.specs.Calls.{Setting, added}
+use Rattle.session_model.specs.Calls.{Setting, calls_added_to}
 use Rattle.session_model.specs.Readings.{answer, outcomes_of}
-use Rattle.session_model.specs.Served.{Serves}
-use Rattle.session_model.specs.Settings.{greeting, setting_of}
-use Rattle.session_model.specs.Shown.{Shows}
+use Rattle.session_model.specs.Served.{ServesJournal}
+use Rattle.session_model.specs.Settings.{version_reply_of, setting_of}
+use Rattle.session_model.specs.Shown.{ShowsExchange}
 use Rattle.session_model.specs.declared.entry.Entry.{Entry}
-use Rattle.sftp_map_server.specs.Serving.{ServerState, IsServed, IsServing, Server, Serving, first_state, opened}
+use Rattle.sftp_map_server.specs.Serving.{ServerState, IsServed, IsServing, Server, Serving, first_state, fresh_server}
 use Rattle.sftp_map_server.specs.Unopened.{IsUnopened}
-use Rattle.map_server_laws.proofs.Numbering.{numbered_by}
-use Rattle.map_server_laws.proofs.Owing.{due}
-use Rattle.map_server_laws.proofs.Replying.{AllCodes, greeted_at}
-use Rattle.map_server_laws.proofs.Serving.{serves_by}
-use Rattle.map_server_laws.proofs.Showing.{AnswersBy, IsFirst, answers_by, shows_served, shows_version}
-use Rattle.map_server_laws.proofs.Stopping.{sound_at}
-use Rattle.program_ends.specs.Ended.{IsServerOf}
-use Rattle.program_ends.proofs.Stopping.{begins_well, from_empty}
-use Rattle.view_lists.specs.CacheSizes.{IsCacheSize}
-use Rattle.view_lists.specs.CanView.{CanView, refuses_nothing}
+use Rattle.machine_laws.proofs.Numbering.{numbered_by}
+use Rattle.machine_laws.proofs.Owing.{due}
+use Rattle.machine_laws.proofs.Replying.{AllCodes, greeted_at}
+use Rattle.machine_laws.proofs.Serving.{serves_by}
+use Rattle.machine_laws.proofs.Showing.{AnswersBy, IsFirst, answers_by, shows_served, shows_version}
+use Rattle.machine_laws.proofs.Stopping.{sound_at}
+use Rattle.program_shell.specs.Ended.{IsServerOf}
+use Rattle.program_shell.proofs.Stopping.{begins_well, from_empty}
+use Rattle.view_model.specs.CacheSizes.{IsCacheSize}
+use Rattle.view_model.specs.CanView.{CanView, refuses_nothing}
 use Rattle.run_laws.specs.Steps.{RefuseNone}
-use Rattle.view_lists.specs.declared.cache_size.CacheSize.{CacheSize}
-use Rattle.view_lists.specs.declared.list.ViewList.{ViewList}
+use Rattle.view_model.specs.declared.cache_size.CacheSize.{CacheSize}
+use Rattle.view_model.specs.declared.list.ViewList.{ViewList}
 use Rattle.view_model.proofs.BoundLaws.{within_viewed}
 use Rattle.view_model.proofs.CountLaws.{all_counted}
 use Rattle.view_model.specs.Blocks.{nothing_kept}
@@ -70,10 +70,11 @@ first_is first new =
 -- its log is that of a server from this state on
 served_from : (server : Serving) (new : IsUnopened server.first)
     → IsServing server.first server.now server.log server.ended
-    → IsServed (opened server.first.state server.first.output.picks) server.log server.now
+    → IsServed (fresh_server server.first.state server.first.output.picks) server.log server.now
 served_from server new serving =
-    let here : server.first ≡ opened server.first.state server.first.output.picks =
-    new.is ∙ ap (λ (d : ServerState). opened d server.first.output.picks) (sym (ap (λ (w : Server). w.state) new.is)) in
+    let here : server.first ≡ fresh_server server.first.state server.first.output.picks =
+    new.is ∙ ap (λ (d : ServerState). fresh_server d server.first.output.picks)
+    (sym (ap (λ (w : Server). w.state) new.is)) in
     subst (λ (w : Server). IsServed w server.log server.now) here serving.served
 
 -- ---- a session
@@ -82,44 +83,51 @@ at_most : (n m : ℕ) → nat_le n m ≡ true → n ≤ m
 at_most n m e = grind (arith, nat_tests)
 
 few_viewed : (block capacity : ℕ) (ops : List ViewOp) (past : List Entry) → MayView block capacity ops
-    → added past 0 ≡ (done_in block capacity ops past).calls → AreFew call_limit (added past 0)
+    → calls_added_to past 0 ≡ (done_in block capacity ops past).calls → AreFew call_limit (calls_added_to past 0)
 few_viewed block capacity ops past may calls =
     let ok = and_parts (list_all is_within ops) (nat_le (sum_by (count block) ops) count_limit) may.ok in
     let sum = at_most (sum_by (count block) ops) count_limit ok.1 in
     let all = all_counted block ops may.some in
     let w = (within_viewed block capacity ops [] nothing_kept).by (outcomes_of past 0) in
-    subst (AreFew call_limit) (sym calls) (record { light = w.light; few = (let x = w.few in omega (arith, x, all, sum)) })
+    subst (AreFew call_limit) (sym calls) (record {
+      light = w.light;
+      few =
+          (let x = w.few in omega (arith, x, all, sum));
+    })
 
 pub served_view : (size : CacheSize) (ops : List ViewOp) (options : SftpOptions) (old now : Serving) (r : ViewReport)
     → MayView size.block size.capacity ops → IsUnopened old.first → old.log ≡ [] → now.first ≡ old.first
     → IsServing now.first now.now now.log now.ended
-    → IsViewReport size.block size.capacity ops options (Some old.log) (Some now.log) r → IsServedView size ops options now r
+    → IsViewReport size.block size.capacity ops options (Some old.log) (Some now.log) r
+    → IsServedView size ops options now r
 served_view size ops options old now r may new none same serving report =
     let past : List Entry = report.past in
     let s : Setting = setting_of one_lane options report.extensions past in
     let fresh : IsUnopened now.first = subst IsUnopened (sym same) new in
-    let shown : Shows (greeting report.extensions) past [] now.log =
-    from_empty (Shows (greeting report.extensions) past) old.log now.log none report.log in
+    let shown : ShowsExchange (version_reply_of report.extensions) past [] now.log =
+    from_empty (ShowsExchange (version_reply_of report.extensions) past) old.log now.log none report.log in
     let first = first_is now.first fresh in
     let f : ServerState = now.first.state in
     let picks : List ℕ = now.first.output.picks in
     let served = served_from now fresh serving in
     let few = few_called s past refl report.run (few_viewed size.block size.capacity ops past may report.calls) in
-    let sound = sound_at one_lane options report.extensions f picks past now.log now.now first refl report.run shown served in
+    let sound = sound_at one_lane options report.extensions f picks past now.log now.now first refl report.run shown
+    served in
     let d : ServerState = greeted_at f in
-    let o = shows_served s f picks (greeting report.extensions) past now.log now.now first report.run sound shown served in
+    let o = shows_served s f picks (version_reply_of report.extensions) past now.log now.now first report.run sound
+    shown served in
     let empty : d.machine.grants ≡ 0 = ap (λ (w : Server). w.state.machine.grants) fresh.is in
     let closed : d.machine.tree.handles ≡ [] = ap (λ (w : Server). w.state.machine.tree.handles) fresh.is in
     let by : (p : ℕ) → AnswersBy (answer past p) (due d past p) = λ p. answers_by d past p o.due in
-    let serves : Serves f.machine.config f.choices f.machine.tree past now.now.state.machine.tree =
-    subst (λ (w : ServerState). Serves f.machine.config f.choices f.machine.tree past w.machine.tree)
+    let serves : ServesJournal f.machine.config f.choices f.machine.tree past now.now.state.machine.tree =
+    subst (λ (w : ServerState). ServesJournal f.machine.config f.choices f.machine.tree past w.machine.tree)
     (sym o.owes.state) (serves_by d past empty closed sound by few) in
     record {
       extensions = report.extensions;
       past = past;
       run = report.run;
       over = report.over;
-      version = shows_version f picks (greeting report.extensions) past now.log now.now first shown served;
+      version = shows_version f picks (version_reply_of report.extensions) past now.log now.now first shown served;
       shown = shown;
       served = record {
         serves = serves;
@@ -130,7 +138,8 @@ served_view size ops options old now r may new none same serving report =
       answers = report.answers;
       hits = report.hits;
       misses = report.misses;
-      plain = λ unrefused. report.plain f.machine.config f.choices f.machine.tree now.now.state.machine.tree unrefused (begins_well now.first fresh) serves;
+      plain = λ unrefused. report.plain f.machine.config f.choices f.machine.tree now.now.state.machine.tree unrefused
+          (begins_well now.first fresh) serves;
     }
 
 -- ---- the text
@@ -160,14 +169,16 @@ is_viewed size list ops old now report (Ok text) can o from same run is =
       is_kept = refl;
       first = first;
       plain = run_now.plain
-          (subst RefuseNone (sym (ap (λ (w : Server). w.state.choices) first)) (unrefused list.script.choices can.unrefused));
+          (subst RefuseNone (sym (ap (λ (w : Server). w.state.choices) first))
+          (unrefused list.script.choices can.unrefused));
       report = report;
       run = run_now;
       is = is;
     }
 
 -- a list that was read may be viewed
-pub may_view : (size : CacheSize) (list : ViewList) (ops : List ViewOp) → ops ≡ list.ops → IsCacheSize size → CanView size.block list
+pub may_view : (size : CacheSize) (list : ViewList) (ops : List ViewOp) → ops ≡ list.ops → IsCacheSize size
+    → CanView size.block list
     → MayView size.block size.capacity ops
 may_view size list ops same fits can = record {
   some = fits.some;

@@ -1,40 +1,45 @@
--- What the program writes and answers for the words of its command line.
+-- The text and the answer of the program for the arguments of its command line.
 use Rattle.std.specs.Prelude.{ℕ, List, ◌++◌, Option, Some, None, codes}
-use Rattle.program_ends.specs.Texts.{answered_of, text_of}
-use Rattle.program_ends.specs.declared.ending.Answered.{Answered}
-use Rattle.view_lists.specs.CacheSizes.{view_of}
-use Rattle.view_lists.specs.declared.cache_size.CacheSize.{CacheSize}
+use Rattle.program_shell.specs.Texts.{answered_of, text_of}
+use Rattle.program_shell.specs.declared.ending.Answered.{Answered}
+use Rattle.view_model.specs.CacheSizes.{view_of}
+use Rattle.view_model.specs.declared.cache_size.CacheSize.{CacheSize}
 
--- ---- texts
+-- ---- Texts
 
--- what `--help` writes
+-- The text of `--help`.
 unfoldable pub help_text : List ℕ
 help_text =
     codes "Usage: sftp_view view BLOCK CAPACITY | --help | --version\n"
     ++ codes "\n"
     ++ codes "  view BLOCK CAPACITY\n"
-    ++ codes "               does what standard input lists, over a server of files in memory\n"
-    ++ codes "  --help       writes this text\n"
-    ++ codes "  --version    writes the version\n"
+    ++ codes "               run the operations listed on standard input, over a server in memory\n"
+    ++ codes "  --help       print this help\n"
+    ++ codes "  --version    print the version\n"
     ++ codes "\n"
-    ++ codes "Files are read by blocks of BLOCK bytes, 1 to 65536, of which CAPACITY, 1 to 4096, are kept:\n"
-    ++ codes "those that were used last. A line of the list is one of\n"
+    ++ codes "Files are read in blocks of BLOCK bytes, 1 to 65536. The CAPACITY blocks, 1 to 4096, that\n"
+    ++ codes "were used last are kept. A line of the list is\n"
     ++ codes "\n"
-    ++ codes "  get NAME OFFSET LEN        reads at most LEN bytes of a file, from OFFSET on\n"
-    ++ codes "  put NAME OFFSET CONTENT    writes bytes to a file at OFFSET, and makes it if need be\n"
+    ++ codes "  get NAME OFFSET LEN        read at most LEN bytes of a file, from OFFSET on\n"
+    ++ codes "  put NAME OFFSET CONTENT    write bytes to a file at OFFSET, and create it if necessary\n"
     ++ codes "\n"
-    ++ codes "or a line option, server, file, dir, choice or pick of docs/SPEC.md, where a choice refuses\n"
+    ++ codes "or a line option, server, file, dir, choice or pick of docs/SPEC.md; a choice may refuse\n"
     ++ codes "nothing. NAME and CONTENT are hexadecimal, or - for no bytes.\n"
     ++ codes "\n"
-    ++ codes "For each get and put a line got, put, refused or toolong is written, then how many blocks\n"
-    ++ codes "that were wanted were kept, hits, and how many were not, misses, and then the files and\n"
-    ++ codes "directories that are left. The status is 0 where all was done, 2 for a list or words that\n"
-    ++ codes "can't be used, 3 where the input failed, 4 where the output failed, and 5 where memory ran\n"
-    ++ codes "out.\n"
+    ++ codes "The program writes a line got, put, refused or toolong for each operation, then the number\n"
+    ++ codes "of blocks found in the cache, hits, and not found, misses, and then the files and\n"
+    ++ codes "directories left on the server.\n"
+    ++ codes "\n"
+    ++ codes "Exit status:\n"
+    ++ codes "  0  everything was done\n"
+    ++ codes "  2  the list or the arguments are invalid\n"
+    ++ codes "  3  standard input failed\n"
+    ++ codes "  4  standard output failed\n"
+    ++ codes "  5  out of memory\n"
 
--- ---- what is asked for
+-- ---- The request
 
--- a view through a cache of this size, or a text and what it says
+-- A view through a cache of this size, or a text and its meaning.
 pub data Asked : Type 0 where
   Through : CacheSize → Asked
   Text : Answered → List ℕ → Asked

@@ -1,5 +1,5 @@
 //! The operations of a view, one after another.
-ghost use Rattle.session_driver.specs.Ongoing.{at};
+ghost use Rattle.session_driver.specs.Ongoing.{run_state};
 ghost use Rattle.sftp_lanes.specs.Seen.{seen_of};
 ghost use Rattle.sftp_view.specs.Operations.{MayRunAll, done_by, left_by, most};
 ghost use Rattle.sftp_view.specs.Working.{DoesByView};
@@ -13,6 +13,10 @@ use view_model::{Answer, ViewOp};
 
 impl View {
     /// Does operations, one after another.
+    ///
+    /// # Errors
+    ///
+    /// The error that stopped the session.
     pub fn run_all<L: Link>(
         &mut self,
         alloc: Global,

@@ -1,8 +1,8 @@
 //! The blocks of a file: those that are kept, and those that are read.
 ghost use Rattle.std.specs.Prelude.{◌≡◌, ◌≤◌, ◌<◌, ◌+◌, ◌*◌, ◌^◌, [], Ok};
-ghost use Rattle.session_driver.specs.Ongoing.{at};
+ghost use Rattle.session_driver.specs.Ongoing.{run_state};
 ghost use Rattle.sftp_lanes.specs.Seen.{seen_of};
-ghost use Rattle.view_model.specs.Viewed.{fetched, pure, read_at, read_on};
+ghost use Rattle.view_model.specs.Viewed.{fetched_block, pure, read_at, read_on};
 ghost use Rattle.sftp_view.specs.Doings.{IsIdle, MayDo, DoesBySession};
 
 use crate::call::{Found, make_call};
@@ -13,16 +13,16 @@ use sftp_values::ByteText;
 use std::alloc::Global;
 use view_model::calls::{close, open_to_read, read_up_to, seek_to};
 
-/// Reads what the file in the slot has from its offset on, until a block is full, the file ends, or a read is refused.
+/// Reads the file in the slot from its offset on, until a block is full, the file ends, or a read is refused.
 fn read_block<L: Link>(
     alloc: Global,
     session: &mut Session,
     link: &mut L,
     block: u32,
 ) -> Result<Found, Error>
-    requires idle { IsIdle (at (seen_of session.old) (L.LinkState.state link.old)) }
+    requires idle { IsIdle (run_state (seen_of session.old) (L.LinkState.state link.old)) }
     requires may { MayDo (read_on block block []) (seen_of session.old).progress.past }
-    ensures { DoesBySession (read_on block block []) pure (at (seen_of session.old) (L.LinkState.state link.old)) (at (seen_of session.new) (L.LinkState.state link.new)) result }
+    ensures { DoesBySession (read_on block block []) pure (run_state (seen_of session.old) (L.LinkState.state link.old)) (run_state (seen_of session.new) (L.LinkState.state link.new)) result }
 {
     let mut bytes = Vec::new(alloc);
     for _read in 0..block {
@@ -54,10 +54,10 @@ fn read_at<L: Link>(
     block: u32,
     n: u64,
 ) -> Result<Found, Error>
-    requires idle { IsIdle (at (seen_of session.old) (L.LinkState.state link.old)) }
+    requires idle { IsIdle (run_state (seen_of session.old) (L.LinkState.state link.old)) }
     requires may { MayDo (read_at block n) (seen_of session.old).progress.past }
     requires fits { n * block < 2 ^ 64 }
-    ensures { DoesBySession (read_at block n) pure (at (seen_of session.old) (L.LinkState.state link.old)) (at (seen_of session.new) (L.LinkState.state link.new)) result }
+    ensures { DoesBySession (read_at block n) pure (run_state (seen_of session.old) (L.LinkState.state link.old)) (run_state (seen_of session.new) (L.LinkState.state link.new)) result }
 {
     let _ = make_call(alloc, session, link, seek_to(n * u64::from(block)))?;
     let found = read_block(alloc, session, link, block)?;
@@ -66,6 +66,10 @@ fn read_at<L: Link>(
 }
 
 /// Opens a file, reads a block of it, and closes it again.
+///
+/// # Errors
+///
+/// The error that stopped the session.
 pub fn fetch_block<L: Link>(
     alloc: Global,
     session: &mut Session,
@@ -74,10 +78,10 @@ pub fn fetch_block<L: Link>(
     path: &ByteText,
     n: u64,
 ) -> Result<Found, Error>
-    requires idle { IsIdle (at (seen_of session.old) (L.LinkState.state link.old)) }
-    requires may { MayDo (fetched block path.now n) (seen_of session.old).progress.past }
+    requires idle { IsIdle (run_state (seen_of session.old) (L.LinkState.state link.old)) }
+    requires may { MayDo (fetched_block block path.now n) (seen_of session.old).progress.past }
     requires fits { n * block < 2 ^ 64 }
-    ensures { DoesBySession (fetched block path.now n) pure (at (seen_of session.old) (L.LinkState.state link.old)) (at (seen_of session.new) (L.LinkState.state link.new)) result }
+    ensures { DoesBySession (fetched_block block path.now n) pure (run_state (seen_of session.old) (L.LinkState.state link.old)) (run_state (seen_of session.new) (L.LinkState.state link.new)) result }
 {
     let open = match open_to_read(alloc, path) {
         Ok(open) => open,

@@ -1,7 +1,7 @@
 //! One call of the lane.
 ghost use Rattle.std.specs.Prelude.{◌≡◌, None, Ok, OnErr, OnOk};
 ghost use Rattle.session_driver.specs.declared.session.Phase.TheVariants.{Open};
-ghost use Rattle.session_driver.specs.Ongoing.{at};
+ghost use Rattle.session_driver.specs.Ongoing.{run_state};
 ghost use Rattle.session_driver.specs.Session.{IsUnmoved};
 ghost use Rattle.session_model.specs.Calls.{current};
 ghost use Rattle.session_work.specs.Working.{past_of};
@@ -24,8 +24,8 @@ use view_model::found_in;
 pub type Found = Result<ByteText, u32>;
 
 /// Steps an idle lane, which does nothing.
-// for the contract: of all that a session answers only this says that a lane's calls are those that its journal tells, and
-// that no grant is to be closed
+// For the contract: among all results of a session, only this one says that a lane's calls are those of its journal,
+// and that no grant is to be closed.
 pub(crate) fn step_idly(session: &mut Session) -> Result<(), OutOfMemory>
     requires open { session.old.phase ≡ Open }
     requires done { current (setting_at session.old) (past_of session.old.work) 0 ≡ None }
@@ -36,16 +36,16 @@ pub(crate) fn step_idly(session: &mut Session) -> Result<(), OutOfMemory>
     Ok(())
 }
 
-/// Adds a call to the lane of an idle session, runs it to its end, and gives what it brought.
+/// Adds a call to the lane of an idle session, runs it to its end, and returns its result.
 pub(crate) fn make_call<L: Link>(
     alloc: Global,
     session: &mut Session,
     link: &mut L,
     call: Call,
 ) -> Result<Found, Error>
-    requires idle { IsIdle (at (seen_of session.old) (L.LinkState.state link.old)) }
+    requires idle { IsIdle (run_state (seen_of session.old) (L.LinkState.state link.old)) }
     requires may { MayDo (makes call) (seen_of session.old).progress.past }
-    ensures { DoesBySession (makes call) pure (at (seen_of session.old) (L.LinkState.state link.old)) (at (seen_of session.new) (L.LinkState.state link.new)) result }
+    ensures { DoesBySession (makes call) pure (run_state (seen_of session.old) (L.LinkState.state link.old)) (run_state (seen_of session.new) (L.LinkState.state link.new)) result }
 {
     if step_idly(session).is_err() {
         return Err(Error::OutOfMemory);

@@ -1,5 +1,5 @@
 //! The end of a session.
-ghost use Rattle.session_driver.specs.Ongoing.{at};
+ghost use Rattle.session_driver.specs.Ongoing.{run_state};
 ghost use Rattle.sftp_lanes.specs.Seen.{seen_of};
 ghost use Rattle.sftp_view.specs.Doings.{IsIdle};
 ghost use Rattle.sftp_view.specs.Closing.{ClosesOrStops};
@@ -11,14 +11,14 @@ use sftp_link::Link;
 use sftp_model::Error;
 use std::alloc::Global;
 
-/// Lets the lane of an idle session go, and takes the last replies.
+/// Releases the lane of an idle session, and takes the last replies.
 pub(crate) fn close_session<L: Link>(
     alloc: Global,
     session: &mut Session,
     link: &mut L,
 ) -> Result<(), Error>
-    requires { IsIdle (at (seen_of session.old) (L.LinkState.state link.old)) }
-    ensures { ClosesOrStops (at (seen_of session.old) (L.LinkState.state link.old)) (at (seen_of session.new) (L.LinkState.state link.new)) result }
+    requires { IsIdle (run_state (seen_of session.old) (L.LinkState.state link.old)) }
+    ensures { ClosesOrStops (run_state (seen_of session.old) (L.LinkState.state link.old)) (run_state (seen_of session.new) (L.LinkState.state link.new)) result }
 {
     let_go_lanes(session, link)?;
     drain(alloc, session, link)?;

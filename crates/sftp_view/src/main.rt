@@ -16,13 +16,13 @@ mod run;
 
 pub use laws::{statuses_have_causes, views_are_complete};
 pub use program::view;
-use program_ends::{OUT_OF_MEMORY, exit_with, words_given};
+use program_shell::{OUT_OF_MEMORY, exit_with, words_given};
 pub use run::{ViewReport, run_view};
 use sftp_link::{ReadSource, WriteSink};
 use ssh_encoding::OutOfMemory;
 use std::process::ExitCode;
 
-/// The status where the words or the list can't be used.
+/// The status if the arguments or the list can't be used.
 const REFUSED: u8 = 2;
 
 fn main(rt: HostRuntime) -> ExitCode {
@@ -35,8 +35,8 @@ fn main(rt: HostRuntime) -> ExitCode {
     let mut kept = None;
     let status = view(rt.alloc(), &words, &mut source, &mut sink, &mut kept);
     if status == REFUSED {
-        // where standard error fails too there is nobody to tell
-        let _ = eprintln!(rt; "sftp_view: the list or the words can't be used");
+        // If standard error fails too, the message is lost.
+        let _ = eprintln!(rt; "sftp_view: the list or the arguments are invalid (try --help)");
     }
     exit_with(&rt, "sftp_view", status, "")
 }

@@ -1,28 +1,30 @@
 //! The operations of a view.
 ghost use Rattle.std.specs.Prelude.{◌≡◌, ◌≤◌, ◌<◌, ◌+◌, ◌*◌, ◌^◌, ◌/◌, ◌-◌, [], None, Ok, Some, true};
 ghost use Rattle.std.specs.Map.{lookup};
-ghost use Rattle.session_driver.specs.Ongoing.{at};
+ghost use Rattle.session_driver.specs.Ongoing.{run_state};
 ghost use Rattle.sftp_lanes.specs.Seen.{seen_of};
 ghost use Rattle.machine_model.specs.Components.{components};
 ghost use Rattle.view_model.specs.Blocks.{block_count, first_block};
 ghost use Rattle.view_model.specs.Keys.{key_of, same_key};
-ghost use Rattle.view_model.specs.Viewed.{answered, block_by, gathered, get_by, op_by, pure, put_at, put_by, written};
+ghost use Rattle.view_model.specs.Viewed.{answered_with, block_by, gather_blocks, get_by, op_by, pure, put_at, put_by, write_bytes};
 ghost use Rattle.view_model.specs.ViewOps.{is_within};
 ghost use Rattle.sftp_view.specs.Doings.{IsIdle, MayDo, DoesBySession};
-ghost use Rattle.sftp_view.specs.Working.{MayWork, DoesByView, wanted};
+ghost use Rattle.sftp_view.specs.Working.{MayWork, DoesByView, count_lookups};
 
 use crate::blocks::fetch_block;
 use crate::call::Found;
 use crate::puts::write_file;
+use machine_answers::components;
 use sftp_lanes::Session;
 use sftp_link::Link;
-use sftp_machine::components;
 use sftp_model::Error;
 use sftp_values::ByteText;
 use std::alloc::Global;
 use view_model::{Answer, BlockCache, BlockKey, ViewOp, cut, passes_length};
 
 /// A session of one lane, and the blocks that are kept.
+///
+/// Used in `crates/sftp_view/src/all.rt`.
 #[derive(Drop)]
 pub struct View {
     pub session: Session,
@@ -31,7 +33,8 @@ pub struct View {
 }
 
 impl View {
-    /// A block of a file: the one that is kept, or one that is read and is kept then, unless that was refused.
+    /// Returns a block of a file: the one that is kept, or one that is read now. A block that is read is kept, unless
+    /// it was refused.
     fn get_block<L: Link>(
         &mut self,
         alloc: Global,
@@ -39,7 +42,7 @@ impl View {
         path: &ByteText,
         key: &BlockKey,
     ) -> Result<Found, Error>
-        requires idle { IsIdle (at (seen_of self.old.session) (L.LinkState.state link.old)) }
+        requires idle { IsIdle (run_state (seen_of self.old.session) (L.LinkState.state link.old)) }
         requires may { MayDo (block_by self.old.block self.old.cache.capacity path.now key.now.block self.old.cache.kept
             (lookup (same_key key.now) self.old.cache.kept.entries)) (seen_of self.old.session).progress.past }
         requires of { key.now ≡ key_of (components path.now) key.now.block }
@@ -61,8 +64,8 @@ impl View {
         }
     }
 
-    /// The bytes of `count` blocks of a file from the one with the number `first` on, up to one that isn't whole; or the
-    /// status of the first that is refused.
+    /// Returns the bytes of `count` blocks of a file from the one with the number `first` on, up to one that isn't
+    /// whole; or the status of the first that is refused.
     fn gather<L: Link>(
         &mut self,
         alloc: Global,
@@ -71,13 +74,13 @@ impl View {
         first: u64,
         count: u64,
     ) -> Result<Found, Error>
-        requires idle { IsIdle (at (seen_of self.old.session) (L.LinkState.state link.old)) }
-        requires may { MayDo (gathered self.old.block self.old.cache.capacity path.now first count [] self.old.cache.kept)
+        requires idle { IsIdle (run_state (seen_of self.old.session) (L.LinkState.state link.old)) }
+        requires may { MayDo (gather_blocks self.old.block self.old.cache.capacity path.now first count [] self.old.cache.kept)
             (seen_of self.old.session).progress.past }
         requires fits { (first + count) * self.old.block < 2 ^ 64 }
         requires some { 1 ≤ self.old.block }
-        requires counts { wanted self.old.cache + count < 2 ^ 64 - 1 }
-        ensures { DoesByView (gathered self.old.block self.old.cache.capacity path.now first count [] self.old.cache.kept)
+        requires counts { count_lookups self.old.cache + count < 2 ^ 64 - 1 }
+        ensures { DoesByView (gather_blocks self.old.block self.old.cache.capacity path.now first count [] self.old.cache.kept)
             (λ found. pure (record { found = found; kept = self.new.cache.kept })) count
             self.old (L.LinkState.state link.old) self.new (L.LinkState.state link.new) result }
     {
@@ -105,7 +108,7 @@ impl View {
         Ok(Ok(ByteText::new(bytes)))
     }
 
-    /// At most `len` bytes of a file from an offset on, of its blocks.
+    /// Returns at most `len` bytes of a file from an offset on, from its blocks.
     fn get<L: Link>(
         &mut self,
         alloc: Global,
@@ -119,7 +122,7 @@ impl View {
         requires most { len ≤ 1048576 }
         requires far { offset ≤ 1099511627776 }
         ensures { DoesByView (get_by self.old.block self.old.cache.capacity path.now offset len self.old.cache.kept)
-            (λ a. pure (answered a self.new.cache.kept)) 2097152
+            (λ a. pure (answered_with a self.new.cache.kept)) 2097152
             self.old (L.LinkState.state link.old) self.new (L.LinkState.state link.new) result }
     {
         let block = u64::from(self.block);
@@ -134,7 +137,7 @@ impl View {
         }
     }
 
-    /// Writes bytes to a file, and drops the blocks of its name, whatever came of that.
+    /// Writes bytes to a file, and drops the blocks of its name, whether or not the write succeeded.
     fn put<L: Link>(
         &mut self,
         alloc: Global,
@@ -144,7 +147,7 @@ impl View {
         content: &ByteText,
     ) -> Result<Answer, Error>
         requires { MayWork (put_by path.now offset content.now self.old.cache.kept) self.old (L.LinkState.state link.old) }
-        ensures { DoesByView (put_by path.now offset content.now self.old.cache.kept) (λ a. pure (answered a self.new.cache.kept)) 2097152
+        ensures { DoesByView (put_by path.now offset content.now self.old.cache.kept) (λ a. pure (answered_with a self.new.cache.kept)) 2097152
             self.old (L.LinkState.state link.old) self.new (L.LinkState.state link.new) result }
     {
         let answer = write_file(alloc, &mut self.session, link, path, offset, content)?;
@@ -167,7 +170,7 @@ impl View {
     ) -> Result<Answer, Error>
         requires may { MayWork (op_by self.old.block self.old.cache.capacity op.now self.old.cache.kept) self.old (L.LinkState.state link.old) }
         requires within { is_within op.now ≡ true }
-        ensures { DoesByView (op_by self.old.block self.old.cache.capacity op.now self.old.cache.kept) (λ a. pure (answered a self.new.cache.kept)) 2097152
+        ensures { DoesByView (op_by self.old.block self.old.cache.capacity op.now self.old.cache.kept) (λ a. pure (answered_with a self.new.cache.kept)) 2097152
             self.old (L.LinkState.state link.old) self.new (L.LinkState.state link.new) result }
     {
         match op {

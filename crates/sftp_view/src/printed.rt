@@ -1,19 +1,18 @@
-//! The operations of a list are done over a server in memory, and the text of what they were answered is made.
+//! Does the operations of a list over a server in memory, and makes the text of their answers.
 ghost use Rattle.std.specs.Prelude.{◌≡◌, [], IfOk};
 ghost use Rattle.sftp_map_server.specs.Unopened.{IsUnopened};
 ghost use Rattle.sftp_view.specs.Printed.{IsServedView, view_text};
 ghost use Rattle.sftp_view.specs.Views.{MayView};
 
 use crate::run::{ViewReport, run_view};
-use program_ends::{want_of_memory, write_dirs, write_files};
+use program_shell::{want_of_memory, write_dirs, write_files};
 use sftp_map_server::MapServer;
 use sftp_model::SftpOptions;
 use ssh_encoding::OutOfMemory;
 use std::alloc::Global;
-use view_lists::CacheSize;
-use view_model::{ViewOp, write_view};
+use view_model::{CacheSize, ViewOp, write_view};
 
-/// Does operations over a server that nothing was sent to. Refused only for want of memory.
+/// Does operations over a server to which nothing was sent. Fails only if an allocation fails.
 #[tactic(auto, using(crate::proofs::Running::served_view))]
 pub(crate) fn view_served(
     alloc: Global,
@@ -29,7 +28,7 @@ pub(crate) fn view_served(
     ensures first { server.new.first ≡ server.old.first }
 {
     let result = run_view(alloc, server, size.block, size.capacity, ops, options);
-    // for the contract: its log is that of a server
+    // For the contract: its log is that of a server.
     let _ended = server.is_ended();
     match result {
         Ok(report) => Ok(report),
@@ -37,7 +36,8 @@ pub(crate) fn view_served(
     }
 }
 
-/// What each operation was answered, the hits and misses, and the files and directories that a server has.
+/// Returns the text of the answer to each operation, the hits and misses, and the files and directories that a server
+/// has.
 pub(crate) fn view_text(
     alloc: Global,
     report: &ViewReport,

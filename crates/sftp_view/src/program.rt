@@ -1,4 +1,4 @@
-//! All that the program does.
+//! The whole run of the program.
 ghost use Rattle.std.specs.Prelude.{map};
 ghost use Rattle.std.specs.String.{string_bytes};
 ghost use Rattle.sftp_view.specs.Ended.{MayFail, ProgramEnds};
@@ -6,22 +6,26 @@ ghost use Rattle.sftp_view.specs.Words.{asked_by};
 
 use crate::answer::help_text;
 use crate::reply::CachedView;
-use program_ends::{answer_in_memory, answer_to, status_of, write_answer};
+use program_shell::{answer_in_memory, answer_to, status_of, write_answer};
 use sftp_link::{Sink, Source};
 use sftp_map_server::MapServer;
 use std::alloc::Global;
-use view_lists::view_size;
+use view_model::view_size;
 
-/// Does all that the program does, by the words of its command line without its name, and answers the status to end with.
+/// Runs the program with the arguments of its command line, without its name, and returns the exit status.
 ///
-/// With `view` and two numbers it reads the source to its end and does the operations that it lists over a server of the
-/// list's files and directories in memory, through a cache of so many blocks. The server is left in `kept`, and its log shows
-/// the frames of the session; where there was no session nothing is left there. `--help` and `--version` are answered with
-/// their texts.
+/// With `view` and two numbers it reads the source to its end and does the operations that it lists over a server in
+/// memory. They go through a cache with that length and number of blocks. The server has the list's files and
+/// directories. It is left in `kept`, and its log shows the frames of the session. If there was no session, nothing is
+/// left there. `--help` and `--version` are answered with their texts.
 ///
-/// The status is 0 where the whole text was written, and 2 where the bytes are no list or the words are others, and the line
-/// that says why was written. It is 3 where the source failed, 4 where the sink failed, and 5 where there was no memory; with
-/// 4 and 5 a prefix of the text was written, or nothing.
+/// The status is:
+///
+/// - 0: the whole text was written.
+/// - 2: the bytes are no list or the arguments are not known, and the line with the reason was written.
+/// - 3: the source failed.
+/// - 4: the sink failed; a prefix of the text was written, or nothing.
+/// - 5: an allocation failed; a prefix of the text was written, or nothing.
 pub fn view<S: Source, K: Sink>(
     alloc: Global,
     words: &[String],

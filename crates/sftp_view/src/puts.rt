@@ -1,8 +1,8 @@
-//! Bytes are written to a file.
+//! Writes bytes to a file.
 ghost use Rattle.std.specs.Prelude.{Ok};
-ghost use Rattle.session_driver.specs.Ongoing.{at};
+ghost use Rattle.session_driver.specs.Ongoing.{run_state};
 ghost use Rattle.sftp_lanes.specs.Seen.{seen_of};
-ghost use Rattle.view_model.specs.Viewed.{pure, put_at, written};
+ghost use Rattle.view_model.specs.Viewed.{pure, put_at, write_bytes};
 ghost use Rattle.sftp_view.specs.Doings.{IsIdle, MayDo, DoesBySession};
 
 use crate::call::make_call;
@@ -22,9 +22,9 @@ fn put_at<L: Link>(
     offset: u64,
     content: &ByteText,
 ) -> Result<Answer, Error>
-    requires idle { IsIdle (at (seen_of session.old) (L.LinkState.state link.old)) }
+    requires idle { IsIdle (run_state (seen_of session.old) (L.LinkState.state link.old)) }
     requires may { MayDo (put_at offset content.now) (seen_of session.old).progress.past }
-    ensures { DoesBySession (put_at offset content.now) pure (at (seen_of session.old) (L.LinkState.state link.old)) (at (seen_of session.new) (L.LinkState.state link.new)) result }
+    ensures { DoesBySession (put_at offset content.now) pure (run_state (seen_of session.old) (L.LinkState.state link.old)) (run_state (seen_of session.new) (L.LinkState.state link.new)) result }
 {
     let write = match write_all(alloc, content) {
         Ok(write) => write,
@@ -39,7 +39,11 @@ fn put_at<L: Link>(
     }
 }
 
-/// Opens a file, writes bytes to it at an offset, and closes it again. One that isn't there is made.
+/// Opens a file, writes bytes to it at an offset, and closes it again. A missing file is created.
+///
+/// # Errors
+///
+/// The error that stopped the session.
 pub fn write_file<L: Link>(
     alloc: Global,
     session: &mut Session,
@@ -48,9 +52,9 @@ pub fn write_file<L: Link>(
     offset: u64,
     content: &ByteText,
 ) -> Result<Answer, Error>
-    requires idle { IsIdle (at (seen_of session.old) (L.LinkState.state link.old)) }
-    requires may { MayDo (written path.now offset content.now) (seen_of session.old).progress.past }
-    ensures { DoesBySession (written path.now offset content.now) pure (at (seen_of session.old) (L.LinkState.state link.old)) (at (seen_of session.new) (L.LinkState.state link.new)) result }
+    requires idle { IsIdle (run_state (seen_of session.old) (L.LinkState.state link.old)) }
+    requires may { MayDo (write_bytes path.now offset content.now) (seen_of session.old).progress.past }
+    ensures { DoesBySession (write_bytes path.now offset content.now) pure (run_state (seen_of session.old) (L.LinkState.state link.old)) (run_state (seen_of session.new) (L.LinkState.state link.new)) result }
 {
     let open = match open_to_write(alloc, path) {
         Ok(open) => open,

@@ -1,16 +1,16 @@
-//! How the operations of a list are done through a cache, over a server in memory, and what is written of it.
-ghost use Rattle.view_lists.specs.CacheSizes.{IsCacheSize};
-ghost use Rattle.view_lists.specs.CanView.{CanView};
-ghost use Rattle.view_lists.specs.Lists.{list_of};
+//! Does the operations of a list through a cache, over a server in memory, and returns the text.
+ghost use Rattle.view_model.specs.CacheSizes.{IsCacheSize};
+ghost use Rattle.view_model.specs.CanView.{CanView};
+ghost use Rattle.view_model.specs.Lists.{list_of};
 ghost use Rattle.sftp_view.specs.Printed.{IsViewed};
 
 use crate::printed::{view_served, view_text};
-use program_ends::Program;
+use program_shell::Program;
+use script_grammar::{Script, ScriptError};
 use sftp_map_server::MapServer;
-use sftp_script::{Script, ScriptError};
 use ssh_encoding::OutOfMemory;
 use std::alloc::Global;
-use view_lists::{CacheSize, ViewList, read_list};
+use view_model::{CacheSize, ViewList, read_list};
 
 /// A view through a cache of this size.
 #[derive(Clone, Copy, Debug, PartialEq, Eq)]
@@ -40,7 +40,8 @@ impl Program for CachedView {
         &list.script
     }
 
-    /// Does the operations, and gives the text of what each was answered and of what is left.
+    /// Does the operations, and returns the text of the answer to each and of the files and directories that are left.
+    /// Fails only if an allocation fails.
     #[tactic(auto, using(crate::proofs::Running::may_view))]
     fn text_over(
         &self,

@@ -1,16 +1,16 @@
 //! A view of remote files over a link.
 ghost use Rattle.std.specs.Prelude.{◌≡◌, ◌≤◌, ◌<◌, ◌^◌, ◌-◌, IfOk, IfErr};
-ghost use Rattle.sftp_link.specs.Told.{Told};
+ghost use Rattle.sftp_link.specs.Told.{IfLogged};
 ghost use Rattle.session_driver.specs.Logs.{EndsAs};
-ghost use Rattle.session_driver.specs.Ongoing.{at};
+ghost use Rattle.session_driver.specs.Ongoing.{run_state};
 ghost use Rattle.session_driver.specs.Session.{IsFresh};
-ghost use Rattle.session_exchange.specs.Causes.{Caused};
+ghost use Rattle.link_frames.specs.Causes.{IsCausedByLink};
 ghost use Rattle.session_model.specs.Journals.{IsJournal};
 ghost use Rattle.sftp_lanes.specs.Complete.{StopsForMemory};
-ghost use Rattle.sftp_lanes.specs.Seen.{IsNew, given, given_of, seen_of};
+ghost use Rattle.sftp_lanes.specs.Seen.{IsNew, session_inputs, given_of, seen_of};
 ghost use Rattle.view_model.specs.Blocks.{nothing_kept};
 ghost use Rattle.sftp_view.specs.Doings.{one_lane};
-ghost use Rattle.sftp_view.specs.Views.{IsNewView, IsViewReport, MayView, Views};
+ghost use Rattle.sftp_view.specs.Views.{IsNewView, IsViewReport, MayView, ViewsFiles};
 
 use crate::close::close_session;
 use crate::ops::View;
@@ -24,16 +24,18 @@ use ssh_encoding::OutOfMemory;
 use std::alloc::Global;
 use view_model::{Answer, BlockCache, ViewOp};
 
-/// What a view did.
+/// The report of a view.
+///
+/// Used in `crates/sftp_view/src/printed.rt`.
 #[derive(Debug, Drop)]
 pub struct ViewReport {
     /// The run of the lane whose calls were made.
     pub report: Report,
-    /// What each operation is answered.
+    /// The answer to each operation.
     pub answers: Items<Answer>,
-    /// How many blocks that were wanted were kept.
+    /// The number of lookups that found their block in the cache.
     pub hits: u64,
-    /// How many were not.
+    /// The number of lookups that did not find their block in the cache.
     pub misses: u64,
 }
 
@@ -50,8 +52,8 @@ impl View {
         requires empty { self.old.cache.kept ≡ nothing_kept }
         requires may { MayView self.old.block self.old.cache.capacity ops.now }
         requires count { (L.LinkState.state link.old).faults < 2 ^ 64 - 1 }
-        ensures { Views self.old.block self.old.cache.capacity ops.now (at (seen_of self.old.session) (L.LinkState.state link.old))
-            (at (seen_of self.new.session) (L.LinkState.state link.new)) self.new.cache.kept result }
+        ensures { ViewsFiles self.old.block self.old.cache.capacity ops.now (run_state (seen_of self.old.session) (L.LinkState.state link.old))
+            (run_state (seen_of self.new.session) (L.LinkState.state link.new)) self.new.cache.kept result }
     {
         open(alloc, &mut self.session, link)?;
         let answers = self.run_all(alloc, link, ops)?;
@@ -60,7 +62,7 @@ impl View {
     }
 }
 
-/// The lane of a view, which has no call yet.
+/// Returns a session with the lane of a view, which has no call yet.
 fn new_session(alloc: Global, options: &SftpOptions) -> Result<Session, OutOfMemory>
     ensures { IfOk result (IsNew one_lane options.now) }
 {
@@ -71,7 +73,7 @@ fn new_session(alloc: Global, options: &SftpOptions) -> Result<Session, OutOfMem
     Session::new(alloc, lanes.as_slice(), options)
 }
 
-/// A new view whose blocks have this length, and that keeps so many of them.
+/// Returns a new view whose blocks have this length, and that keeps at most `capacity` of them.
 fn new_view(
     alloc: Global,
     block: u32,
@@ -90,16 +92,23 @@ fn new_view(
     })
 }
 
-/// Does operations on remote files over a link, through a cache of so many blocks of this length.
+/// Does operations on remote files over a link, through a cache of at most `capacity` blocks of this length.
 ///
-/// With Ok the report is that of a session that is over, and the link's log, where it tells one, shows VERSION and its
-/// journal. Of one lane, which has no calls at first, calls were added and run one at a time: just those that the operations
-/// make by the outcomes of these calls, as `viewed` says, and answers, hits and misses are those of `viewed`.
-/// `LinkFault` comes only where the link's count of faults rose, `LinkEnded` only where its last call found the end, and
-/// each other error but `OutOfMemory` is the first thing that is wrong with the frame that came last. After an error the
-/// log shows VERSION and a journal that is a run so far, or the hello, and then nothing, a prefix of the next frames to be
-/// sent, or bytes of one frame that wasn't taken, and none past it. Over a new link that gives VERSION 3, and to each request
-/// that was sent a reply that may be taken, and that has no fault, the error is `OutOfMemory`.
+/// With `Ok` the report is that of a session that is over. The link's log, if the link records one, shows VERSION and
+/// its journal. The one lane has no calls at first; calls were added to it and run one at a time. They are exactly
+/// those that the operations make by the outcomes of these calls, as `viewed` defines, and the answers, hits and misses
+/// are those of `viewed`.
+///
+/// # Errors
+///
+/// `LinkFault` only if the link's count of faults rose, and `LinkEnded` only if its last call found the end. Each other
+/// error except `OutOfMemory` is the first thing that is wrong with the frame that came last.
+///
+/// After an error the log shows VERSION and a journal that is a run so far, or the hello. After that it shows nothing,
+/// a prefix of the next frames to be sent, or bytes of one frame that wasn't taken, and none past it.
+///
+/// The error is `OutOfMemory` if the link is new, has no fault, returns VERSION 3, and returns for each request that
+/// was sent a reply that may be taken.
 pub fn run_view<L: Link>(
     alloc: Global,
     link: &mut L,
@@ -111,9 +120,9 @@ pub fn run_view<L: Link>(
     requires may { MayView block capacity ops.now }
     requires count { (L.LinkState.state link.old).faults < 2 ^ 64 - 1 }
     ensures run { IfOk result (λ r. IsViewReport block capacity ops.now options.now (L.LinkState.state link.old).log (L.LinkState.state link.new).log r) }
-    ensures stops { IfErr result (λ e. Told (EndsAs (given one_lane options.now) IsJournal (L.LinkState.state link.new).ended e) (L.LinkState.state link.old).log (L.LinkState.state link.new).log) }
-    ensures caused { Caused (L.LinkState.state link.old) (L.LinkState.state link.new) result }
-    ensures complete { IfErr result (StopsForMemory (given one_lane options.now) (L.LinkState.state link.old) (L.LinkState.state link.new)) }
+    ensures stops { IfErr result (λ e. IfLogged (EndsAs (session_inputs one_lane options.now) IsJournal (L.LinkState.state link.new).ended e) (L.LinkState.state link.old).log (L.LinkState.state link.new).log) }
+    ensures caused { IsCausedByLink (L.LinkState.state link.old) (L.LinkState.state link.new) result }
+    ensures complete { IfErr result (StopsForMemory (session_inputs one_lane options.now) (L.LinkState.state link.old) (L.LinkState.state link.new)) }
 {
     let mut view = match new_view(alloc, block, capacity, options) {
         Ok(view) => view,

@@ -13,7 +13,8 @@ front_twice : (front more : List NameEntry) (read : Result (List NameEntry × Li
 front_twice front more (Ok x) = ap (λ (l : List NameEntry). Ok (l, x.1)) (append_assoc front more x.0)
 front_twice front more (Err e) = refl
 
-pub entries_more : (front : List NameEntry) (n m : ℕ) (bytes rest : List ℕ) (entry : NameEntry) → n ≡ suc m → entry_at bytes ≡ Ok (entry, rest)
+pub entries_more : (front : List NameEntry) (n m : ℕ) (bytes rest : List ℕ) (entry : NameEntry) → n ≡ suc m
+    → entry_at bytes ≡ Ok (entry, rest)
     → with_prefix (front ++ entry ∷ []) (entries_at m rest) ≡ with_prefix front (entries_at n bytes)
 entries_more front n m bytes rest entry is h = rw (is, h) (front_twice front (entry ∷ []) (entries_at m rest))
 

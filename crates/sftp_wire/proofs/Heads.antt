@@ -5,7 +5,7 @@ use Rattle.sftp_model.specs.Numbers.{SSH_FXP_WRITE, MAX_BODY_LEN}
 use Rattle.sftp_model.specs.Frames.{of_type, request_body, request_frame}
 use Rattle.sftp_model.specs.declared.request.Request.{Request}
 use Rattle.sftp_model.specs.declared.request.Request.TheVariants as request
-use Rattle.sftp_wire.specs.Body.{saturated}
+use Rattle.sftp_wire.specs.Body.{saturated_length}
 use Rattle.sftp_wire.specs.Heads.{content_of, request_head}
 use Rattle.sftp_wire.proofs.Lengths.{length-string}
 
@@ -21,7 +21,7 @@ content_within handle offset content id =
 
 -- so it is counted as it is
 pub counted : (n limit : ℕ) (content pieces : List ℕ) → limit ≤ MAX_BODY_LEN → length content ≤ limit → pieces ≡ content
-    → n ≡ saturated (length pieces) → n ≡ length content
+    → n ≡ saturated_length (length pieces) → n ≡ length content
 counted n limit content pieces small within is measured =
     let same : length pieces ≡ length content = ap length is in omega (arith, measured, same)
 
@@ -34,5 +34,6 @@ head_and_content (request.Write handle offset content) id =
     append_assoc (uint32 (length (request_body (request.Write handle offset content) id)))
     (of_type SSH_FXP_WRITE id (string handle ++ uint64 offset ++ uint32 (length content))) content
     ∙ ap (λ l. uint32 (length (request_body (request.Write handle offset content) id)) ++ l)
-    (ap (λ l. SSH_FXP_WRITE ∷ l) (append_assoc (uint32 id) (string handle ++ uint64 offset ++ uint32 (length content)) content ∙ ap (λ l. uint32 id ++ l) flat))
+    (ap (λ l. SSH_FXP_WRITE ∷ l) (append_assoc (uint32 id) (string handle ++ uint64 offset ++ uint32 (length content))
+    content ∙ ap (λ l. uint32 id ++ l) flat))
 head_and_content other id = append-nil _

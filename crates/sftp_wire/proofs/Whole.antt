@@ -13,10 +13,12 @@ take_bytes n bytes fits i =
       | inr le ↦ rw (get_or_past (take n bytes) i 0 (omega (arith, length-take n bytes))) (omega arith)
     ]
 
-pub spelled : (bytes : List ℕ) → ((i : ℕ) → get_or bytes i 0 < 256) → 4 ≤ length bytes → length bytes ≡ 4 + told_len bytes → bytes ≡ string (drop 4 bytes)
+pub spelled : (bytes : List ℕ) → ((i : ℕ) → get_or bytes i 0 < 256) → 4 ≤ length bytes → length bytes
+    ≡ 4 + told_len bytes → bytes ≡ string (drop 4 bytes)
 unfolding string uint32
 spelled bytes fits some whole =
     let len : told_len bytes ≡ length (drop 4 bytes) = omega (arith, length-drop 4 bytes) in
     let four : length (take 4 bytes) ≡ 4 = omega (arith, length-take 4 bytes) in
-    let back : uint32 (told_len bytes) ≡ take 4 bytes = be_bytes_4 (take 4 bytes) (told_len bytes) four (take_bytes 4 bytes fits) refl in
+    let back : uint32 (told_len bytes) ≡ take 4 bytes = be_bytes_4 (take 4 bytes) (told_len bytes) four
+    (take_bytes 4 bytes fits) refl in
     sym (take-append-drop 4 bytes) ∙ ap (λ (w : List ℕ). w ++ drop 4 bytes) (sym back ∙ ap uint32 len)

@@ -1,3 +1,4 @@
+//! The table of bodies: the type byte and the fields of each request and reply.
 ghost use Rattle.std.specs.Prelude.{◌≡◌, [], ◌∷◌, ℕ, true, false};
 ghost use Rattle.sftp_model.specs.Frames.{request_body, reply_body};
 ghost use Rattle.sftp_wire.specs.declared.body.Field.TheVariants as fields;
@@ -29,7 +30,7 @@ pub(crate) enum Field<'a> {
     Raw(&'a [u8]),
 }
 
-/// The type byte and the fields of a request or a reply: both its length and its bytes are made from these.
+/// The type byte and the fields of a request or a reply. Both its length and its bytes are made from these.
 #[derive(Drop)]
 pub(crate) struct Body<'a> {
     pub(crate) kind: u8,
@@ -55,7 +56,7 @@ fn three<'a>(a: Field<'a>, b: Field<'a>, c: Field<'a>) -> [Field<'a>; 6]
     [a, b, c, Field::Nothing, Field::Nothing, Field::Nothing]
 }
 
-/// A body with an id.
+/// Returns a body with an id.
 fn of_type<'a>(kind: u8, fields: [Field<'a>; 6]) -> Body<'a>
     ensures { result ≡ record { kind = kind; has_id = true; fields = fields.entry } }
 {
@@ -66,7 +67,7 @@ fn of_type<'a>(kind: u8, fields: [Field<'a>; 6]) -> Body<'a>
     }
 }
 
-/// A body without an id.
+/// Returns a body without an id.
 fn without_id<'a>(kind: u8, fields: [Field<'a>; 6]) -> Body<'a>
     ensures { result ≡ record { kind = kind; has_id = false; fields = fields.entry } }
 {
@@ -78,8 +79,8 @@ fn without_id<'a>(kind: u8, fields: [Field<'a>; 6]) -> Body<'a>
 }
 
 impl<'a> Body<'a> {
-    /// The one table of requests (draft-ietf-secsh-filexfer-02, sections 4, 6 and 8; OpenSSH's PROTOCOL,
-    /// section 4).
+    /// Returns the body of a request: the one table of requests (draft-ietf-secsh-filexfer-02, sections 4, 6 and 8;
+    /// OpenSSH's PROTOCOL, section 4).
     #[tactic(auto, using(crate::proofs::Parts::joins), unfolding(sftp_model::specs::Frames::request_body))]
     pub(crate) fn of_request(request: &'a Request) -> Body<'a>
         ensures { (id : ℕ) → body_bytes result id ≡ request_body request.now id }
@@ -211,7 +212,7 @@ impl<'a> Body<'a> {
         }
     }
 
-    /// The one table of replies (draft-ietf-secsh-filexfer-02, sections 4 and 7).
+    /// Returns the body of a reply: the one table of replies (draft-ietf-secsh-filexfer-02, sections 4 and 7).
     #[tactic(auto, using(crate::proofs::Parts::joins), unfolding(sftp_model::specs::Frames::reply_body))]
     pub(crate) fn of_reply(reply: &'a Reply) -> Body<'a>
         ensures { (id : ℕ) → body_bytes result id ≡ reply_body reply.now id }

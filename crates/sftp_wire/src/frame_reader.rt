@@ -1,15 +1,18 @@
+//! A reader of frames that come in any pieces.
 ghost use Rattle.std.specs.Prelude.{◌≡◌, ◌≤◌, ◌==◌, length, ◌+◌, drop, None, Some, MatchOption, IfOk, IfSome, IfErr, OnOk};
 ghost use Rattle.ssh_encoding.specs.Writing.{string};
 ghost use Rattle.sftp_model.specs.Numbers.{MAX_BODY_LEN};
-ghost use Rattle.sftp_wire.specs.FrameReader.{nothing, need_of, body_of, Pushed, NotPushed, fault_of_len, told_len, len_of, missing_with};
+ghost use Rattle.sftp_wire.specs.FrameReader.{nothing, need_of, body_of, PushesBytes, NotPushed, fault_of_len, told_len, len_of, missing_with};
 
 use sftp_model::{FormatKind, FrameError, numbers};
 use ssh_encoding::{Decode, OutOfMemory};
 use std::alloc::Global;
 use std::marker::Model;
 
-/// Takes one frame in any pieces (draft-ietf-secsh-filexfer-02, section 3). A contract sees the bytes that
-/// were taken since it was cleared, and the refusal that it keeps.
+/// A reader that takes one frame in any pieces (draft-ietf-secsh-filexfer-02, section 3). A contract sees the bytes
+/// that were taken since it was cleared, and the error that it keeps.
+///
+/// Example: `crates/test_wire/src/wire/frames.rt`.
 #[derive(Drop)]
 pub struct FrameReader {
     alloc: Global,
@@ -28,8 +31,10 @@ impl Model for FrameReader {
     ghost invariant = { λ r. IsFront r.bytes.items r.body_len };
 }
 
-/// Memory that was taken for the next bytes of a frame. A contract sees for how many bytes it is, those that came
-/// before included.
+/// Memory allocated for the next bytes of a frame. A contract sees for how many bytes it is, including those that came
+/// before.
+///
+/// Used by the functions of this module.
 #[derive(Drop)]
 pub struct Reservation {
     bytes: Vec<u8>,
@@ -45,7 +50,7 @@ impl Model for Reservation {
     ghost invariant = { λ r. vec_len r.bytes ≡ 0 };
 }
 
-/// The length in the first four bytes, once they are there.
+/// Returns the length in the first four bytes, once they have come.
 fn told_len(alloc: Global, bytes: &[u8]) -> Option<u32>
     ensures { result ≡ len_of bytes.now }
 {
@@ -53,7 +58,7 @@ fn told_len(alloc: Global, bytes: &[u8]) -> Option<u32>
     u32::decode(alloc, &mut reader).ok()
 }
 
-/// What is wrong with a length.
+/// Returns the fault of a length, if it has one.
 fn fault(body_len: Option<u32>) -> Option<FormatKind>
     ensures { result ≡ fault_of_len body_len }
 {
@@ -65,7 +70,7 @@ fn fault(body_len: Option<u32>) -> Option<FormatKind>
     }
 }
 
-/// The bytes after the length, where just so many came.
+/// Returns the bytes after the length, if exactly that many came.
 fn body(bytes: &[u8]) -> &[u8]
     requires length { 4 ≤ length bytes.now }
     requires whole { length bytes.now ≡ 4 + told_len bytes.now }
@@ -78,7 +83,7 @@ fn body(bytes: &[u8]) -> &[u8]
 }
 
 impl FrameReader {
-    /// A reader of a frame of which nothing has come. Takes no memory.
+    /// Creates a reader of a frame of which no byte has come. Does not allocate.
     pub fn new(alloc: Global) -> FrameReader
         ensures { result ≡ nothing }
     {
@@ -90,8 +95,8 @@ impl FrameReader {
         }
     }
 
-    /// How many bytes are missing to the end of the length, or of the body: 0 exactly where a frame is whole,
-    /// and 1 after a refusal.
+    /// Returns the number of bytes that are missing to the end of the length, or of the body. It is 0 exactly if a
+    /// frame is whole, and 1 after an error.
     pub fn need(&self) -> usize
         ensures need { result ≡ need_of self.now }
         ensures bounded { self.now.refused ≡ None → length self.now.bytes + result ≤ 4 + MAX_BODY_LEN }
@@ -103,12 +108,18 @@ impl FrameReader {
         }
     }
 
-    /// Takes the next bytes, at most as many as are missing. `OutOfMemory` leaves the reader as it was. Where the
-    /// length is told then, `Format(Length)` exactly where it is 0, and `Format(Overflow)` exactly where it is over
-    /// `MAX_BODY_LEN`: these bytes aren't kept, and each further push is refused so, until `clear`.
+    /// Takes the next bytes, at most as many as are missing.
+    ///
+    /// # Errors
+    ///
+    /// - `OutOfMemory` if an allocation fails; the reader is unchanged.
+    /// - `Format(Length)` exactly if the length is then known and is 0.
+    /// - `Format(Overflow)` exactly if the length is then known and is over `MAX_BODY_LEN`.
+    ///
+    /// After a `Format` error these bytes are not kept, and each further push fails with the same error until `clear`.
     pub fn push(&mut self, bytes: &[u8]) -> Result<(), FrameError>
         requires { length bytes.now ≤ need_of self.old }
-        ensures ok { OnOk result (Pushed self.old bytes.now self.new) }
+        ensures ok { OnOk result (PushesBytes self.old bytes.now self.new) }
         ensures err { IfErr result (NotPushed self.old bytes.now self.new) }
     {
         if let Some(kind) = self.refused {
@@ -128,8 +139,12 @@ impl FrameReader {
         Ok(())
     }
 
-    /// Memory for what is missing, to be taken before the bytes themselves are taken from where they come from:
-    /// `push_reserved` takes none then. The reader stays as it is.
+    /// Allocates memory for the missing bytes, before the bytes themselves are taken from their source. `push_reserved`
+    /// then allocates nothing. The reader is unchanged.
+    ///
+    /// # Errors
+    ///
+    /// `OutOfMemory` if an allocation fails.
     pub fn reserve(&self) -> Result<Reservation, OutOfMemory>
         ensures { IfOk result (λ memory. length self.now.bytes + need_of self.now ≤ memory) }
     {
@@ -137,11 +152,15 @@ impl FrameReader {
         Ok(Reservation { bytes })
     }
 
-    /// `push` with memory that was taken before, so that it is never wanting.
+    /// Takes the next bytes as `push` does, with memory that was allocated before, so it cannot run out of memory.
+    ///
+    /// # Errors
+    ///
+    /// The `FormatKind` with which `push` would fail with `Format`.
     pub fn push_reserved(&mut self, memory: Reservation, bytes: &[u8]) -> Result<(), FormatKind>
         requires fits { length bytes.now ≤ need_of self.old }
         requires reserved { length self.old.bytes + length bytes.now ≤ memory }
-        ensures ok { OnOk result (Pushed self.old bytes.now self.new) }
+        ensures ok { OnOk result (PushesBytes self.old bytes.now self.new) }
         ensures err { IfErr result (λ kind. NotPushed self.old bytes.now self.new (FrameError.Format kind)) }
     {
         if let Some(kind) = self.refused {
@@ -160,14 +179,14 @@ impl FrameReader {
         Ok(())
     }
 
-    /// Whether no byte of a frame has come.
+    /// Returns true if no byte of a frame has come.
     pub fn is_empty(&self) -> bool
         ensures { result ≡ (length self.now.bytes == 0) }
     {
         self.bytes.is_empty()
     }
 
-    /// The body of the frame, once it is whole.
+    /// Returns the body of the frame, once it is whole.
     pub fn frame(&self) -> Option<&[u8]>
         ensures body { MatchOption result (body_of self.now ≡ None) (λ b. body_of self.now ≡ Some b.now) }
         ensures spelled { IfSome result (λ b. (self.now.bytes ≡ string b.now) × (length b.now ≤ MAX_BODY_LEN)) }
@@ -179,7 +198,7 @@ impl FrameReader {
         }
     }
 
-    /// Ready for the next frame; no memory is given back.
+    /// Makes the reader ready for the next frame. No memory is released.
     pub fn clear(&mut self)
         ensures { self.new ≡ nothing }
     {

@@ -1,6 +1,6 @@
-//! Frames of SFTP version 3, both ways: requests and replies as bytes, bytes as requests and replies, and
-//! a reader of frames that come in any pieces (draft-ietf-secsh-filexfer-02). The definitions that the contracts
-//! name stand in `sftp_model`.
+//! Frames of SFTP version 3 in both directions: requests and replies as bytes, bytes as requests and replies, and a
+//! reader of frames that come in any pieces (draft-ietf-secsh-filexfer-02). The definitions that the contracts name are
+//! in `sftp_model`.
 #![tactic(auto)]
 
 mod body;

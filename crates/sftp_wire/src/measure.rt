@@ -1,10 +1,10 @@
-//! How many bytes are written. A sum that passes the greatest `usize` stays there.
+//! The number of bytes of a body. A sum that passes the greatest `usize` stays there.
 ghost use Rattle.std.specs.Prelude.{◌≡◌, ℕ, length};
 ghost use Rattle.std.specs.List.{flat_map};
 ghost use Rattle.ssh_encoding.specs.Writing.{string};
-ghost use Rattle.sftp_model.specs.Pieces.{joined};
+ghost use Rattle.sftp_model.specs.Pieces.{joined_pieces};
 ghost use Rattle.sftp_model.specs.Frames.{bit, attributes, name_entry, extension_pair, extension_pairs, extension_table};
-ghost use Rattle.sftp_wire.specs.Body.{field_bytes, body_bytes, saturated, Measures};
+ghost use Rattle.sftp_wire.specs.Body.{field_bytes, body_bytes, saturated_length, IsLengthWithin};
 
 use crate::body::{Body, Field};
 use crate::names;
@@ -13,20 +13,20 @@ use bytes::Bytes;
 use sftp_model::{Extensions, FileAttrs, NameEntry, numbers};
 
 fn raw_len(bytes: &[u8]) -> usize
-    ensures { result ≡ saturated (length bytes.now) }
+    ensures { result ≡ saturated_length (length bytes.now) }
 {
     bytes.len()
 }
 
 #[tactic(auto, using(crate::proofs::Lengths::lengths))]
 fn text_len(bytes: &[u8]) -> usize
-    ensures { result ≡ saturated (length (string bytes.now)) }
+    ensures { result ≡ saturated_length (length (string bytes.now)) }
 {
     bytes.len().saturating_add(4)
 }
 
 pub(crate) fn pieces_len(pieces: &[Bytes]) -> usize
-    ensures { result ≡ saturated (length (joined pieces.now)) }
+    ensures { result ≡ saturated_length (length (joined_pieces pieces.now)) }
 {
     let mut total: usize = 0;
     for piece in pieces {
@@ -35,7 +35,7 @@ pub(crate) fn pieces_len(pieces: &[Bytes]) -> usize
     total
 }
 
-/// `n` where the field is there, else 0.
+/// Returns `n` if the field is present, otherwise 0.
 pub(crate) fn where_there<T: Copy>(field: &Option<T>, n: u32) -> u32
     ensures { result ≡ bit n field.now }
 {
@@ -58,7 +58,7 @@ fn attributes_len(attrs: &FileAttrs) -> usize
 
 #[tactic(auto, using(crate::proofs::Lengths::lengths))]
 fn entry_len(entry: &NameEntry) -> usize
-    ensures { result ≡ saturated (length (name_entry entry.now)) }
+    ensures { result ≡ saturated_length (length (name_entry entry.now)) }
 {
     let names = text_len(entry.filename.as_bytes()).saturating_add(text_len(
         entry.longname.as_slice(),
@@ -68,7 +68,7 @@ fn entry_len(entry: &NameEntry) -> usize
 
 #[tactic(auto, using(crate::proofs::Lengths::lengths))]
 fn entries_len(entries: &[NameEntry]) -> usize
-    ensures { result ≡ saturated (length (flat_map name_entry entries.now)) }
+    ensures { result ≡ saturated_length (length (flat_map name_entry entries.now)) }
 {
     let mut total: usize = 0;
     for entry in entries {
@@ -79,7 +79,7 @@ fn entries_len(entries: &[NameEntry]) -> usize
 
 #[tactic(auto, using(crate::proofs::Lengths::lengths))]
 fn pair_len(set: Extensions, extension: Extensions, name: &[u8]) -> usize
-    ensures { result ≡ saturated (length (extension_pair set.0 (name.now, extension.0))) }
+    ensures { result ≡ saturated_length (length (extension_pair set.0 (name.now, extension.0))) }
 {
     if set.bits() & extension.bits() == 0 {
         0
@@ -90,7 +90,7 @@ fn pair_len(set: Extensions, extension: Extensions, name: &[u8]) -> usize
 
 #[tactic(auto, using(crate::proofs::Lengths::lengths))]
 fn pairs_len(set: Extensions) -> usize
-    ensures { result ≡ saturated (length (extension_pairs set.0 extension_table)) }
+    ensures { result ≡ saturated_length (length (extension_pairs set.0 extension_table)) }
 {
     pair_len(set, Extensions::POSIX_RENAME, names::POSIX_RENAME)
         .saturating_add(pair_len(set, Extensions::HARDLINK, names::HARDLINK))
@@ -102,7 +102,7 @@ fn pairs_len(set: Extensions) -> usize
 
 #[tactic(auto, using(crate::proofs::Lengths::lengths))]
 fn field_len(field: &Field) -> usize
-    ensures { result ≡ saturated (length (field_bytes field.now)) }
+    ensures { result ≡ saturated_length (length (field_bytes field.now)) }
 {
     match *field {
         Field::Nothing => 0,
@@ -118,7 +118,7 @@ fn field_len(field: &Field) -> usize
 }
 
 fn fields_len(fields: &[Field]) -> usize
-    ensures { result ≡ saturated (length (flat_map field_bytes fields.now)) }
+    ensures { result ≡ saturated_length (length (flat_map field_bytes fields.now)) }
 {
     let mut total: usize = 0;
     for field in fields {
@@ -128,10 +128,10 @@ fn fields_len(fields: &[Field]) -> usize
 }
 
 impl<'a> Body<'a> {
-    /// The number of bytes; None exactly where it is over `MAX_BODY_LEN`.
+    /// Returns the number of bytes; None exactly if it is over `MAX_BODY_LEN`.
     #[tactic(auto, using(crate::proofs::Lengths::lengths))]
     pub(crate) fn len(&self) -> Option<u32>
-        ensures { (id : ℕ) → Measures result (length (body_bytes self.now id)) }
+        ensures { (id : ℕ) → IsLengthWithin result (length (body_bytes self.now id)) }
     {
         let head = if self.has_id { 5 } else { 1 };
         let len = fields_len(&self.fields).saturating_add(head);

@@ -1,4 +1,4 @@
-//! The names of the extensions (OpenSSH's PROTOCOL, section 4; `copy-data` is of
+//! The names of the extensions (OpenSSH's PROTOCOL, section 4; `copy-data` belongs to
 //! draft-ietf-secsh-filexfer-extensions-00, section 7).
 
 pub(crate) const POSIX_RENAME: &[u8] = b"posix-rename@openssh.com";

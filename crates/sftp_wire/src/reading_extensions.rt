@@ -1,4 +1,4 @@
-//! The fields of an EXTENDED after its name (OpenSSH's PROTOCOL, section 4; `copy-data` is of
+//! The fields of an EXTENDED after its name (OpenSSH's PROTOCOL, section 4; `copy-data` belongs to
 //! draft-ietf-secsh-filexfer-extensions-00, section 7).
 ghost use Rattle.std.specs.Prelude.{Some};
 ghost use Rattle.sftp_model.specs.declared.request.Request.TheVariants as request;
@@ -84,7 +84,8 @@ fn copy_data<R: Reader>(
     ))
 }
 
-/// The fields after the name of an extension. A name outside the six is `InvalidDiscriminant(SSH_FXP_EXTENDED)`.
+/// Reads the fields after the name of an extension. A name that is not one of the six is
+/// `InvalidDiscriminant(SSH_FXP_EXTENDED)`.
 #[tactic(auto, unfolding(sftp_model::specs::RequestReadings::extension_fields_at))]
 pub(crate) fn extension<R: Reader>(
     alloc: Global,

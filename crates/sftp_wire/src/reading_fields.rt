@@ -1,10 +1,11 @@
-//! Fields of a body, one after another (draft-ietf-secsh-filexfer-02, sections 3 and 5). A count takes no memory.
+//! Fields of a body, one after another (draft-ietf-secsh-filexfer-02, sections 3 and 5). A count by itself allocates
+//! nothing.
 ghost use Rattle.std.specs.Prelude.{◌≡◌, ◌==◌, ◌≤◌, true, false, length, nat_lt, OnOk, IfOk, IfErr};
 ghost use Rattle.sftp_model.specs.declared.frame_error.FrameError.TheVariants as errors;
 ghost use Rattle.sftp_model.specs.declared.frame_error.FormatKind.TheVariants as kinds;
 ghost use Rattle.sftp_model.specs.Numbers.{MAX_BODY_LEN, MAX_HANDLE_LEN};
 ghost use Rattle.sftp_model.specs.Readings.{uint32_at, uint64_at, text_at, two_numbers_at, where_set, behind_pairs, behind_counted_pairs, attributes_at};
-ghost use Rattle.sftp_wire.specs.Reading.{ReadsField, passed, passed_to};
+ghost use Rattle.sftp_wire.specs.Reading.{ReadsField, value_passed, passed_to};
 
 use bytes::Bytes;
 use sftp_model::{FileAttrs, FormatKind, FrameError, Handle, numbers};
@@ -84,9 +85,9 @@ fn two_where<R: Reader>(
     Ok(Some(two_numbers(alloc, reader)?))
 }
 
-/// Passes over a string; it takes no memory.
+/// Passes over a string. Does not allocate.
 fn skip_text<R: Reader>(reader: &mut R) -> Result<(), FrameError>
-    ensures { ReadsField (λ u. u) (R.left reader.new) result (passed (text_at (R.left reader.old))) }
+    ensures { ReadsField (λ u. u) (R.left reader.new) result (value_passed (text_at (R.left reader.old))) }
 {
     reader.drain_prefixed()?;
     Ok(())
@@ -119,7 +120,7 @@ fn counted_pairs_where<R: Reader>(
     Ok(Some(()))
 }
 
-/// Attributes; the extended pairs are passed over, and bits without a field too.
+/// Reads attributes. The extended pairs and the bits without a field are passed over.
 #[tactic(auto, unfolding(sftp_model::specs::Readings::attributes_at))]
 pub(crate) fn attributes<R: Reader>(alloc: Global, reader: &mut R) -> Result<FileAttrs, FrameError>
     ensures { ReadsField (λ a. a) (R.left reader.new) result (attributes_at (R.left reader.old)) }
@@ -154,7 +155,7 @@ pub(crate) fn attributes<R: Reader>(alloc: Global, reader: &mut R) -> Result<Fil
     })
 }
 
-/// `TrailingData` with their number exactly where bytes are left.
+/// Returns `TrailingData` with the number of bytes exactly if bytes are left.
 pub(crate) fn finished<R: Reader>(reader: &R) -> Result<(), FrameError>
     ensures ok { OnOk result ((length (R.left reader.now) == 0) ≡ true) }
     ensures err { IfErr result (λ e. ((length (R.left reader.now) == 0) ≡ false) × (e ≡ errors.Format (kinds.TrailingData (length (R.left reader.now))))) }
@@ -166,7 +167,7 @@ pub(crate) fn finished<R: Reader>(reader: &R) -> Result<(), FrameError>
     Err(FrameError::Format(FormatKind::TrailingData { remaining }))
 }
 
-/// The handle of these bytes; `HandleTooLong` exactly over `MAX_HANDLE_LEN`.
+/// Returns the handle of these bytes. `HandleTooLong` exactly over `MAX_HANDLE_LEN`.
 pub(crate) fn handle_of(bytes: &[u8]) -> Result<Handle, FrameError>
     requires { length bytes.now ≤ MAX_BODY_LEN }
     ensures ok { IfOk result (λ h. (nat_lt MAX_HANDLE_LEN (length bytes.now) ≡ false) × (h ≡ bytes.now)) }

@@ -1,4 +1,4 @@
-//! Replies (draft-ietf-secsh-filexfer-02, sections 4 and 7).
+//! Readers of replies (draft-ietf-secsh-filexfer-02, sections 4 and 7).
 ghost use Rattle.std.specs.Prelude.{◌≡◌, ◌++◌, [], ◌∷◌, OnOk, IfOk, IfErr};
 ghost use Rattle.ssh_encoding.specs.declared.error.Error.TheVariants as encoding;
 ghost use Rattle.sftp_model.specs.Readings.{with_id, without_id, pair_bit as bit_of_pair, named_bit as bit_of_name, extensions_at};
@@ -16,7 +16,7 @@ use sftp_values::{ByteText, Items};
 use ssh_encoding::{Decode, Reader};
 use std::alloc::Global;
 
-/// The bit of an extension's name; 0 for any other name.
+/// Returns the bit of an extension's name; 0 for any other name.
 fn named_bit(name: &[u8]) -> u32
     ensures { result ≡ bit_of_name extension_table name.now }
 {
@@ -37,7 +37,7 @@ fn named_bit(name: &[u8]) -> u32
     }
 }
 
-/// The bit that a pair of VERSION adds: only the value `1` counts.
+/// Returns the bit that a pair of VERSION adds: only the value `1` counts.
 fn pair_bit(name: &[u8], value: &[u8]) -> u32
     ensures { result ≡ bit_of_pair name.now value.now }
 {
@@ -48,7 +48,7 @@ fn pair_bit(name: &[u8], value: &[u8]) -> u32
     }
 }
 
-/// The bits of the pairs to the end.
+/// Reads the bits of the pairs up to the end.
 #[tactic(auto, unfolding(sftp_model::specs::Readings::extensions_at))]
 fn extensions<R: Reader>(alloc: Global, reader: &mut R) -> Result<u32, FrameError>
     ensures { GivesBody result (extensions_at (R.left reader.old)) }
@@ -66,7 +66,7 @@ fn extensions<R: Reader>(alloc: Global, reader: &mut R) -> Result<u32, FrameErro
     Ok(set)
 }
 
-/// VERSION. It has no id.
+/// Reads VERSION, which has no id.
 #[tactic(auto, unfolding(sftp_model::specs::ReplyReadings::version_at))]
 fn version<R: Reader>(alloc: Global, reader: &mut R) -> Result<(Option<u32>, Reply), FrameError>
     ensures { GivesBody result (to_end handles_of_reply (without_id version_at (R.left reader.old))) }
@@ -83,7 +83,7 @@ fn version<R: Reader>(alloc: Global, reader: &mut R) -> Result<(Option<u32>, Rep
     ))
 }
 
-/// STATUS
+/// Reads STATUS.
 #[tactic(auto, unfolding(sftp_model::specs::ReplyReadings::status_at))]
 fn status<R: Reader>(alloc: Global, reader: &mut R) -> Result<(Option<u32>, Reply), FrameError>
     ensures { GivesBody result (to_end handles_of_reply (with_id status_at (R.left reader.old))) }
@@ -103,7 +103,7 @@ fn status<R: Reader>(alloc: Global, reader: &mut R) -> Result<(Option<u32>, Repl
     ))
 }
 
-/// HANDLE. `HandleTooLong` only where nothing is left.
+/// Reads HANDLE. `HandleTooLong` only if no bytes are left.
 #[tactic(auto, unfolding(sftp_model::specs::ReplyReadings::handle_at))]
 fn handle<R: Reader>(alloc: Global, reader: &mut R) -> Result<(Option<u32>, Reply), FrameError>
     ensures { GivesBody result (to_end handles_of_reply (with_id handle_at (R.left reader.old))) }
@@ -115,7 +115,7 @@ fn handle<R: Reader>(alloc: Global, reader: &mut R) -> Result<(Option<u32>, Repl
     Ok((Some(id), Reply::Handle(handle)))
 }
 
-/// DATA
+/// Reads DATA.
 #[tactic(auto, unfolding(sftp_model::specs::ReplyReadings::content_at))]
 fn content<R: Reader>(alloc: Global, reader: &mut R) -> Result<(Option<u32>, Reply), FrameError>
     ensures { GivesBody result (to_end handles_of_reply (with_id content_at (R.left reader.old))) }
@@ -148,7 +148,7 @@ fn add(entries: &mut Vec<NameEntry>, entry: NameEntry) -> Result<(), ssh_encodin
     Ok(())
 }
 
-/// So many entries, one by one: the count takes no memory.
+/// Reads this many entries, one by one. The count by itself allocates nothing.
 fn entries<R: Reader>(
     alloc: Global,
     count: u32,
@@ -164,7 +164,7 @@ fn entries<R: Reader>(
     Ok(entries)
 }
 
-/// NAME
+/// Reads NAME.
 #[tactic(auto, unfolding(sftp_model::specs::ReplyReadings::names_at))]
 fn listing<R: Reader>(alloc: Global, reader: &mut R) -> Result<(Option<u32>, Reply), FrameError>
     ensures { GivesBody result (to_end handles_of_reply (with_id names_at (R.left reader.old))) }
@@ -176,7 +176,7 @@ fn listing<R: Reader>(alloc: Global, reader: &mut R) -> Result<(Option<u32>, Rep
     Ok((Some(id), Reply::Names(Items::new(names))))
 }
 
-/// ATTRS
+/// Reads ATTRS.
 #[tactic(auto, unfolding(sftp_model::specs::ReplyReadings::attrs_at))]
 fn attrs<R: Reader>(alloc: Global, reader: &mut R) -> Result<(Option<u32>, Reply), FrameError>
     ensures { GivesBody result (to_end handles_of_reply (with_id attrs_at (R.left reader.old))) }
@@ -187,7 +187,7 @@ fn attrs<R: Reader>(alloc: Global, reader: &mut R) -> Result<(Option<u32>, Reply
     Ok((Some(id), Reply::Attrs(attrs)))
 }
 
-/// All bytes that are left.
+/// Reads all bytes that are left.
 fn rest<R: Reader>(alloc: Global, reader: &mut R) -> Result<Vec<u8>, ssh_encoding::Error>
     ensures ok { IfOk result (λ v. v.items ≡ R.left reader.old) }
     ensures err { IfErr result (λ e. e ≡ encoding.OutOfMemory) }
@@ -197,7 +197,7 @@ fn rest<R: Reader>(alloc: Global, reader: &mut R) -> Result<Vec<u8>, ssh_encodin
     Ok(bytes)
 }
 
-/// EXTENDED_REPLY
+/// Reads EXTENDED_REPLY.
 #[tactic(auto, unfolding(sftp_model::specs::ReplyReadings::extended_at))]
 fn extended<R: Reader>(alloc: Global, reader: &mut R) -> Result<(Option<u32>, Reply), FrameError>
     ensures { GivesBody result (to_end handles_of_reply (with_id extended_at (R.left reader.old))) }
@@ -207,9 +207,12 @@ fn extended<R: Reader>(alloc: Global, reader: &mut R) -> Result<(Option<u32>, Re
     Ok((Some(id), Reply::Extended(ByteText::new(content))))
 }
 
-/// Reads the body of a reply, and its id, which VERSION alone lacks. `Format` and `HandleTooLong` tell the first
-/// thing that is wrong, from the first byte on (draft-ietf-secsh-filexfer-02, sections 3, 4 and 7); `OutOfMemory` may
-/// come in place of any answer. A count takes no memory by itself.
+/// Reads the body of a reply, and its id, which only VERSION lacks. A count by itself allocates nothing.
+///
+/// # Errors
+///
+/// `Format` and `HandleTooLong` report the first thing that is wrong, starting at the first byte
+/// (draft-ietf-secsh-filexfer-02, sections 3, 4 and 7). `OutOfMemory` may come in place of any result.
 #[tactic(auto, unfolding(sftp_model::specs::ReplyReadings::reply_at, sftp_model::specs::ReplyReadings::reply_fields_at))]
 pub fn read_reply(alloc: Global, body: &[u8]) -> Result<(Option<u32>, Reply), FrameError>
     ensures { GivesBody result (reply_at body.now) }
@@ -228,9 +231,13 @@ pub fn read_reply(alloc: Global, body: &[u8]) -> Result<(Option<u32>, Reply), Fr
     }
 }
 
-/// Reads the content of the EXTENDED_REPLY to the query for limits: four numbers, in 32 bytes. `Format(Length)` where
-/// they are fewer and `Format(TrailingData)` where they are more; `OutOfMemory` may come in place of any answer
-/// (OpenSSH's PROTOCOL, section 4.8).
+/// Reads the content of the EXTENDED_REPLY to the query for limits: four numbers, in 32 bytes (OpenSSH's PROTOCOL,
+/// section 4.8).
+///
+/// # Errors
+///
+/// `Format(Length)` if there are fewer bytes, and `Format(TrailingData)` if there are more. `OutOfMemory` may come in
+/// place of any result.
 #[tactic(auto, unfolding(sftp_model::specs::ReplyReadings::limits_at))]
 pub fn read_limits(alloc: Global, content: &[u8]) -> Result<Limits, FrameError>
     ensures { GivesBody result (limits_at content.now) }

@@ -1,4 +1,4 @@
-//! Requests (draft-ietf-secsh-filexfer-02, sections 4 and 6).
+//! Readers of requests (draft-ietf-secsh-filexfer-02, sections 4 and 6).
 ghost use Rattle.std.specs.Prelude.{◌≡◌, Some, IfOk, IfErr};
 ghost use Rattle.ssh_encoding.specs.declared.error.Error.TheVariants as encoding;
 ghost use Rattle.sftp_model.specs.declared.request.Request.TheVariants as request;
@@ -15,7 +15,7 @@ use sftp_model::{Content, FormatKind, FrameError, OpenFlags, RemotePath, Request
 use ssh_encoding::{Decode, Reader};
 use std::alloc::Global;
 
-/// The hello. It has no id.
+/// Reads the hello, which has no id.
 #[tactic(auto, unfolding(sftp_model::specs::RequestReadings::init_at))]
 fn init<R: Reader>(alloc: Global, reader: &mut R) -> Result<(Option<u32>, Request), FrameError>
     ensures { GivesBody result (to_end handles_of_request (without_id init_at (R.left reader.old))) }
@@ -25,7 +25,7 @@ fn init<R: Reader>(alloc: Global, reader: &mut R) -> Result<(Option<u32>, Reques
     Ok((None, Request::Init { version }))
 }
 
-/// OPEN
+/// Reads OPEN.
 #[tactic(auto, unfolding(sftp_model::specs::RequestReadings::open_at))]
 fn open_file<R: Reader>(
     alloc: Global,
@@ -48,7 +48,7 @@ fn open_file<R: Reader>(
     ))
 }
 
-/// READ
+/// Reads READ.
 #[tactic(auto, unfolding(sftp_model::specs::RequestReadings::read_at))]
 fn read<R: Reader>(
     alloc: Global,
@@ -72,7 +72,7 @@ fn read<R: Reader>(
     ))
 }
 
-/// Bytes as the one piece of a content.
+/// Returns bytes as the one piece of a content. Fails only if an allocation fails.
 fn content_of(alloc: Global, bytes: Bytes) -> Result<Content, ssh_encoding::Error>
     ensures ok { IfOk result (λ content. content ≡ bytes) }
     ensures err { IfErr result (λ e. e ≡ encoding.OutOfMemory) }
@@ -82,7 +82,7 @@ fn content_of(alloc: Global, bytes: Bytes) -> Result<Content, ssh_encoding::Erro
     Ok(content)
 }
 
-/// WRITE
+/// Reads WRITE.
 #[tactic(auto, unfolding(sftp_model::specs::RequestReadings::write_at))]
 fn write<R: Reader>(
     alloc: Global,
@@ -107,7 +107,7 @@ fn write<R: Reader>(
     ))
 }
 
-/// FSETSTAT
+/// Reads FSETSTAT.
 #[tactic(auto, unfolding(sftp_model::specs::RequestReadings::text_and_attributes_at))]
 fn fsetstat<R: Reader>(
     alloc: Global,
@@ -123,7 +123,7 @@ fn fsetstat<R: Reader>(
     Ok((Some(id), Request::Fsetstat { handle, attrs }))
 }
 
-/// CLOSE
+/// Reads CLOSE.
 fn close<R: Reader>(
     alloc: Global,
     id: u32,
@@ -135,7 +135,7 @@ fn close<R: Reader>(
     Ok((Some(id), Request::Close { handle }))
 }
 
-/// FSTAT
+/// Reads FSTAT.
 fn fstat<R: Reader>(
     alloc: Global,
     id: u32,
@@ -147,7 +147,7 @@ fn fstat<R: Reader>(
     Ok((Some(id), Request::Fstat { handle }))
 }
 
-/// READDIR
+/// Reads READDIR.
 fn readdir<R: Reader>(
     alloc: Global,
     id: u32,
@@ -159,7 +159,7 @@ fn readdir<R: Reader>(
     Ok((Some(id), Request::Readdir { handle }))
 }
 
-/// LSTAT
+/// Reads LSTAT.
 fn lstat<R: Reader>(
     alloc: Global,
     id: u32,
@@ -171,7 +171,7 @@ fn lstat<R: Reader>(
     Ok((Some(id), Request::Lstat { path }))
 }
 
-/// OPENDIR
+/// Reads OPENDIR.
 fn opendir<R: Reader>(
     alloc: Global,
     id: u32,
@@ -183,7 +183,7 @@ fn opendir<R: Reader>(
     Ok((Some(id), Request::Opendir { path }))
 }
 
-/// REMOVE
+/// Reads REMOVE.
 fn remove<R: Reader>(
     alloc: Global,
     id: u32,
@@ -195,7 +195,7 @@ fn remove<R: Reader>(
     Ok((Some(id), Request::Remove { path }))
 }
 
-/// RMDIR
+/// Reads RMDIR.
 fn rmdir<R: Reader>(
     alloc: Global,
     id: u32,
@@ -207,7 +207,7 @@ fn rmdir<R: Reader>(
     Ok((Some(id), Request::Rmdir { path }))
 }
 
-/// REALPATH
+/// Reads REALPATH.
 fn realpath<R: Reader>(
     alloc: Global,
     id: u32,
@@ -219,7 +219,7 @@ fn realpath<R: Reader>(
     Ok((Some(id), Request::Realpath { path }))
 }
 
-/// STAT
+/// Reads STAT.
 fn stat<R: Reader>(
     alloc: Global,
     id: u32,
@@ -231,7 +231,7 @@ fn stat<R: Reader>(
     Ok((Some(id), Request::Stat { path }))
 }
 
-/// READLINK
+/// Reads READLINK.
 fn readlink<R: Reader>(
     alloc: Global,
     id: u32,
@@ -243,7 +243,7 @@ fn readlink<R: Reader>(
     Ok((Some(id), Request::Readlink { path }))
 }
 
-/// SETSTAT
+/// Reads SETSTAT.
 fn setstat<R: Reader>(
     alloc: Global,
     id: u32,
@@ -255,7 +255,7 @@ fn setstat<R: Reader>(
     Ok((Some(id), Request::Setstat { path, attrs }))
 }
 
-/// MKDIR
+/// Reads MKDIR.
 fn mkdir<R: Reader>(
     alloc: Global,
     id: u32,
@@ -267,7 +267,7 @@ fn mkdir<R: Reader>(
     Ok((Some(id), Request::Mkdir { path, attrs }))
 }
 
-/// RENAME
+/// Reads RENAME.
 fn rename<R: Reader>(
     alloc: Global,
     id: u32,
@@ -279,7 +279,7 @@ fn rename<R: Reader>(
     Ok((Some(id), Request::Rename { old, to }))
 }
 
-/// SYMLINK: what the link will name, and then the link.
+/// Reads SYMLINK: the target of the link, and then the link.
 fn symlink<R: Reader>(
     alloc: Global,
     id: u32,
@@ -291,7 +291,7 @@ fn symlink<R: Reader>(
     Ok((Some(id), Request::Symlink { src, dst }))
 }
 
-/// EXTENDED (section 8).
+/// Reads EXTENDED (section 8).
 #[tactic(auto, unfolding(sftp_model::specs::RequestReadings::extended_request_at))]
 fn extended<R: Reader>(
     alloc: Global,
@@ -304,11 +304,13 @@ fn extended<R: Reader>(
     extension(alloc, id, &name, reader)
 }
 
-/// Reads the body of a request, and its id, which the hello alone lacks. `Format` and `HandleTooLong` tell the
-/// first thing that is wrong, from the first byte on, and a handle over `MAX_HANDLE_LEN` last
-/// (draft-ietf-secsh-filexfer-02, sections 3, 4, 6 and 8); an EXTENDED by another name than the six is
-/// `InvalidDiscriminant(SSH_FXP_EXTENDED)`. `OutOfMemory` may come in place of any answer. A count takes no memory by
-/// itself.
+/// Reads the body of a request, and its id, which only the hello lacks. A count by itself allocates nothing.
+///
+/// # Errors
+///
+/// `Format` and `HandleTooLong` report the first thing that is wrong, starting at the first byte. A handle over
+/// `MAX_HANDLE_LEN` is reported last (draft-ietf-secsh-filexfer-02, sections 3, 4, 6 and 8). An EXTENDED whose name is
+/// not one of the six is `InvalidDiscriminant(SSH_FXP_EXTENDED)`. `OutOfMemory` may come in place of any result.
 #[tactic(auto, unfolding(sftp_model::specs::RequestReadings::request_at, sftp_model::specs::RequestReadings::request_fields_at))]
 pub fn read_request(alloc: Global, body: &[u8]) -> Result<(Option<u32>, Request), FrameError>
     ensures { GivesBody result (request_at body.now) }

@@ -1,4 +1,5 @@
-//! The fields that several requests share, to the end of the body (draft-ietf-secsh-filexfer-02, section 6).
+//! Readers of the fields that several requests share, up to the end of the body (draft-ietf-secsh-filexfer-02, section
+//! 6).
 ghost use Rattle.std.specs.Prelude.{◌≡◌, [], ◌∷◌, ℕ, List, Option};
 ghost use Rattle.sftp_model.specs.declared.file_attrs.FileAttrs.{FileAttrs as AttributesSeen};
 ghost use Rattle.sftp_model.specs.declared.request.Request.{Request as RequestSeen};
@@ -10,7 +11,7 @@ use sftp_model::{FileAttrs, FrameError, Handle, RemotePath};
 use ssh_encoding::Reader;
 use std::alloc::Global;
 
-/// A path alone.
+/// Reads a path alone.
 #[tactic(auto, unfolding(sftp_model::specs::RequestReadings::one_text_at))]
 pub(crate) fn one_path<R: Reader>(alloc: Global, reader: &mut R) -> Result<RemotePath, FrameError>
     ensures { (made : List ℕ → RequestSeen) (id : Option ℕ) → ((path : List ℕ) → handles_of_request (made path) ≡ [])
@@ -21,7 +22,7 @@ pub(crate) fn one_path<R: Reader>(alloc: Global, reader: &mut R) -> Result<Remot
     Ok(RemotePath::new(path))
 }
 
-/// A handle alone.
+/// Reads a handle alone.
 #[tactic(auto, unfolding(sftp_model::specs::RequestReadings::one_text_at))]
 pub(crate) fn one_handle<R: Reader>(alloc: Global, reader: &mut R) -> Result<Handle, FrameError>
     ensures { (made : List ℕ → RequestSeen) (id : Option ℕ) → ((handle : List ℕ) → handles_of_request (made handle) ≡ handle ∷ [])
@@ -32,7 +33,7 @@ pub(crate) fn one_handle<R: Reader>(alloc: Global, reader: &mut R) -> Result<Han
     handle_of(&handle)
 }
 
-/// Two paths.
+/// Reads two paths.
 #[tactic(auto, unfolding(sftp_model::specs::RequestReadings::two_texts_at))]
 pub(crate) fn two_paths<R: Reader>(
     alloc: Global,
@@ -47,7 +48,7 @@ pub(crate) fn two_paths<R: Reader>(
     Ok((RemotePath::new(first), RemotePath::new(second)))
 }
 
-/// A path and attributes.
+/// Reads a path and attributes.
 #[tactic(auto, unfolding(sftp_model::specs::RequestReadings::text_and_attributes_at))]
 pub(crate) fn path_and_attributes<R: Reader>(
     alloc: Global,

@@ -1,7 +1,7 @@
-pub mod Prefix
-pub mod Suffix
-pub mod Text
-pub mod Texts
+mod Prefix
+mod Suffix
+mod Text
+mod Texts
 pub mod Parts
 pub mod Lists
-pub mod Numbers
+mod Numbers

@@ -41,7 +41,7 @@ use Rattle.std.proofs.lemmas.Grind.{flat_map-append}
 use Rattle.std.proofs.lemmas.List.{take-append-drop}
 use Rattle.ssh_encoding.specs.declared.error.Error.{Error}
 use Rattle.ssh_encoding.specs.declared.error.Error.TheVariants.{OutOfMemory, Length}
-use Rattle.ssh_encoding.specs.Writing.{IsPart, Counts, string, uint32, string_refusal, len_refusal, max_usize, max_uint32}
+use Rattle.ssh_encoding.specs.Writing.{IsPart, CountsBytes, string, uint32, string_refusal, len_refusal, max_usize, max_uint32}
 use Rattle.ssh_encoding.proofs.Parts.{part_after, part_more}
 
 -- one value more
@@ -72,24 +72,29 @@ flat_map_room f xs i x h e =
     ) (omega arith)
 
 -- a sum that a further value takes over the limit
-pub counts_over : {X : Type 0} (f : X → List ℕ) (xs : List X) (i : ℕ) (x : X) (r : Result ℕ Error) (e : Error) → i < length xs → x ≡ get_or xs i x
-    → IsErrAnd r (λ d. d ≡ e) → e ≡ Length → max_usize < length (flat_map f (take i xs)) + length (f x) → Counts r (length (flat_map f xs))
+pub counts_over : {X : Type 0} (f : X → List ℕ) (xs : List X) (i : ℕ) (x : X) (r : Result ℕ Error) (e : Error)
+    → i < length xs → x ≡ get_or xs i x
+    → IsErrAnd r (λ d. d ≡ e) → e ≡ Length → max_usize < length (flat_map f (take i xs)) + length (f x)
+    → CountsBytes r (length (flat_map f xs))
 counts_over f xs i x (Ok n) e h is s l over = absurd s
-counts_over f xs i x (Err d) e h is s l over = let room = flat_map_room f xs i x h is in (s ∙ l, omega (arith, room, over))
+counts_over f xs i x (Err d) e h is s l over = let room = flat_map_room f xs i x h is in
+    (s ∙ l, omega (arith, room, over))
 
 -- a string within the limit isn't refused
 pub string_fits : (written content : List ℕ) (refusal : Option Error) → written ≡ string content → refusal
     ≡ string_refusal content → length written ≤ max_uint32 → refusal ≡ None
 unfolding string len_refusal
 string_fits written content refusal w r h =
-    let more : length content ≤ length written = rw (w, length-append (uint32 (length content)) content) (omega arith) in
+    let more : length content ≤ length written = rw (w, length-append (uint32 (length content)) content) (omega arith)
+    in
     let short : ltb max_uint32 (length content) ≡ false = le-ltb _ _ (omega (arith, more, h)) in
     rw (r, short) refl
 
 -- a value in the middle found no memory
 pub stops_within : {T : Type 0} (old mid new before one after all : List ℕ) (r : Result T Error) (e : Error)
     (refusal : Option Error) → all ≡ before ++ one ++ after → mid ≡ old ++ before → refusal ≡ None
-    → IsErrAnd r (λ d. d ≡ e) → IsPart mid new one × ((e ≡ OutOfMemory) ⊎ (refusal ≡ Some e)) → IfErr r (λ d. (d ≡ OutOfMemory) × IsPart old new all)
+    → IsErrAnd r (λ d. d ≡ e) → IsPart mid new one × ((e ≡ OutOfMemory) ⊎ (refusal ≡ Some e))
+    → IfErr r (λ d. (d ≡ OutOfMemory) × IsPart old new all)
 stops_within old mid new before one after all (Ok v) e refusal a m none s h = absurd s
 stops_within old mid new before one after all (Err d) e refusal a m none s h = (
   s ∙ elim h.1 [
@@ -102,4 +107,5 @@ stops_within old mid new before one after all (Err d) e refusal a m none s h = (
 
 pub length_step : {X : Type 0} (f : X → List ℕ) (xs : List X) (i : ℕ) (x : X) → i < length xs → x ≡ get_or xs i x
     → length (flat_map f (take (i + 1) xs)) ≡ length (flat_map f (take i xs)) + length (f x)
-length_step f xs i x h e = ap (λ l. length l) (flat_map_step f xs i x h e) ∙ length-append (flat_map f (take i xs)) (f x)
+length_step f xs i x h e = ap (λ l. length l) (flat_map_step f xs i x h e)
+    ∙ length-append (flat_map f (take i xs)) (f x)

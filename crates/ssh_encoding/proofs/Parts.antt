@@ -36,7 +36,13 @@ pub part_none : (old new list : List ℕ) → new ≡ old → IsPart old new lis
 part_none old new list h = record { part = []; more = list; whole = refl; added = h ∙ sym (append-nil old) }
 
 pub part_more : (old new a b : List ℕ) → IsPart old new a → IsPart old new (a ++ b)
-part_more old new a b h = record { part = h.part; more = h.more ++ b; whole = ap (λ l. l ++ b) h.whole ∙ append_assoc h.part h.more b; added = h.added }
+part_more old new a b h = record {
+  part = h.part;
+  more = h.more ++ b;
+  whole = ap (λ l. l ++ b) h.whole
+      ∙ append_assoc h.part h.more b;
+  added = h.added;
+}
 
 pub part_after : (old mid new a b : List ℕ) → mid ≡ old ++ a → IsPart mid new b → IsPart old new (a ++ b)
 part_after old mid new a b m h = record {
@@ -54,7 +60,10 @@ pub stops : {T : Type 0} (old new a b : List ℕ) (r : Result T Error) (e : Erro
     → IsErrAnd r (λ d. d ≡ e) → IsPart old new a × ((e ≡ OutOfMemory) ⊎ (first ≡ Some e))
     → (first ≡ Some e → all ≡ Some e) → WritesValue old new r (a ++ b) all
 stops old new a b (Ok v) e first all s h k = absurd s
-stops old new a b (Err d) e first all s h k = rw s (part_more old new a b h.0, elim h.1 [ inl m ↦ inl m | inr q ↦ inr (k q) ])
+stops old new a b (Err d) e first all s h k = rw s (
+  part_more old new a b h.0,
+  elim h.1 [ inl m ↦ inl m | inr q ↦ inr (k q) ],
+)
 
 -- the first of two lists was written
 pub goes : {T : Type 0} (old mid new a b : List ℕ) (r : Result T Error) (refusal : Option Error) → mid ≡ old ++ a
@@ -77,11 +86,13 @@ unfolding prefixed_refusal
 prefixed_is n last h = let short : ltb max_usize n ≡ false = le-ltb _ _ h in rw short refl
 
 -- the length itself is refused
-pub prefixed_stops : (n : ℕ) (last : Option Error) (e : Error) → n ≤ max_usize → len_refusal n ≡ Some e → prefixed_refusal n last ≡ Some e
+pub prefixed_stops : (n : ℕ) (last : Option Error) (e : Error) → n ≤ max_usize → len_refusal n ≡ Some e
+    → prefixed_refusal n last ≡ Some e
 prefixed_stops n last e h k = rw (prefixed_is n last h, k) refl
 
 -- the length was written
-pub prefixed_goes : (n : ℕ) (last : Option Error) → n ≤ max_usize → len_refusal n ≡ None → prefixed_refusal n last ≡ last
+pub prefixed_goes : (n : ℕ) (last : Option Error) → n ≤ max_usize → len_refusal n ≡ None → prefixed_refusal n last
+    ≡ last
 prefixed_goes n last h k = rw (prefixed_is n last h, k) refl
 
 len_fits_at : (n : ℕ) (t : Bool) → ltb max_uint32 n ≡ t → cond t (Some Overflow) None ≡ None → n ≤ max_uint32

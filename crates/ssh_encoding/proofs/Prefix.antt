@@ -9,9 +9,11 @@ module _ {F S T A : Type 0} (g : Once F (MutBor S × Unit {0}) (Result T Error �
     (left : S → List ℕ) (gives : Error → Error → Type 0) (f : F) (seen : T → A) (memory : Error → Type 0)
     (reading : List ℕ → Result (A × List ℕ) Error) where
   -- a closure that reads what stands after a length
-  pub reads_prefixed : (old : List ℕ) (result : Result T Error) (new : List ℕ) (prefix : Result (List ℕ × List ℕ) (Error × List ℕ))
+  pub reads_prefixed : (old : List ℕ) (result : Result T Error) (new : List ℕ)
+      (prefix : Result (List ℕ × List ℕ) (Error × List ℕ))
       → ((d e : Error) → gives d e → e ≡ d)
-      → ((inner after : S) → FnOnceReturnsAtMut g f inner result after → DecodesAs seen memory (left after) result (reading (left inner)))
+      → ((inner after : S) → FnOnceReturnsAtMut g f inner result after
+      → DecodesAs seen memory (left after) result (reading (left inner)))
       → ReadsPrefixed g left gives f old result new prefix
       → DecodesAs seen memory new result (inside reading prefix)
   reads_prefixed old (Ok v) new (Ok p) same calls h =
@@ -23,8 +25,10 @@ module _ {F S T A : Type 0} (g : Once F (MutBor S × Unit {0}) (Result T Error �
 
 -- a string that fits was read after its length
 pub reads_within : {T : Type 0} (seen : T → List ℕ) (old mid new inner : List ℕ) (most : ℕ) (r : Result T Error)
-    → prefix_at old ≡ Ok (inner, drop (length inner) mid) → inner ≡ take (length inner) mid → length inner ≤ length mid → length inner ≤ most
-    → IfOk r (λ v. (seen v ≡ take (length inner) mid) × (new ≡ drop (length inner) mid)) → IfErr r (λ e. length mid < length inner)
+    → prefix_at old ≡ Ok (inner, drop (length inner) mid) → inner ≡ take (length inner) mid → length inner ≤ length mid
+    → length inner ≤ most
+    → IfOk r (λ v. (seen v ≡ take (length inner) mid) × (new ≡ drop (length inner) mid))
+    → IfErr r (λ e. length mid < length inner)
     → ReadsTo seen new r (string_within most old)
 unfolding string_within
 reads_within seen old mid new inner most (Ok v) is front room fits ok err =

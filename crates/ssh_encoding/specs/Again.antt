@@ -1,4 +1,4 @@
--- Laws: what is written spells the value.
+-- Laws: the bytes that are written spell the value.
 use Rattle.std.specs.Prelude.{ℕ, ◌≡◌, ◌<◌, ◌≤◌, ◌^◌, Bool, true, false, List, [], ◌∷◌, ◌++◌, length, Result, Ok, refl}
 use Rattle.std.proofs.Common.{sym, ap, arith, length-append}
 use Rattle.std.specs.Int.{w32, w64}
@@ -73,12 +73,12 @@ label_again meaning v name short u means = record {
   means = means;
 }
 
--- each text is UTF-8
+-- True if each text is UTF-8.
 abbrev pub AreUtf8 : List (List ℕ) → Type 0
 AreUtf8 [] = Unit {0}
 AreUtf8 (v ∷ vs) = (is_utf8 v ≡ true) × AreUtf8 vs
 
--- the strings of texts, one after another
+-- The strings of texts, one after another.
 abbrev pub texts_written : List (List ℕ) → List ℕ
 texts_written = flat_map string
 
@@ -98,7 +98,7 @@ texts_again (v ∷ vs) h u =
       refl,
     )
 
--- the list as it is written, by its texts
+-- The list as it is written, by its texts.
 written_as : {A : Type 0} (items : List (String A)) → flat_map (λ s. string (string_bytes s)) items
     ≡ texts_written (texts_of items)
 written_as [] = refl

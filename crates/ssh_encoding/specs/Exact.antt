@@ -1,4 +1,4 @@
--- Laws: what a reading takes is a spelling of the value, and a spelling is what it takes.
+-- Laws: a reading takes a spelling of the value, and it takes every spelling.
 use Rattle.std.specs.Prelude.{
   ℕ,
   zero,
@@ -35,14 +35,14 @@ use Rattle.ssh_encoding.specs.declared.error.Error.TheVariants as errors
 use Rattle.ssh_encoding.specs.Canonical.{is_canonical}
 use Rattle.ssh_encoding.specs.Reading.{
   ◌>>=◌,
-  tested,
+  tested_value,
   bytes_at,
   number_at,
   byte_at,
   bool_at,
   len_at,
   prefix_at,
-  prefixed,
+  prefixed_value,
   inside,
   all_at,
   string_at,
@@ -71,56 +71,56 @@ use Rattle.ssh_encoding.specs.Spelling.{
   IsLabel,
 }
 
--- ---- steps of a reading
+-- ---- Steps of a reading
 
 ok_is : {A E : Type 0} (x y : A) → (let r : Result A E = Ok x in r) ≡ Ok y → x ≡ y
 ok_is x y e = cc
 
--- a test that did not fail
+-- A test that did not fail.
 guard_ok : {A E : Type 0} (b : Bool) (d : E) (x y : A) → cond b (Err d) (Ok x) ≡ Ok y → (b ≡ false) × (x ≡ y)
 guard_ok true d x y e = absurd cc
 guard_ok false d x y e = (refl, cc)
 
--- a test that did not fail, before others
+-- A test that did not fail, before other tests.
 guard : {A E : Type 0} (b : Bool) (d : E) (r : Result A E) (y : A) → cond b (Err d) r ≡ Ok y → (b ≡ false) × (r ≡ Ok y)
 guard true d r y e = absurd cc
 guard false d r y e = (refl, e)
 
--- a test that was passed
+-- A test that was passed.
 passed : {A E : Type 0} (b : Bool) (d : E) (x y : A) → cond b (Ok x) (Err d) ≡ Ok y → (b ≡ true) × (x ≡ y)
 passed true d x y e = (refl, cc)
 passed false d x y e = absurd cc
 
--- the value of a step that did not fail
+-- The value of a step that did not fail.
 bind_ok : {A B E : Type 0} (r : Result A E) (f : A → Result B E) (y : B) → (r >>= f) ≡ Ok y → (x : A) × (r ≡ Ok x)
     × (f x ≡ Ok y)
 bind_ok (Ok x) f y e = (x, refl, e)
 bind_ok (Err d) f y e = absurd cc
 
--- a tested value
+-- A tested value.
 tested_ok : {A : Type 0} (test : A → Bool) (d : Error) (r : Result (A × List ℕ) Error) (y : A × List ℕ)
-    → tested test d r ≡ Ok y → (test y.0 ≡ true) × (r ≡ Ok y)
+    → tested_value test d r ≡ Ok y → (test y.0 ≡ true) × (r ≡ Ok y)
 tested_ok test d (Ok x) y e =
     let p = passed (test x.0) d x y e in
     (sym (ap (λ (z : _ × List ℕ). test z.0) p.1) ∙ p.0, ap (λ z. Ok z) p.1)
 tested_ok test d (Err x) y e = absurd cc
 
 tested_again : {A : Type 0} (test : A → Bool) (d : Error) (r : Result (A × List ℕ) Error) (y : A × List ℕ) → r ≡ Ok y
-    → test y.0 ≡ true → tested test d r ≡ Ok y
+    → test y.0 ≡ true → tested_value test d r ≡ Ok y
 tested_again test d r y e h = rw (e, h) refl
 
--- another kind of text
+-- Another kind of text.
 begins_as : {P Q : List ℕ → Type 0} (bytes rest : List ℕ) → ((text : List ℕ) → P text → Q text)
     → BeginsWithText P bytes rest
     → BeginsWithText Q bytes rest
 begins_as bytes rest f h = record { text = h.text; is = f h.text h.is; splits = h.splits }
 
--- a reading with a test spells what the reading spells and the test passes
+-- A reading with a test spells what the reading spells and the test passes.
 tested_exact : {A : Type 0} (spells more : A → List ℕ → Type 0) (reading : List ℕ → Result (A × List ℕ) Error)
     (test : A → Bool) (d : Error) (bytes rest : List ℕ) (v : A)
     → ((text : List ℕ) → spells v text → test v ≡ true → more v text)
     → ((text : List ℕ) → more v text → spells v text × (test v ≡ true))
-    → IsExact spells reading bytes rest v → IsExact more (λ b. tested test d (reading b)) bytes rest v
+    → IsExact spells reading bytes rest v → IsExact more (λ b. tested_value test d (reading b)) bytes rest v
 tested_exact spells more reading test d bytes rest v to from exact = record {
   takes = λ e. let t = tested_ok test d (reading bytes) (v, rest) e in
       begins_as bytes rest (λ text h. to text h t.0) (exact.takes t.1);
@@ -128,7 +128,7 @@ tested_exact spells more reading test d bytes rest v to from exact = record {
       (begins_as bytes rest (λ text m. (from text m).0) h)) (from h.text h.is).1;
 }
 
--- ---- each type
+-- ---- Each type
 
 pub byte_exact : (bytes rest : List ℕ) (v : ℕ) → IsExact IsByte byte_at bytes rest v
 unfolding byte_at
@@ -221,7 +221,7 @@ len_exact bytes rest n = tested_exact (IsNumber w32) IsLen (number_at w32) (λ m
     (λ text h t. record { is = h; small = small_len n t }) (λ text h. (h.is, len_small n h.small))
     (number_exact w32 bytes rest n)
 
--- a spelling of an equal value, with an equal rest
+-- A spelling of an equal value, with an equal rest.
 begins_at : (bytes v rest w tail : List ℕ) → (let p : List ℕ × List ℕ = (w, tail) in p) ≡ (v, rest)
     → BeginsWithText (IsString w) bytes tail → BeginsWithText (IsString v) bytes rest
 begins_at bytes v rest w tail e h = subst (λ (x : List ℕ × List ℕ). BeginsWithText (IsString x.0) bytes x.1) e h
@@ -283,7 +283,7 @@ all_inside : (r : Result (List ℕ × List ℕ) (Error × List ℕ)) (v rest : L
 all_inside (Ok p) v rest e = ap (λ x. Ok x) (ok_is _ _ e)
 all_inside (Err d) v rest e = absurd cc
 
--- a length and that many bytes
+-- A length, and that many bytes.
 pub string_exact : (bytes rest v : List ℕ) → IsExact IsString string_at bytes rest v
 string_exact bytes rest v = record {
   takes = λ e. prefix_takes bytes v rest (all_inside (prefix_at bytes) v rest e);
@@ -300,7 +300,7 @@ unfolding mpint_at
 mpint_exact bytes rest v = tested_exact IsString IsMpint string_at is_canonical errors.MpintEncoding bytes rest v
     (λ text h t. record { is = h; canonical = t }) (λ text h. (h.is, h.canonical)) (string_exact bytes rest v)
 
--- ---- labels
+-- ---- Labels
 
 record IsName (v text : List ℕ) : Type 0 where
   is : IsString v text
@@ -311,10 +311,10 @@ record IsNameText (v text : List ℕ) : Type 0 where
   utf8 : is_utf8 v ≡ true
 
 abbrev short_at : List ℕ → Result (List ℕ × List ℕ) Error
-short_at bytes = tested (λ t. nat_le (length t) MAX_LABEL_LEN) errors.Length (string_at bytes)
+short_at bytes = tested_value (λ t. nat_le (length t) MAX_LABEL_LEN) errors.Length (string_at bytes)
 
 abbrev name_at : List ℕ → Result (List ℕ × List ℕ) Error
-name_at bytes = tested is_utf8 errors.CharacterEncoding (short_at bytes)
+name_at bytes = tested_value is_utf8 errors.CharacterEncoding (short_at bytes)
 
 short_exact : (bytes rest v : List ℕ) → IsExact IsName short_at bytes rest v
 short_exact bytes rest v = tested_exact IsString IsName string_at (λ t. nat_le (length t) MAX_LABEL_LEN) errors.Length
@@ -360,9 +360,9 @@ label_exact meaning bytes rest v = record {
       rw (name, h.is.means) refl;
 }
 
--- ---- texts to the end
+-- ---- Texts to the end
 
--- a text takes four bytes at least
+-- A text takes at least four bytes.
 text_shorter : (bytes rest v : List ℕ) → BeginsWithText (IsText v) bytes rest → length rest + 4 ≤ length bytes
 text_shorter bytes rest v h =
     rw (
@@ -378,7 +378,7 @@ with_prefix_ok : (prefix : List (List ℕ)) (r : Result (List (List ℕ) × List
     → (x : List (List ℕ) × List ℕ) × (r ≡ Ok x) × ((prefix ++ x.0, x.1) ≡ y)
 with_prefix_ok prefix r y e = let b = bind_ok r (λ x. Ok (prefix ++ x.0, x.1)) y e in (b.0, b.1, ok_is _ _ b.2)
 
--- what is read to the end are texts, and nothing is left
+-- The values read to the end are texts, and no bytes are left.
 pub record AllTexts (vs : List (List ℕ)) (bytes rest : List ℕ) : Type 0 where
   pub texts : AreTexts vs bytes
   pub none : rest ≡ []
@@ -421,7 +421,8 @@ texts_again (suc most) (v ∷ vs) (b ∷ bytes) h t =
     let later = texts_again most vs t.1 (omega arith) t.3 in
     rw ((text_exact (b ∷ bytes) t.1 v).again first, later) refl
 
-pub text_list_exact : (bytes rest : List ℕ) (vs : List (List ℕ)) → IsExact IsTextList (prefixed texts_at) bytes rest vs
+pub text_list_exact : (bytes rest : List ℕ) (vs : List (List ℕ))
+    → IsExact IsTextList (prefixed_value texts_at) bytes rest vs
 text_list_exact bytes rest vs = record {
   takes = λ e.
       let i = inside_ok texts_at (prefix_at bytes) (vs, rest) e in

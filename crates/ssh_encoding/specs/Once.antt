@@ -31,7 +31,7 @@ len_once v a b p q h k = number_once v a b p q h.is k.is
 pub array_once : (n : ℕ) (v a b : List ℕ) → AreBytes a → AreBytes b → IsArray n v a → IsArray n v b → a ≡ b
 array_once n v a b p q h k = h.is ∙ sym k.is
 
--- the prefix of a list of bytes
+-- The prefix of a list of bytes consists of bytes.
 front_bytes : (a prefix back : List ℕ) → a ≡ prefix ++ back → AreBytes a → AreBytes prefix
 front_bytes a [] back e h i = grind arith
 front_bytes a (x ∷ prefix) back e h zero = rw e at (h 0)

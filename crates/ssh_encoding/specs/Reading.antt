@@ -1,4 +1,4 @@
--- What a list of bytes begins with, and what follows it: the data types of RFC 4251, section 5.
+-- The value that a list of bytes begins with, and the bytes after it: the data types of RFC 4251, section 5.
 use Rattle.std.specs.Prelude.{
   ℕ,
   zero,
@@ -36,78 +36,78 @@ use Rattle.ssh_encoding.specs.Canonical.{is_canonical}
 use Rattle.ssh_encoding.specs.declared.error.Error.{Error}
 use Rattle.ssh_encoding.specs.declared.error.Error.TheVariants as errors
 
--- ---- what contracts say of a reading
+-- ---- Relations of contracts between a call and a reading
 
--- xs ends in ys
+-- True if `xs` ends in `ys`.
 pub record IsSuffix (ys xs : List ℕ) : Type 0 where
   pub prefix : List ℕ
   pub is : xs ≡ prefix ++ ys
 
--- What `decode` returned, with `rest` left, is what the reading gives, unless the error tells of memory.
+-- The result of `decode`, with `rest` left, is that of the reading, unless the error is one of memory.
 abbrev pub DecodesAs : {T S E : Type 0} → (T → S) → (E → Type 0) → List ℕ → Result T E → Result (S × List ℕ) E → Type 0
 DecodesAs seen memory rest (Ok v) read = read ≡ Ok (seen v, rest)
 DecodesAs seen memory rest (Err e) read = memory e ⊎ (read ≡ Err e)
 
--- The same where a refusal also says what it leaves, and no memory is taken.
+-- The same if an error also says which bytes it leaves, and no memory is allocated.
 abbrev pub ReadsTo : {T S : Type 0} → (T → S) → List ℕ → Result T Error → Result (S × List ℕ) (Error × List ℕ) → Type 0
 ReadsTo seen rest (Ok v) read = read ≡ Ok (seen v, rest)
 ReadsTo seen rest (Err e) read = read ≡ Err (e, rest)
 
--- The same where no memory is taken.
+-- The same if no memory is allocated.
 abbrev pub ReadsPlain : {T S : Type 0} → (T → S) → List ℕ → Result T Error → Result (S × List ℕ) Error → Type 0
 ReadsPlain seen rest (Ok v) read = read ≡ Ok (seen v, rest)
 ReadsPlain seen rest (Err e) read = read ≡ Err e
 
--- What a call returned is what a text means, unless memory ran out.
-abbrev pub Names : {T A : Type 0} → (T → A) → Result T Error → Result A Error → Type 0
-Names seen (Ok v) meaning = meaning ≡ Ok (seen v)
-Names seen (Err e) meaning = (e ≡ errors.OutOfMemory) ⊎ (meaning ≡ Err e)
+-- The result of a call is the meaning of a text, unless memory ran out.
+abbrev pub NamesValue : {T A : Type 0} → (T → A) → Result T Error → Result A Error → Type 0
+NamesValue seen (Ok v) meaning = meaning ≡ Ok (seen v)
+NamesValue seen (Err e) meaning = (e ≡ errors.OutOfMemory) ⊎ (meaning ≡ Err e)
 
--- ---- readings: the first value and the bytes after it, or the refusal
+-- ---- Readings: the first value and the bytes after it, or the error
 
 infixl 10 ◌>>=◌
 abbrev pub ◌>>=◌ : {A B E : Type 0} → Result A E → (A → Result B E) → Result B E
 (Ok x) >>= f = f x
 (Err e) >>= f = Err e
 
--- a value that has to pass a test
-abbrev pub tested : {A : Type 0} → (A → Bool) → Error → Result (A × List ℕ) Error → Result (A × List ℕ) Error
-tested test refusal (Ok x) = if test x.0 then Ok x else Err refusal
-tested test refusal (Err e) = Err e
+-- A value that must pass a test.
+abbrev pub tested_value : {A : Type 0} → (A → Bool) → Error → Result (A × List ℕ) Error → Result (A × List ℕ) Error
+tested_value test refusal (Ok x) = if test x.0 then Ok x else Err refusal
+tested_value test refusal (Err e) = Err e
 
--- the greatest length that is read
+-- The greatest length that is read.
 abbrev pub MAX_LEN : ℕ
 MAX_LEN = 1048575
 
--- the most bytes that a label has
+-- The most bytes of a label.
 abbrev pub MAX_LABEL_LEN : ℕ
 MAX_LABEL_LEN = 48
 
--- byte[n]
+-- byte[n].
 abbrev pub bytes_at : ℕ → List ℕ → Result (List ℕ × List ℕ) Error
 bytes_at n bytes = if nat_lt (length bytes) n then Err errors.Length else Ok (take n bytes, drop n bytes)
 
--- byte
+-- byte.
 unfoldable pub byte_at : List ℕ → Result (ℕ × List ℕ) Error
 byte_at [] = Err errors.Length
 byte_at (b ∷ bytes) = Ok (b, bytes)
 
--- boolean: every byte but 0 is true
+-- boolean: every byte except 0 is true.
 unfoldable pub bool_at : List ℕ → Result (Bool × List ℕ) Error
 bool_at bytes = do
   b ← byte_at bytes
   Ok (not (b.0 == 0), b.1)
 
--- uint32 and uint64: most significant byte first
+-- uint32 and uint64: most significant byte first.
 abbrev pub number_at : Width → List ℕ → Result (ℕ × List ℕ) Error
 number_at w bytes = if nat_lt (length bytes) (byte_len w) then Err errors.Length else
     Ok (from_be_bytes w (take (byte_len w) bytes), drop (byte_len w) bytes)
 
--- a length: a uint32 within the limit
+-- A length: a uint32 within the limit.
 unfoldable pub len_at : List ℕ → Result (ℕ × List ℕ) Error
-len_at bytes = tested (λ n. nat_le n MAX_LEN) errors.Overflow (number_at w32 bytes)
+len_at bytes = tested_value (λ n. nat_le n MAX_LEN) errors.Overflow (number_at w32 bytes)
 
--- What stands after a length, and what follows it; or the refusal, and where it leaves the reader.
+-- The bytes that a length counts, and the bytes after them; or the error, and the bytes that it leaves in the reader.
 unfoldable pub prefix_at : List ℕ → Result (List ℕ × List ℕ) (Error × List ℕ)
 prefix_at bytes =
     if nat_lt (length bytes) 4 then Err (errors.Length, bytes)
@@ -118,44 +118,45 @@ prefix_at bytes =
       drop (from_be_bytes w32 (take 4 bytes)) (drop 4 bytes),
     )
 
--- What a reading makes of the bytes after a length.
+-- The value that a reading makes of the bytes that a length counts.
 abbrev pub inside : {A : Type 0} → (List ℕ → Result (A × List ℕ) Error) → Result (List ℕ × List ℕ) (Error × List ℕ)
     → Result (A × List ℕ) Error
 inside reading (Ok p) = reading p.0 >>= λ x. Ok (x.0, p.1)
 inside reading (Err r) = Err r.0
 
-abbrev pub prefixed : {A : Type 0} → (List ℕ → Result (A × List ℕ) Error) → List ℕ → Result (A × List ℕ) Error
-prefixed reading bytes = inside reading (prefix_at bytes)
+abbrev pub prefixed_value : {A : Type 0} → (List ℕ → Result (A × List ℕ) Error) → List ℕ → Result (A × List ℕ) Error
+prefixed_value reading bytes = inside reading (prefix_at bytes)
 
--- all bytes
+-- All bytes.
 abbrev pub all_at : List ℕ → Result (List ℕ × List ℕ) Error
 all_at bytes = Ok (bytes, [])
 
--- string: a length and that many bytes
+-- string: a length and that many bytes.
 abbrev pub string_at : List ℕ → Result (List ℕ × List ℕ) Error
-string_at = prefixed all_at
+string_at = prefixed_value all_at
 
--- a string in UTF-8
+-- A string in UTF-8.
 unfoldable pub text_at : List ℕ → Result (List ℕ × List ℕ) Error
-text_at bytes = tested is_utf8 errors.CharacterEncoding (string_at bytes)
+text_at bytes = tested_value is_utf8 errors.CharacterEncoding (string_at bytes)
 
--- mpint: a string that is a canonical number
+-- mpint: a string that is a canonical number.
 unfoldable pub mpint_at : List ℕ → Result (List ℕ × List ℕ) Error
-mpint_at bytes = tested is_canonical errors.MpintEncoding (string_at bytes)
+mpint_at bytes = tested_value is_canonical errors.MpintEncoding (string_at bytes)
 
--- a name: a string of at most 48 bytes in UTF-8 that has a meaning
+-- A name: a string of at most 48 bytes in UTF-8 that has a meaning.
 unfoldable pub label_at : {A : Type 0} → (List ℕ → Result A Error) → List ℕ → Result (A × List ℕ) Error
 label_at meaning bytes = do
-  text ← tested is_utf8 errors.CharacterEncoding (tested (λ t. nat_le (length t) MAX_LABEL_LEN) errors.Length
+  text ← tested_value is_utf8 errors.CharacterEncoding (tested_value (λ t. nat_le (length t) MAX_LABEL_LEN)
+      errors.Length
       (string_at bytes))
   label ← meaning text.0
   Ok (label, text.1)
 
--- what is read, after what was read before
+-- The values read now, after those read before.
 abbrev pub with_prefix : {A E : Type 0} → List A → Result (List A × List ℕ) E → Result (List A × List ℕ) E
 with_prefix prefix read = read >>= λ x. Ok (prefix ++ x.0, x.1)
 
--- texts to the end of the list; each takes four bytes or more, so `most` is at most the number of bytes
+-- Texts to the end of the list. Each takes four bytes or more, so `most` is at most the number of bytes.
 abbrev pub texts_within : ℕ → List ℕ → Result (List (List ℕ) × List ℕ) Error
 texts_within zero bytes = Ok ([], bytes)
 texts_within (suc most) [] = Ok ([], [])
@@ -168,42 +169,43 @@ texts_at bytes = texts_within (length bytes) bytes
 abbrev pub texts_of : {A : Type 0} → List (String A) → List (List ℕ)
 texts_of = map string_bytes
 
--- ---- the calls of a reader
+-- ---- The calls of a reader
 
--- a string of at most `most` bytes
+-- A string of at most `most` bytes.
 unfoldable pub string_within : ℕ → List ℕ → Result (List ℕ × List ℕ) (Error × List ℕ)
 string_within most bytes = prefix_at bytes >>= λ p. if nat_lt most (length p.0) then
     Err (errors.Length, drop 4 bytes) else Ok p
 
--- the same in UTF-8
+-- The same in UTF-8.
 unfoldable pub text_within : ℕ → List ℕ → Result (List ℕ × List ℕ) (Error × List ℕ)
 text_within most bytes = string_within most bytes >>= λ p. if is_utf8 p.0 then Ok p else
     Err (errors.CharacterEncoding, p.1)
 
--- the number of bytes of a string
+-- The number of bytes of a string.
 unfoldable pub string_len_at : List ℕ → Result (ℕ × List ℕ) (Error × List ℕ)
 string_len_at bytes = prefix_at bytes >>= λ p. Ok (length p.0, p.1)
 
--- A reader of the bytes after a length was found, and the other one stands after the length.
+-- A reader of the bytes that a length counts was found, and the other reader is after the length.
 abbrev pub FindsPrefix : {S : Type 0} → (S → List ℕ) → List ℕ → Result S Error → List ℕ
     → Result (List ℕ × List ℕ) (Error × List ℕ) → Type 0
 FindsPrefix left old (Ok inner) new read = (read ≡ Ok (left inner, drop (length (left inner)) new))
     × (left inner ≡ take (length (left inner)) new) × (length (left inner) ≤ length new) × (new ≡ drop 4 old)
 FindsPrefix left old (Err e) new read = read ≡ Err (e, new)
 
--- f was lent a reader of these bytes, gave this result and left that reader so.
-pub record Lent {S F T : Type 0} (g : Once F (MutBor S × Unit {0}) (T × (MutBor S × Unit {0}))) (left : S → List ℕ)
+-- `f` was lent a reader of these bytes, returned this result and left that reader in this state.
+pub record LentReader {S F T : Type 0} (g : Once F (MutBor S × Unit {0}) (T × (MutBor S × Unit {0})))
+    (left : S → List ℕ)
     (f : F) (bytes : List ℕ) (result : T) : Type 0 where
   pub inner : S
   pub after : S
   pub shows : left inner ≡ bytes
   pub met : FnOnceReturnsAtMut g f inner result after
 
--- What `read_prefixed` does to a reader that held old and then holds new: after the bytes on Ok, after the length on
--- the closure's own refusal.
+-- The effect of `read_prefixed` on a reader that held `old` and then holds `new`: it is after the bytes on Ok, and
+-- after the length on the closure's own error.
 abbrev pub ReadsPrefixed : {F S T E : Type 0} → Once F (MutBor S × Unit {0}) (Result T E × (MutBor S × Unit {0}))
     → (S → List ℕ) → (Error → E → Type 0) → F → List ℕ → Result T E → List ℕ → Result (List ℕ × List ℕ) (Error × List ℕ)
     → Type 0
 ReadsPrefixed g left gives f old result new (Err r) = IsErrAnd result (gives r.0) × (new ≡ r.1)
-ReadsPrefixed g left gives f old result new (Ok p) = Lent g left f p.0 result
+ReadsPrefixed g left gives f old result new (Ok p) = LentReader g left f p.0 result
     × (new ≡ (if is_ok result then p.1 else drop 4 old))

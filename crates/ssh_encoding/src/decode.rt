@@ -1,3 +1,4 @@
+//! Values that are read from bytes.
 ghost use Rattle.std.specs.Prelude.{◌≡◌, ℕ, List, Bool, Result, IfOk};
 ghost use Rattle.std.specs.Int.{w32, w64};
 ghost use Rattle.ssh_encoding.specs.declared.error.Error.TheVariants.{OutOfMemory};
@@ -11,34 +12,44 @@ use std::alloc::Global;
 
 /// A type that is read from bytes.
 ///
-/// After a refusal the reader holds a suffix of what it held.
+/// After an error the reader holds a suffix of the bytes that it held.
+///
+/// Example: `crates/test_wire/src/encoding/values.rt`.
 pub trait Decode: Sized {
-    /// Why a value can't be read.
+    /// The error if a value cannot be read.
     type Error: From<Error>;
 
-    /// What a contract sees of a value: a number, a list, a record.
+    /// The form in which a contract sees a value: a number, a list, a record.
     ghost Seen: { Type 0 };
 
     ghost seen: { Self → Seen };
 
-    /// What the bytes begin with, and what follows it; or the refusal.
+    /// The value that the bytes begin with, and the bytes after it; or the error.
     ghost reading: { List ℕ → Result (Seen × List ℕ) Self.Error };
 
     /// The list spells the value.
     ghost spells: { Seen → List ℕ → Type 0 };
 
-    /// Reads a value. It takes memory for what the value holds, and never by a count that it
-    /// reads alone.
+    /// Reads a value. It allocates memory for the contents of the value, and never for a count that has only been read.
+    ///
+    /// # Errors
+    ///
+    /// The error of `reading`, or the error made from `OutOfMemory`. The reader then holds a suffix of the bytes that
+    /// it held.
     fn decode<R: Reader>(alloc: Global, reader: &mut R) -> Result<Self, Self::Error>
         ensures read { DecodesAs seen (Self.Error.from_gives OutOfMemory) (R.left reader.new) result (reading (R.left reader.old)) }
         ensures rest { IsSuffix (R.left reader.new) (R.left reader.old) };
 
-    /// What is read is spelled so, and what is spelled so is read.
+    /// A reading takes only spellings of the value, and it takes every spelling.
     ghost exact: { (bytes rest : List ℕ) (v : Seen) → IsExact spells reading bytes rest v };
 }
 
-/// Reads a value: it answers v and leaves the rest exactly where the bytes begin with a spelling of v and the
-/// rest follows it.
+/// Reads a value. It returns `v` and leaves the rest exactly if the bytes begin with a spelling of `v` and the rest
+/// follows it. An allocation may fail.
+///
+/// # Errors
+///
+/// The errors of `decode`. The reader then holds a suffix of the bytes that it held.
 pub fn decode_exact<T: Decode, R: Reader>(alloc: Global, reader: &mut R) -> Result<T, T::Error>
     ensures found { IfOk result (λ v. BeginsWithText (T.spells (T.seen v)) (R.left reader.old) (R.left reader.new)) }
     ensures only { (v : T.Seen) (rest : List ℕ) → BeginsWithText (T.spells v) (R.left reader.old) rest → DecodesAs T.seen (T.Error.from_gives OutOfMemory) (R.left reader.new) result (Ok (v, rest)) }
@@ -47,7 +58,7 @@ pub fn decode_exact<T: Decode, R: Reader>(alloc: Global, reader: &mut R) -> Resu
     T::decode(alloc, reader)
 }
 
-/// byte: one byte. `Length` where nothing is left.
+/// byte: one byte. `Length` if no bytes are left.
 impl Decode for u8 {
     type Error = Error;
 
@@ -72,7 +83,7 @@ impl Decode for u8 {
     ghost exact = { byte_exact };
 }
 
-/// boolean: one byte, 0 for false and any other for true. `Length` where nothing is left.
+/// boolean: one byte, 0 for false and any other for true. `Length` if no bytes are left.
 impl Decode for bool {
     type Error = Error;
 
@@ -96,7 +107,7 @@ impl Decode for bool {
     ghost exact = { flag_exact };
 }
 
-/// uint32: four bytes, most significant first. `Length` where fewer are left.
+/// uint32: four bytes, most significant first. `Length` if fewer are left.
 impl Decode for u32 {
     type Error = Error;
 
@@ -121,7 +132,7 @@ impl Decode for u32 {
     ghost exact = { number_exact w32 };
 }
 
-/// uint64: eight bytes, most significant first. `Length` where fewer are left.
+/// uint64: eight bytes, most significant first. `Length` if fewer are left.
 impl Decode for u64 {
     type Error = Error;
 
@@ -146,7 +157,7 @@ impl Decode for u64 {
     ghost exact = { number_exact w64 };
 }
 
-/// byte\[n\]: `N` bytes as they are. `Length` where fewer are left.
+/// byte\[n\]: `N` bytes as they are. `Length` if fewer are left.
 impl<const N: usize> Decode for [u8; N] {
     type Error = Error;
 
@@ -172,7 +183,7 @@ impl<const N: usize> Decode for [u8; N] {
     ghost exact = { array_exact N };
 }
 
-/// A length: a uint32. `Length` where fewer than four bytes are left, `Overflow` over 1048575 (`MAX_LEN`).
+/// A length: a uint32. `Length` if fewer than four bytes are left, `Overflow` over 1048575 (`MAX_LEN`).
 impl Decode for usize {
     type Error = Error;
 

@@ -1,6 +1,7 @@
+//! Values that are written as bytes.
 ghost use Rattle.std.specs.Prelude.{◌≡◌, ◌∷◌, [], ◌+◌, ℕ, List, Option, None, length, IfOk, IfErr};
 ghost use Rattle.ssh_encoding.specs.declared.error.Error.{Error};
-ghost use Rattle.ssh_encoding.specs.Writing.{WritesValue, Counts, RefusesBuffer, uint32, uint64, flag, string, len_refusal, prefixed_refusal};
+ghost use Rattle.ssh_encoding.specs.Writing.{WritesValue, CountsBytes, RefusesBuffer, uint32, uint64, flag, string, len_refusal, prefixed_refusal};
 
 use crate::error::Error;
 use crate::sums::add_lens;
@@ -9,33 +10,50 @@ use bytes::BytesMut;
 use std::alloc::Global;
 
 /// A type that is written as bytes.
+///
+/// Example: `crates/example_encoding/src/values.rt`.
 pub trait Encode {
     /// The list that is written.
     ghost written: { Self → List ℕ };
 
-    /// Why it can't be written, or None. Want of memory comes from the writer.
+    /// The error if it cannot be written, or None. Running out of memory is the writer's error.
     ghost refusal: { Self → Option Error };
 
-    /// The number of bytes that [`Encode::encode`] appends. `Length` where it is over `usize::MAX`.
+    /// Returns the number of bytes that [`Encode::encode`] appends.
+    ///
+    /// # Errors
+    ///
+    /// `Length` if it is over `usize::MAX`.
     fn encoded_len(&self) -> Result<usize, Error>
-        ensures { Counts result (length (written self.now)) };
+        ensures { CountsBytes result (length (written self.now)) };
 
-    /// Appends the value's bytes. `Length` where a sum of lengths passes `usize::MAX`, `Overflow` where a length
-    /// that is written passes `u32::MAX`, `OutOfMemory` from the writer; the writer then holds what it held and
-    /// a prefix of the value's bytes.
+    /// Appends the value's bytes.
+    ///
+    /// # Errors
+    ///
+    /// `Length` if a sum of lengths passes `usize::MAX`, `Overflow` if a length that is written passes `u32::MAX`, and
+    /// `OutOfMemory` from the writer. The writer then holds what it held and a prefix of the value's bytes.
     fn encode<W: Writer>(&self, writer: &mut W) -> Result<(), Error>
         ensures writes { WritesValue (W.wrote writer.old) (W.wrote writer.new) result (written self.now) (refusal self.now) }
         ensures same { W.goes_to writer.old writer.new };
 
-    /// The number of bytes that [`Encode::encode_prefixed`] appends. `Length` where it is over `usize::MAX`.
+    /// Returns the number of bytes that [`Encode::encode_prefixed`] appends.
+    ///
+    /// # Errors
+    ///
+    /// `Length` if it is over `usize::MAX`.
     final fn encoded_len_prefixed(&self) -> Result<usize, Error>
-        ensures { Counts result (4 + length (written self.now)) }
+        ensures { CountsBytes result (4 + length (written self.now)) }
     {
         add_lens(4, self.encoded_len()?)
     }
 
-    /// Appends the length of the value's bytes, a uint32, and then the bytes. Refused as [`Encode::encode`], and
-    /// `Overflow` where that length passes `u32::MAX`.
+    /// Appends the length of the value's bytes, a uint32, and then the bytes.
+    ///
+    /// # Errors
+    ///
+    /// The errors of [`Encode::encode`], and `Overflow` if that length passes `u32::MAX`. The writer then holds what it
+    /// held and a prefix of these bytes.
     final fn encode_prefixed<W: Writer>(&self, writer: &mut W) -> Result<(), Error>
         ensures writes { WritesValue (W.wrote writer.old) (W.wrote writer.new) result (string (written self.now)) (prefixed_refusal (length (written self.now)) (refusal self.now)) }
         ensures same { W.goes_to writer.old writer.new }
@@ -44,7 +62,11 @@ pub trait Encode {
         self.encode(writer)
     }
 
-    /// The value's bytes in a vector of their own.
+    /// Returns the value's bytes in a vector of their own.
+    ///
+    /// # Errors
+    ///
+    /// The errors of [`Encode::encoded_len`] and [`Encode::encode`].
     final fn encode_vec(&self, alloc: Global) -> Result<Vec<u8>, Error>
         ensures ok { IfOk result (λ v. (v.items ≡ written self.now) × (refusal self.now ≡ None)) }
         ensures err { IfErr result (λ e. RefusesBuffer e (length (written self.now)) (refusal self.now)) }
@@ -54,7 +76,11 @@ pub trait Encode {
         Ok(bytes)
     }
 
-    /// The value's bytes in a buffer of their own.
+    /// Returns the value's bytes in a buffer of their own.
+    ///
+    /// # Errors
+    ///
+    /// The errors of [`Encode::encoded_len`] and [`Encode::encode`].
     final fn encode_bytes(&self, alloc: Global) -> Result<BytesMut, Error>
         ensures ok { IfOk result (λ b. (b.items ≡ written self.now) × (refusal self.now ≡ None)) }
         ensures err { IfErr result (λ e. RefusesBuffer e (length (written self.now)) (refusal self.now)) }
@@ -65,7 +91,7 @@ pub trait Encode {
     }
 }
 
-/// byte
+/// byte.
 impl Encode for u8 {
     ghost written = { λ n. n ∷ [] };
 
@@ -80,7 +106,7 @@ impl Encode for u8 {
     }
 }
 
-/// boolean: 1 for true, 0 for false
+/// boolean: 1 for true, 0 for false.
 impl Encode for bool {
     ghost written = { flag };
 
@@ -97,7 +123,7 @@ impl Encode for bool {
     }
 }
 
-/// uint32: four bytes, most significant first
+/// uint32: four bytes, most significant first.
 impl Encode for u32 {
     ghost written = { λ n. uint32 n };
 
@@ -114,7 +140,7 @@ impl Encode for u32 {
     }
 }
 
-/// uint64: eight bytes, most significant first
+/// uint64: eight bytes, most significant first.
 impl Encode for u64 {
     ghost written = { λ n. uint64 n };
 
@@ -148,7 +174,7 @@ impl Encode for usize {
     }
 }
 
-/// byte\[n\]: the bytes as they are
+/// byte\[n\]: the bytes as they are.
 impl<const N: usize> Encode for [u8; N] {
     ghost written = { λ a. a };
 

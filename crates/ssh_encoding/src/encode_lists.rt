@@ -1,7 +1,7 @@
 //! Lists of strings: a string that holds strings to its end.
 ghost use Rattle.std.specs.Prelude.{◌≡◌, ◌++◌, ◌≤◌, ℕ, List, length, None, OnOk, IfErr};
 ghost use Rattle.std.specs.List.{flat_map};
-ghost use Rattle.ssh_encoding.specs.Writing.{WritesValue, Counts, IsPart, string, prefixed_refusal};
+ghost use Rattle.ssh_encoding.specs.Writing.{WritesValue, CountsBytes, IsPart, string, prefixed_refusal};
 
 use crate::encode::Encode;
 use crate::encode_strings::Rfc4251String;
@@ -9,9 +9,9 @@ use crate::error::Error;
 use crate::sums::add_lens;
 use crate::writer::Writer;
 
-/// The number of bytes that the strings of a list take.
+/// Returns the number of bytes that the strings of a list take.
 fn strings_len<T: Rfc4251String>(items: &[T]) -> Result<usize, Error>
-    ensures { Counts result (length (flat_map T.Encode.written items.now)) }
+    ensures { CountsBytes result (length (flat_map T.Encode.written items.now)) }
 {
     let mut total: usize = 0;
     for item in items {
@@ -20,7 +20,7 @@ fn strings_len<T: Rfc4251String>(items: &[T]) -> Result<usize, Error>
     Ok(total)
 }
 
-/// Writes the strings of a list, each of which has a length of at most `u32::MAX`.
+/// Writes the strings of a list, each of which has a length of at most `u32::MAX`. Fails only if an allocation fails.
 fn write_strings<T: Rfc4251String, W: Writer>(items: &[T], writer: &mut W) -> Result<(), Error>
     requires { length (flat_map T.Encode.written items.now) ≤ 4294967295 }
     ensures ok { OnOk result (W.wrote writer.new ≡ W.wrote writer.old ++ flat_map T.Encode.written items.now) }

@@ -1,7 +1,7 @@
 //! Strings: a length and that many bytes.
 ghost use Rattle.std.specs.Prelude.{◌≡◌, ◌+◌, ℕ, List, length, refl};
 ghost use Rattle.std.specs.String.{string_bytes};
-ghost use Rattle.ssh_encoding.specs.Writing.{WritesValue, Counts, string, string_refusal};
+ghost use Rattle.ssh_encoding.specs.Writing.{WritesValue, CountsBytes, string, string_refusal};
 
 use crate::encode::Encode;
 use crate::error::Error;
@@ -10,6 +10,8 @@ use crate::writer::Writer;
 use bytes::Bytes;
 
 /// A type that is written as one string, as the entries of a list are.
+///
+/// Example: `crates/test_wire/src/encoding/lists.rt`.
 pub trait Rfc4251String: Encode {
     /// The bytes of the string.
     ghost content: { Self → List ℕ };
@@ -17,14 +19,14 @@ pub trait Rfc4251String: Encode {
     /// It is written as a string of these bytes.
     ghost is_string: { (x : Self) → Self.Encode.written x ≡ string (content x) };
 
-    /// It is refused as a string of these bytes.
+    /// Its error is that of a string of these bytes.
     ghost is_refused: { (x : Self) → Self.Encode.refusal x ≡ string_refusal (content x) };
 }
 
-/// The number of bytes that a string takes.
+/// Returns the number of bytes that a string takes.
 #[tactic(auto, unfolding(crate::specs::Writing::uint32, crate::specs::Writing::string))]
 fn string_len(bytes: &[u8]) -> Result<usize, Error>
-    ensures { Counts result (length (string bytes.now)) }
+    ensures { CountsBytes result (length (string bytes.now)) }
 {
     add_lens(4, bytes.len())
 }

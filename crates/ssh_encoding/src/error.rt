@@ -1,3 +1,4 @@
+//! The errors of reading and writing.
 ghost use Rattle.std.specs.Prelude.{◌≡◌};
 ghost use Rattle.ssh_encoding.specs.declared.error.Error.TheVariants as errors;
 
@@ -8,14 +9,16 @@ use std::num::TryFromIntError;
 use std::str::Utf8Error;
 use std::string::FromUtf8Error;
 
-/// Why a value could not be read or written.
+/// The reason why a value could not be read or written.
+///
+/// Example: `crates/example_client/src/tasks.rt`.
 #[derive(Debug, PartialEq, Eq, Drop, thiserror::Error)]
 pub enum Error {
-    /// A text that isn't UTF-8.
+    /// A text that is not UTF-8.
     #[error("character encoding invalid")]
     CharacterEncoding,
 
-    /// A name that isn't one of its set.
+    /// A name that is not one of its set.
     #[error("{0}")]
     Label(LabelError),
 
@@ -23,26 +26,26 @@ pub enum Error {
     #[error("length invalid")]
     Length,
 
-    /// A whole number with a first byte that isn't needed.
+    /// A whole number with a first byte that is not needed.
     #[error("`mpint` encoding invalid")]
     MpintEncoding,
 
-    /// A length over the limit: 1048575 where it is read, `u32::MAX` where it is written.
+    /// A length over the limit: 1048575 if it is read, `u32::MAX` if it is written.
     #[error("internal overflow error")]
     Overflow,
 
-    /// Bytes left where the message should end.
+    /// Bytes left after the expected end of the message.
     #[error("unexpected trailing data at end of message ({remaining} bytes)")]
     TrailingData {
-        /// How many.
+        /// The number of bytes left.
         remaining: usize,
     },
 
-    /// A number that names no case. No call of this crate answers it: it is for a caller's own [`crate::Decode`].
+    /// A number that names no case. No call of this crate returns it: it is for a caller's own [`crate::Decode`].
     #[error("invalid discriminant value: {0}")]
     InvalidDiscriminant(u128),
 
-    /// There was no memory.
+    /// An allocation failed.
     #[error("out of memory")]
     OutOfMemory,
 }

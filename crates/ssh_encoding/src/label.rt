@@ -1,6 +1,7 @@
+//! Names out of a set, such as those of algorithms.
 ghost use Rattle.std.specs.Prelude.{◌≡◌, List, ℕ, Result};
 ghost use Rattle.ssh_encoding.specs.declared.error.Error.{Error};
-ghost use Rattle.ssh_encoding.specs.Reading.{Names, label_at};
+ghost use Rattle.ssh_encoding.specs.Reading.{NamesValue, label_at};
 ghost use Rattle.ssh_encoding.specs.Spelling.{IsLabel};
 ghost use Rattle.ssh_encoding.specs.Exact.{label_exact};
 ghost use Rattle.ssh_encoding.specs.Writing.{string, string_refusal};
@@ -15,30 +16,36 @@ use std::alloc::Global;
 /// The most bytes that a label has on the wire.
 const MAX_LABEL_LEN: usize = 48;
 
-/// A name out of a set, as that of an algorithm. It is read from and written as a string.
+/// A name out of a set, such as that of an algorithm. It is read from and written as a string.
+///
+/// Example: `crates/test_wire/src/encoding/labels.rt`.
 pub trait Label: Sized {
-    /// What a contract sees of a label.
+    /// The form in which a contract sees a label.
     ghost LabelSeen: { Type 0 };
 
     ghost label_seen: { Self → LabelSeen };
 
-    /// The label that a text names, or the refusal.
+    /// The label that a text names, or the error.
     ghost meaning: { List ℕ → Result LabelSeen Error };
 
     /// The text that is written.
     ghost name_of: { Self → List ℕ };
 
-    /// The text of the label.
+    /// Returns the text of the label.
     fn as_str(&self) -> &str
         ensures { result.now ≡ name_of self.now };
 
-    /// The label that a text names. `Label` where it names none.
+    /// Returns the label that a text names.
+    ///
+    /// # Errors
+    ///
+    /// `Label` if it names none, and `OutOfMemory` if an allocation fails.
     fn from_label(alloc: Global, text: &str) -> Result<Self, Error>
-        ensures { Names label_seen result (meaning text.now) };
+        ensures { NamesValue label_seen result (meaning text.now) };
 }
 
-/// A string that names a label. Refused as a string; then `Length` over 48 bytes, `CharacterEncoding` where it
-/// isn't UTF-8, and what `from_label` refuses.
+/// A string that names a label. The errors are those of a string; then `Length` over 48 bytes, `CharacterEncoding` if
+/// it is not UTF-8, and the errors of `from_label`.
 impl<L: Label> Decode for L {
     type Error = Error;
 

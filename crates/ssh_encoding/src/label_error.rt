@@ -1,3 +1,4 @@
+//! The error of a name that was refused.
 ghost use Rattle.std.specs.Prelude.{◌≡◌, ◌==◌, List, ℕ, IfOk, Some, ◌++◌, codes};
 ghost use Rattle.std.specs.String.{string_bytes};
 ghost use Rattle.std.proofs.Common.{rules};
@@ -10,6 +11,8 @@ use std::fmt;
 use std::marker::Model;
 
 /// A name that was refused, with its text. A contract sees it as the bytes of the text.
+///
+/// Example: `crates/test_wire/src/encoding/labels.rt`.
 #[derive(Debug, Drop)]
 pub struct LabelError {
     label: String,
@@ -22,7 +25,11 @@ impl Model for LabelError {
 }
 
 impl LabelError {
-    /// The refusal of a name. Its text is copied.
+    /// Creates the error of a name. Its text is copied.
+    ///
+    /// # Errors
+    ///
+    /// `OutOfMemory` if an allocation fails.
     pub fn new(alloc: Global, label: &str) -> Result<LabelError, OutOfMemory>
         ensures { IfOk result (λ e. e ≡ label.now) }
     {
@@ -31,7 +38,7 @@ impl LabelError {
         })
     }
 
-    /// The text that was refused.
+    /// Returns the text that was refused.
     pub fn label(&self) -> &str
         ensures { result.now ≡ self.now }
     {

@@ -1,3 +1,4 @@
+//! Laws of reading and writing.
 ghost use Rattle.std.specs.Prelude.{◌≡◌, ℕ, List, Ok, ◌++◌, ◌<◌, ◌≤◌, ◌^◌, true, length, ⊤};
 ghost use Rattle.std.specs.String.{string_bytes};
 ghost use Rattle.std.specs.Str.{is_utf8};
@@ -13,23 +14,27 @@ use crate::label::Label;
 use crate::mpint::Mpint;
 use bytes::Bytes;
 
-/// A type that is read back as it was written.
+/// A type whose values are read back as they were written.
+///
+/// Used in `crates/ssh_encoding/src/lib.rt`.
 pub trait Codec: Encode + Decode {
     /// The values whose lengths are within the limits of reading.
     ghost fits: { Self → Type 0 };
 
-    /// What is written spells the value.
+    /// The bytes that are written spell the value.
     ghost again: { (x : Self) → fits x → Self.Decode.spells (Self.Decode.seen x) (Self.Encode.written x) };
 }
 
-/// Reading what was written gives the value back, and leaves what follows.
+/// Reading the bytes that were written returns the value, and leaves the bytes after them.
 pub fn round_trip<T: Codec>()
     ensures { (x : T) (rest : List ℕ) → T.fits x → T.Decode.reading (T.Encode.written x ++ rest) ≡ Ok (T.Decode.seen x, rest) }
 {}
 
 /// A type whose values have one spelling each.
+///
+/// Used in `crates/ssh_encoding/src/lib.rt`.
 pub trait OneSpelling: Decode {
-    /// Two lists of bytes that spell one value are one.
+    /// Two lists of bytes that spell one value are equal.
     ghost once: { (v : Self.Decode.Seen) (a b : List ℕ) → AreBytes a → AreBytes b → Self.Decode.spells v a → Self.Decode.spells v b → a ≡ b };
 }
 

@@ -1,7 +1,7 @@
 //! The data types of RFC 4251, section 5, read from and written to bytes.
 //!
-//! [`Decode`] reads a value from a [`Reader`], [`Encode`] writes one to a [`Writer`]. Each type says by its
-//! ghost members which list of bytes is written for a value and which lists spell it.
+//! [`Decode`] reads a value from a [`Reader`], [`Encode`] writes one to a [`Writer`]. The ghost members of each type
+//! say which list of bytes is written for a value and which lists spell it.
 #![tactic(auto)]
 
 mod decode;
@@ -35,5 +35,5 @@ pub use reader::Reader;
 pub use sums::CheckedSum;
 pub use writer::Writer;
 
-/// What the calls of this crate answer.
+/// The result of the calls of this crate.
 pub type Result<T> = std::result::Result<T, Error>;

@@ -1,9 +1,10 @@
+//! Whole numbers of any size (mpint).
 ghost use Rattle.std.specs.Prelude.{◌≡◌, ◌==◌, ◌∷◌, [], List, ℕ, ℤ, pos, true, IfOk, IfErr, IsTrue, ◌↔◌, option_map, false, ◌⊎◌, MatchOption, MatchResult, negsuc};
 ghost use Rattle.std.proofs.Common.{rules};
 ghost use Rattle.std.specs.Cmp.Lexicographic.{pointwise};
 ghost use Rattle.std.specs.Cmp.Rules.{comparing};
 ghost use Rattle.ssh_encoding.specs.declared.error.Error.TheVariants.{MpintEncoding};
-ghost use Rattle.ssh_encoding.specs.Canonical.{is_canonical, positive, positive_bytes, strip, unsigned, signed, is_above_zero};
+ghost use Rattle.ssh_encoding.specs.Canonical.{is_canonical, positive, positive_bytes, strip, unsigned_value, signed_value, is_above_zero};
 ghost use Rattle.ssh_encoding.specs.Exact.{mpint_exact};
 ghost use Rattle.ssh_encoding.specs.Reading.{mpint_at};
 ghost use Rattle.ssh_encoding.specs.Spelling.{AreBytes, IsMpint};
@@ -21,8 +22,10 @@ use std::marker::Model;
 
 /// mpint: a whole number of any size, by its canonical bytes in two's complement, most significant first.
 ///
-/// Zero has no bytes. Else the first bit is the sign, and no first byte is there that isn't needed for it.
-/// A contract sees a number as its bytes.
+/// Zero has no bytes. Otherwise the first bit is the sign, and there is no first byte that is not needed for it. A
+/// contract sees a number as its bytes.
+///
+/// Example: `crates/test_wire/src/encoding/numbers.rt`.
 #[derive(Drop)]
 pub struct Mpint {
     bytes: Vec<u8>,
@@ -36,7 +39,7 @@ impl Model for Mpint {
     ghost invariant = { λ m. is_canonical m.bytes.items ≡ true };
 }
 
-/// Whether no first byte is unnecessary.
+/// Returns true if no first byte is unnecessary.
 fn is_canonical_form(bytes: &[u8]) -> bool
     ensures { result ≡ is_canonical bytes.now }
 {
@@ -49,17 +52,17 @@ fn is_canonical_form(bytes: &[u8]) -> bool
     }
 }
 
-/// Whether canonical bytes are the same, as they are exactly where their numbers are.
+/// Returns true if canonical bytes are the same, which they are exactly if their numbers are equal.
 fn is_same_number(a: &[u8], b: &[u8]) -> bool
     requires bytes { AreBytes a.now × AreBytes b.now }
     requires canonical { (is_canonical a.now ≡ true) × (is_canonical b.now ≡ true) }
     ensures value { result ≡ pointwise ◌==◌ a.now b.now }
-    ensures number { IsTrue result ↔ (signed a.now ≡ signed b.now) }
+    ensures number { IsTrue result ↔ (signed_value a.now ≡ signed_value b.now) }
 {
     a == b
 }
 
-/// The bytes without leading zeros.
+/// Returns the bytes without leading zeros.
 fn stripped(bytes: &[u8]) -> &[u8]
     ensures { result.now ≡ strip bytes.now }
 {
@@ -70,7 +73,7 @@ fn stripped(bytes: &[u8]) -> &[u8]
     rest
 }
 
-/// The canonical bytes of the number that the bytes spell without a sign.
+/// Returns the canonical bytes of the number that the bytes spell without a sign. Fails only if an allocation fails.
 fn positive_of(alloc: Global, bytes: &[u8]) -> Result<Vec<u8>, Error>
     ensures ok { IfOk result (λ v. v.items ≡ positive bytes.now) }
     ensures err { IfErr result (λ e. e ≡ Error.OutOfMemory) }
@@ -87,7 +90,11 @@ fn positive_of(alloc: Global, bytes: &[u8]) -> Result<Vec<u8>, Error>
 }
 
 impl Mpint {
-    /// The number with these canonical bytes. `MpintEncoding` exactly where they aren't canonical.
+    /// Creates the number with these canonical bytes.
+    ///
+    /// # Errors
+    ///
+    /// `MpintEncoding` only if they are not canonical, and `OutOfMemory` if an allocation fails.
     pub fn from_bytes(alloc: Global, bytes: &[u8]) -> Result<Mpint, Error>
         ensures ok { IfOk result (λ m. (m ≡ bytes.now) × (is_canonical bytes.now ≡ true)) }
         ensures err { IfErr result (λ e. (e ≡ Error.OutOfMemory) ⊎ ((e ≡ Error.MpintEncoding) × (is_canonical bytes.now ≡ false))) }
@@ -100,7 +107,11 @@ impl Mpint {
         })
     }
 
-    /// [`Mpint::from_bytes`] by the name that a conversion from a slice would have.
+    /// Creates the number as [`Mpint::from_bytes`] does, under the name of a conversion from a slice.
+    ///
+    /// # Errors
+    ///
+    /// `MpintEncoding` only if the bytes are not canonical, and `OutOfMemory` if an allocation fails.
     pub fn try_from_slice(alloc: Global, bytes: &[u8]) -> Result<Mpint, Error>
         ensures ok { IfOk result (λ m. (m ≡ bytes.now) × (is_canonical bytes.now ≡ true)) }
         ensures err { IfErr result (λ e. (e ≡ Error.OutOfMemory) ⊎ ((e ≡ Error.MpintEncoding) × (is_canonical bytes.now ≡ false))) }
@@ -108,11 +119,15 @@ impl Mpint {
         Mpint::from_bytes(alloc, bytes)
     }
 
-    /// The number that the bytes spell without a sign. Leading zeros may stand.
+    /// Creates the number that the bytes spell without a sign. Leading zeros are allowed.
+    ///
+    /// # Errors
+    ///
+    /// `OutOfMemory` if an allocation fails.
     #[tactic(auto, using(crate::proofs::Numbers::positives))]
     pub fn from_positive_bytes(alloc: Global, bytes: &[u8]) -> Result<Mpint, Error>
         ensures ok { IfOk result (λ m. m ≡ positive bytes.now) }
-        ensures number { IfOk result (λ m. signed m ≡ pos (unsigned bytes.now)) }
+        ensures number { IfOk result (λ m. signed_value m ≡ pos (unsigned_value bytes.now)) }
         ensures err { IfErr result (λ e. e ≡ Error.OutOfMemory) }
     {
         Ok(Mpint {
@@ -120,7 +135,7 @@ impl Mpint {
         })
     }
 
-    /// The canonical bytes.
+    /// Returns the canonical bytes.
     pub fn as_bytes(&self) -> &[u8]
         ensures value { result.now ≡ self.now }
         ensures canonical { is_canonical self.now ≡ true }
@@ -128,10 +143,11 @@ impl Mpint {
         self.bytes.as_slice()
     }
 
-    /// The bytes of the number without a sign and without a leading 00. None exactly for a number below zero.
+    /// Returns the bytes of the number without a sign and without a leading 00. Returns `None` exactly for a number
+    /// below zero.
     pub fn as_positive_bytes(&self) -> Option<&[u8]>
         ensures bytes { option_map (λ s. s.now) result ≡ positive_bytes self.now }
-        ensures number { MatchOption result ((n : ℕ) × (signed self.now ≡ negsuc n)) (λ s. signed self.now ≡ pos (unsigned s.now)) }
+        ensures number { MatchOption result ((n : ℕ) × (signed_value self.now ≡ negsuc n)) (λ s. signed_value self.now ≡ pos (unsigned_value s.now)) }
     {
         match self.bytes.as_slice() {
             [] => Some(&[]),
@@ -147,9 +163,9 @@ impl Mpint {
         }
     }
 
-    /// Whether the number is above zero.
+    /// Returns true if the number is above zero.
     pub fn is_positive(&self) -> bool
-        ensures { result ≡ is_above_zero (signed self.now) }
+        ensures { result ≡ is_above_zero (signed_value self.now) }
     {
         match self.bytes.as_slice() {
             [] => false,
@@ -166,7 +182,7 @@ impl AsSlice<u8> for Mpint {
     }
 }
 
-/// Numbers are equal exactly where their bytes are.
+/// Numbers are equal exactly if their bytes are equal.
 impl PartialEq for Mpint {
     ghost eq = { pointwise ◌==◌ };
 
@@ -174,7 +190,7 @@ impl PartialEq for Mpint {
 
     fn eq(&self, other: &Mpint) -> bool
         ensures value { result ≡ pointwise ◌==◌ self.now other.now }
-        ensures number { IsTrue result ↔ (signed self.now ≡ signed other.now) }
+        ensures number { IsTrue result ↔ (signed_value self.now ≡ signed_value other.now) }
     {
         let mine = self.as_bytes();
         let theirs = other.as_bytes();
@@ -186,7 +202,7 @@ impl Eq for Mpint {
     ghost laws = { Prim.search (comparing, rules) };
 }
 
-/// A string that is a canonical number. Refused as a string, and `MpintEncoding` where it isn't canonical.
+/// A string that is a canonical number. The errors are those of a string, and `MpintEncoding` if it is not canonical.
 impl Decode for Mpint {
     type Error = Error;
 
@@ -230,7 +246,7 @@ impl TryFrom<BoxedSlice<u8>> for Mpint {
 
     ghost try_from_gives = { λ bytes r. MatchResult r (λ m. (m ≡ bytes.items.items) × (is_canonical bytes.items.items ≡ true)) (λ e. (e ≡ MpintEncoding) × (is_canonical bytes.items.items ≡ false)) };
 
-    /// The number with these canonical bytes, which are not copied. `MpintEncoding` exactly where they aren't
+    /// Creates the number with these canonical bytes, which are not copied. `MpintEncoding` exactly if they are not
     /// canonical.
     fn try_from(bytes: BoxedSlice<u8>) -> Result<Mpint, Error> {
         if !is_canonical_form(&bytes) {

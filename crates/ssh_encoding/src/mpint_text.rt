@@ -1,4 +1,4 @@
-//! The texts of numbers, in hexadecimal digits.
+//! Numbers as text, in hexadecimal digits.
 ghost use Rattle.std.specs.Prelude.{Some, true, ◌∷◌, []};
 ghost use Rattle.std.specs.Fmt.{WritesOnOk};
 ghost use Rattle.ssh_encoding.specs.Canonical.{hex_text};

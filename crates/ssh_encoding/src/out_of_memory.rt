@@ -1,8 +1,11 @@
+//! The error of a failed allocation.
 ghost use Rattle.std.specs.Prelude.{⊤};
 
 use std::alloc::{AllocError, AllocFailed};
 
-/// There was no memory for what a call needed.
+/// The error if an allocation that a call needed failed.
+///
+/// Example: `crates/example_client/src/trees.rt`.
 #[derive(Clone, Copy, Debug, PartialEq, Eq)]
 pub struct OutOfMemory;
 

@@ -3,7 +3,7 @@ ghost use Rattle.std.specs.Prelude.{◌≡◌, ℕ, List};
 ghost use Rattle.std.specs.Str.{is_utf8};
 ghost use Rattle.std.specs.String.{string_bytes};
 ghost use Rattle.ssh_encoding.specs.declared.error.Error.TheVariants.{OutOfMemory};
-ghost use Rattle.ssh_encoding.specs.Reading.{DecodesAs, IsSuffix, string_at, all_at, text_at, prefixed, texts_at, texts_of};
+ghost use Rattle.ssh_encoding.specs.Reading.{DecodesAs, IsSuffix, string_at, all_at, text_at, prefixed_value, texts_at, texts_of};
 ghost use Rattle.ssh_encoding.specs.Spelling.{IsString, IsText, IsTextList};
 ghost use Rattle.ssh_encoding.specs.Exact.{string_exact, text_exact, text_list_exact};
 
@@ -13,7 +13,7 @@ use crate::reader::Reader;
 use bytes::Bytes;
 use std::alloc::Global;
 
-/// string: a length and that many bytes. Refused as [`Reader::read_prefixed`].
+/// string: a length and that many bytes. The errors are those of [`Reader::read_prefixed`].
 impl Decode for Vec<u8> {
     type Error = Error;
 
@@ -36,7 +36,7 @@ impl Decode for Vec<u8> {
     ghost exact = { string_exact };
 }
 
-/// All bytes that are left.
+/// Returns all bytes that are left.
 fn take_all<R: Reader>(alloc: Global, reader: &mut R) -> Result<Vec<u8>, Error>
     ensures { DecodesAs (λ v. v.items) (λ e. e ≡ OutOfMemory) (R.left reader.new) result (all_at (R.left reader.old)) }
 {
@@ -45,7 +45,7 @@ fn take_all<R: Reader>(alloc: Global, reader: &mut R) -> Result<Vec<u8>, Error>
     Ok(bytes)
 }
 
-/// string: a length and that many bytes. Refused as [`Reader::read_prefixed`].
+/// string: a length and that many bytes. The errors are those of [`Reader::read_prefixed`].
 impl Decode for Bytes {
     type Error = Error;
 
@@ -65,7 +65,7 @@ impl Decode for Bytes {
     ghost exact = { string_exact };
 }
 
-/// A string in UTF-8. Refused as a string, and `CharacterEncoding` where its bytes aren't UTF-8.
+/// A string in UTF-8. The errors are those of a string, and `CharacterEncoding` if its bytes are not UTF-8.
 impl Decode for String {
     type Error = Error;
 
@@ -96,7 +96,7 @@ fn is_text(bytes: &[u8]) -> bool
     str::from_utf8(bytes).is_ok()
 }
 
-/// A string that holds texts to its end. Refused as a text, inside too.
+/// A string that holds texts to its end. The errors are those of a text, also inside it.
 impl Decode for Vec<String> {
     type Error = Error;
 
@@ -104,7 +104,7 @@ impl Decode for Vec<String> {
 
     ghost seen = { λ v. texts_of v.items };
 
-    ghost reading = { prefixed texts_at };
+    ghost reading = { prefixed_value texts_at };
 
     ghost spells = { IsTextList };
 
@@ -119,7 +119,7 @@ impl Decode for Vec<String> {
     ghost exact = { text_list_exact };
 }
 
-/// Texts until nothing is left.
+/// Reads texts until no bytes are left.
 #[tactic(auto, using(crate::proofs::Texts::texts))]
 fn take_texts<R: Reader>(alloc: Global, reader: &mut R) -> Result<Vec<String>, Error>
     ensures { DecodesAs (λ v. texts_of v.items) (λ e. e ≡ OutOfMemory) (R.left reader.new) result (texts_at (R.left reader.old)) }

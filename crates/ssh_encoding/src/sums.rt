@@ -1,10 +1,13 @@
+//! Sums that are checked for overflow.
 ghost use Rattle.std.specs.Prelude.{◌≡◌, ◌<◌, ◌+◌, ℕ, List, Some, IfOk, IfErr, sum};
 ghost use Rattle.std.specs.Iterator.{IsFinite, Drains, YieldsThen};
-ghost use Rattle.ssh_encoding.specs.Writing.{Counts};
+ghost use Rattle.ssh_encoding.specs.Writing.{CountsBytes};
 
 use crate::error::Error;
 
-/// What can be added up within the range of the sum.
+/// Values that can be added up within the range of the sum.
+///
+/// Used in `crates/ssh_encoding/src/lib.rt`.
 pub trait CheckedSum<A>: Sized {
     /// The values end.
     ghost ends: { Self → Type 0 };
@@ -15,7 +18,11 @@ pub trait CheckedSum<A>: Sized {
     /// The values, from the first up to some, have a sum over the greatest `A`.
     ghost passes: { Self → Type 0 };
 
-    /// The sum. `Length` exactly where it is over the greatest `A`.
+    /// Returns the sum.
+    ///
+    /// # Errors
+    ///
+    /// `Length` only if it is over the greatest `A`.
     fn checked_sum(self) -> Result<A, Error>
         requires { ends self }
         ensures ok { IfOk result (adds self) }
@@ -41,9 +48,9 @@ where
     }
 }
 
-/// The sum of two lengths. `Length` where it is over `usize::MAX`.
+/// Returns the sum of two lengths. `Length` if it is over `usize::MAX`.
 pub(crate) fn add_lens(a: usize, b: usize) -> Result<usize, Error>
-    ensures { Counts result (a + b) }
+    ensures { CountsBytes result (a + b) }
 {
     a.checked_add(b).ok_or(Error::Length)
 }

@@ -1,18 +1,25 @@
+//! Writers of bytes.
 ghost use Rattle.std.specs.Prelude.{◌≡◌, ⊤, ℕ, List, ◌++◌, OnOk, IfErr};
 ghost use Rattle.ssh_encoding.specs.Writing.{IsPart};
 
 use crate::error::Error;
 use bytes::BytesMut;
 
-/// What bytes are written to. `Vec<u8>`, `BytesMut` and [`crate::DigestWriter`] are writers.
+/// A target to which bytes are written. `Vec<u8>`, `BytesMut` and [`crate::DigestWriter`] are writers.
+///
+/// Used in `crates/sftp_wire/src/fields.rt`.
 pub trait Writer: Sized {
     /// The bytes that it holds.
     ghost wrote: { Self → List ℕ };
 
-    /// Both write to one place. It says something of a writer that holds a `&mut`.
+    /// Both write to one place. This matters for a writer that holds a `&mut`.
     ghost goes_to: { Self → Self → Type 0 };
 
-    /// Appends the bytes. `OutOfMemory` alone; a prefix of the bytes may stand then.
+    /// Appends the bytes.
+    ///
+    /// # Errors
+    ///
+    /// `OutOfMemory` only; a prefix of the bytes may have been written.
     fn write(&mut self, bytes: &[u8]) -> Result<(), Error>
         ensures ok { OnOk result (wrote self.new ≡ wrote self.old ++ bytes.now) }
         ensures err { IfErr result (λ e. (e ≡ Error.OutOfMemory) × IsPart (wrote self.old) (wrote self.new) bytes.now) }
@@ -21,7 +28,7 @@ pub trait Writer: Sized {
     /// A writer writes to its own place.
     ghost stays: { (a : Self) → goes_to a a };
 
-    /// Writing goes on at one place.
+    /// Writing continues at one place.
     ghost goes_on: { (a b c : Self) → goes_to a b → goes_to b c → goes_to a c };
 }
 

@@ -1,3 +1,3 @@
-pub mod AwaitLaws
-pub mod RunLaws
-pub mod ListLaws
+mod AwaitLaws
+mod RunLaws
+mod ListLaws

@@ -7,25 +7,25 @@ use Rattle.std.proofs.lemmas.List.{append_assoc, append-nil}
 use Rattle.std.proofs.lemmas.Grind.{flat_map-append}
 use Rattle.sftp_core.specs.Core.{Core}
 use Rattle.sftp_core.specs.Grant.{GrantValue}
-use Rattle.call_state.specs.Calls.{CallValue}
-use Rattle.sftp_file.specs.Settles.{settling}
+use Rattle.plan_state.specs.Calls.{CallValue}
+use Rattle.sftp_file.specs.Settles.{settle_meaning}
 use Rattle.sftp_file.specs.declared.settling.Settling.{Settling}
 use Rattle.sftp_fs.specs.Directories.{ClosesDir, OpensFrom, opening_dir}
-use Rattle.transfer_remote.specs.Awaits.{Awaited}
+use Rattle.transfer_remote.specs.Awaits.{AwaitsCall}
 use Rattle.sftp_link.specs.Views.{LinkView}
 use Rattle.sftp_model.specs.declared.error.Error.{Error}
-use Rattle.call_state.specs.declared.poll.Poll.TheVariants.{Pending, Ready}
+use Rattle.plan_state.specs.declared.poll.Poll.TheVariants.{Pending, Ready}
 use Rattle.sftp_client.specs.Sessions.{SftpValue, with_core}
 use Rattle.sftp_fs.proofs.CallSteps.{listing_still}
-use Rattle.sftp_fs.specs.Listings.{Given, IsListing, ListingValue, PollsEntries, fresh_listing, given_up}
-use Rattle.transfer_copier.specs.Sessions.{IsGoing, TookTurn}
+use Rattle.sftp_fs.specs.Listings.{ListingAnswer, IsListing, ListingValue, PollsEntries, fresh_listing, given_up}
+use Rattle.transfer_pool.specs.Sessions.{IsGoing, TookTurn}
 use Rattle.transfer_remote.specs.Runs.{IsFree, RunsCall}
 use Rattle.transfer_remote.proofs.RunLaws.{live_going}
 use Rattle.sftp_model.specs.declared.reply.NameEntry.{NameEntry}
 use Rattle.sftp_meta.specs.FileType.{type_of_mode}
-use Rattle.transfer_walk.specs.Entries.{entry_found}
-use Rattle.transfer_walk.specs.Walks.{WalkValue, with_entry}
-use Rattle.transfer_walk.specs.declared.found.Found.{Found}
+use Rattle.transfer_plan.specs.Entries.{entry_found}
+use Rattle.transfer_plan.specs.Walks.{WalkValue, with_entry}
+use Rattle.transfer_plan.specs.declared.found.Found.{Found}
 use Rattle.transfer_remote.specs.Listed.{
   GrowsByGiven,
   HasGrown,
@@ -53,17 +53,20 @@ self_listed e w is = record {
   rest = refl;
   grown = λ folder g.
       let nothing : listed_as w.texts folder e ≡ [] = by_test folder (is_self e.filename) is in
-      sym (append-nil w.found) ∙ ap (λ (l : List Found). w.found ++ l) (sym (append-nil []) ∙ ap (λ (l : List Found). l ++ []) (sym nothing));
+      sym (append-nil w.found) ∙ ap (λ (l : List Found). w.found ++ l)
+      (sym (append-nil []) ∙ ap (λ (l : List Found). l ++ []) (sym nothing));
 }
   where
     by_test : (folder : Found) (t : Bool) → t ≡ true
-        → (if t then [] else entry_found w.texts folder e.filename (kind_of (option_and_then type_of_mode e.attrs.permissions)) e.attrs ∷ []) ≡ []
+        → (if t then [] else entry_found w.texts folder e.filename
+        (kind_of (option_and_then type_of_mode e.attrs.permissions)) e.attrs ∷ []) ≡ []
     by_test folder true is = refl
     by_test folder false is = absurd cc
 
 pub entry_listed : (e : NameEntry) (old new : WalkValue) → is_self e.filename ≡ false
     → (folder : Found) → slice_get old.found old.at ≡ Some folder
-    → new ≡ with_entry old (entry_found old.texts folder e.filename (kind_of (option_and_then type_of_mode e.attrs.permissions)) e.attrs)
+    → new ≡ with_entry old (entry_found old.texts folder e.filename
+    (kind_of (option_and_then type_of_mode e.attrs.permissions)) e.attrs)
     → HasListedInto (e ∷ []) old new
 entry_listed e old new other folder listed is = record {
   rest = subst (λ (w : WalkValue). w ≡ record old { found = w.found }) (sym is) refl;
@@ -72,7 +75,8 @@ entry_listed e old new other folder listed is = record {
       let one : folder ≡ same = cc in
       let plain : listed_as old.texts same e ≡ found_as same ∷ [] = by_test same (is_self e.filename) other in
       ap (λ (w : WalkValue). w.found) is ∙ ap (λ (f : Found). old.found ++ found_as f ∷ []) one
-      ∙ ap (λ (l : List Found). old.found ++ l) (sym (append-nil (found_as same ∷ [])) ∙ ap (λ (l : List Found). l ++ []) (sym plain));
+      ∙ ap (λ (l : List Found). old.found ++ l) (sym (append-nil (found_as same ∷ []))
+      ∙ ap (λ (l : List Found). l ++ []) (sym plain));
 }
   where
     found_as : Found → Found
@@ -117,8 +121,10 @@ grown_then a b c first later =
 -- ---- a step
 
 -- a poll leaves a session that may go on
-pub polled_on : {L S : Type 0} (state : L → LinkView S) (old : SftpValue L) (core : Core) (p q : ListingValue) (given : Given)
-    → IsFree state old → PollsEntries old.core core p q given → MayGoOn state (record { session = with_core old core; listing = q })
+pub polled_on : {L S : Type 0} (state : L → LinkView S) (old : SftpValue L) (core : Core) (p q : ListingValue)
+    (given : ListingAnswer)
+    → IsFree state old → PollsEntries old.core core p q given →
+    MayGoOn state (record { session = with_core old core; listing = q })
 polled_on state old core p q given free lists = record {
   going = live_going state (with_core old core)
       (record { opened = lists.grants.opened free.live.opened; few = free.live.few });
@@ -126,7 +132,7 @@ polled_on state old core p q given free lists = record {
 }
 
 pub turned_on : {L S E : Type 0} (state : L → LinkView S) (old : SftpValue L) (core : Core) (new : SftpValue L)
-    (p q : ListingValue) (given : Given) (result : Result (Unit {0}) E)
+    (p q : ListingValue) (given : ListingAnswer) (result : Result (Unit {0}) E)
     → PollsEntries old.core core p q given → TookTurn state (with_core old core) new result
     → MayGoOn state (record { session = new; listing = q })
 turned_on state old core new p q given result lists turned =
@@ -135,7 +141,8 @@ turned_on state old core new p q given result lists turned =
 pub told_given : {L S E : Type 0} (state : L → LinkView S) (old : SftpValue L) (core : Core) (p q : ListingValue)
     (given : Option (Result NameEntry Error)) (w v : WalkValue) (result : Result Bool E)
     → PollsEntries old.core core p q (Ready given) → GrowsByGiven given w v result
-    → StepTold state (record { session = old; listing = p }) (record { session = with_core old core; listing = q }) w v result
+    → StepTold state (record { session = old; listing = p }) (record { session = with_core old core; listing = q }) w v
+    result
 told_given state old core p q None w v (Ok true) lists h = (record { lists = lists; rest = refl }, h.1)
 told_given state old core p q None w v (Ok false) lists h = absurd (let never : false ≡ true = h.0 in cc)
 told_given state old core p q (Some (Ok entry)) w v (Ok true) lists h = absurd (let never : true ≡ false = h.0 in cc)
@@ -156,7 +163,13 @@ pub told_turns : {L S D : Type 0} (E : Type 0) (state : L → LinkView S) (old :
     StepTold state (record { session = old; listing = p }) (record { session = new; listing = q }) w w result)
 told_turns E state old core new p q w lists turned = (
   [],
-  inr (record { session = with_core old core; listing = q }, record { lists = lists; rest = refl }, turned.turns, refl, refl),
+  inr (
+    record { session = with_core old core; listing = q },
+    record { lists = lists; rest = refl },
+    turned.turns,
+    refl,
+    refl,
+  ),
   none_listed w,
 )
 
@@ -171,7 +184,8 @@ pub record IsListingOn {L S : Type 0} (state : L → LinkView S) (first now : Li
   pub taken : TakesSteps state steps first entries now
   pub grown : HasListedInto entries before after
 
-pub begins_on : {L S : Type 0} (state : L → LinkView S) (first : ListingAt L) (w : WalkValue) → IsGoing state first.session
+pub begins_on : {L S : Type 0} (state : L → LinkView S) (first : ListingAt L) (w : WalkValue)
+    → IsGoing state first.session
     → IsListing first.session.core first.listing → IsListingOn state first first w w
 begins_on state first w going listing = record {
   goes = record { going = going; listing = listing };
@@ -219,22 +233,25 @@ pub grown_told : {L S E : Type 0} (state : L → LinkView S) (old new : ListingA
 grown_told state old new w v (Ok u) told = (told.entries, told.grown)
 grown_told state old new w v (Err e) told = told
 
-pub is_end : {L S E : Type 0} (state : L → LinkView S) (mid new : ListingAt L) (u v : WalkValue) (result : Result Bool E)
+pub is_end : {L S E : Type 0} (state : L → LinkView S) (mid new : ListingAt L) (u v : WalkValue)
+    (result : Result Bool E)
     → result ≡ Ok true → StepTold state mid new u v result → PollsListing mid new (Ready None) × (v ≡ u)
 is_end state mid new u v result is told = subst (λ (r : Result Bool _). StepTold state mid new u v r) is told
 
-pub is_step : {L S E : Type 0} (state : L → LinkView S) (mid new : ListingAt L) (u v : WalkValue) (result : Result Bool E)
+pub is_step : {L S E : Type 0} (state : L → LinkView S) (mid new : ListingAt L) (u v : WalkValue)
+    (result : Result Bool E)
     → result ≡ Ok false → StepTold state mid new u v result
     → ((entries : List NameEntry) × TakesStep state mid new entries × HasListedInto entries u v)
 is_step state mid new u v result is told = subst (λ (r : Result Bool _). StepTold state mid new u v r) is told
 
 -- ---- a folder
 
-pub closed_told : {L S E : Type 0} (state : L → LinkView S) (dir : GrantValue) (old : SftpValue L) (listed : ListingAt L)
+pub closed_told : {L S E : Type 0} (state : L → LinkView S) (dir : GrantValue) (old : SftpValue L)
+    (listed : ListingAt L)
     (core : Core) (call : CallValue Settling) (new : SftpValue L) (w v : WalkValue) (result : Result (Unit {0}) E)
     → ListsToEnd state (record { session = old; listing = fresh_listing dir }) listed w v
     → ClosesDir listed.listing.grant (given_up listed.session.core listed.listing.asked) core call
-    → Awaited state settling (record { session = with_core listed.session core; call = call }) new result
+    → AwaitsCall state settle_meaning (record { session = with_core listed.session core; call = call }) new result
     → ClosedTold state dir old new w v result
 closed_told state dir old listed core call new w v (Ok u) lists closes awaited = record {
   listed = listed;

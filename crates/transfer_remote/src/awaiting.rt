@@ -1,16 +1,16 @@
-//! A session goes on until what is awaited came.
-ghost use Rattle.transfer_remote.specs.Awaits.{AnsweredCall, Awaited, IsPlain, IsSettled, MayAwait};
+//! Runs a session until an awaited answer has come.
+ghost use Rattle.transfer_remote.specs.Awaits.{AnsweredCall, AwaitsCall, IsPlain, IsSettled, MayAwait};
 
-use crate::failure::Failure;
-use call_state::{Alone, PendingCall};
+use crate::remote_error::RemoteError;
+use plan_state::{Alone, PendingCall};
 use sftp_client::Sftp;
 use sftp_file::Poll;
 use sftp_link::Link;
 use sftp_model::Error;
-use transfer_copier::turn;
+use transfer_pool::turn;
 
-/// What an answer of the session is to who awaits it.
-fn settled<V>(answer: Result<V, Error>) -> Result<V, Failure>
+/// Converts an answer of the session for its caller.
+fn settled<V>(answer: Result<V, Error>) -> Result<V, RemoteError>
     ensures { IsSettled answer result }
 {
     match answer {
@@ -19,11 +19,11 @@ fn settled<V>(answer: Result<V, Error>) -> Result<V, Failure>
     }
 }
 
-/// Turns until a call has answered, or a turn failed.
+/// Takes turns until a call was answered, or a turn failed.
 fn answer_of<L: Link, M: Alone>(
     sftp: &mut Sftp<L>,
     call: &mut PendingCall<M>,
-) -> Result<M::Value, Failure>
+) -> Result<M::Value, RemoteError>
     requires plain { IsPlain M.PlanRunner.meaning }
     requires may { MayAwait L.LinkState.state M.PlanRunner.meaning (record { session = sftp.old; call = call.old }) }
     ensures { AnsweredCall L.LinkState.state M.PlanRunner.meaning (record { session = sftp.old; call = call.old })
@@ -32,7 +32,7 @@ fn answer_of<L: Link, M: Alone>(
     for _ in 0..u64::MAX {
         let core = sftp.core();
         if let Some(fault) = core.fault() {
-            return Err(Failure::Remote(Error::BackgroundTaskFailure(fault)));
+            return Err(RemoteError::Remote(Error::BackgroundTaskFailure(fault)));
         }
         match call.poll(core) {
             Poll::Ready(answer) => return settled(answer),
@@ -42,17 +42,17 @@ fn answer_of<L: Link, M: Alone>(
             },
         }
     }
-    Err(Failure::TooLong)
+    Err(RemoteError::TooLong)
 }
 
-/// What a call answers. A call that has not answered is given up.
+/// Returns the answer of a call. A call that was not answered is cancelled.
 pub(crate) fn await_call<L: Link, M: Alone>(
     sftp: &mut Sftp<L>,
     call: PendingCall<M>,
-) -> Result<M::Value, Failure>
+) -> Result<M::Value, RemoteError>
     requires plain { IsPlain M.PlanRunner.meaning }
     requires may { MayAwait L.LinkState.state M.PlanRunner.meaning (record { session = sftp.old; call = call }) }
-    ensures { Awaited L.LinkState.state M.PlanRunner.meaning (record { session = sftp.old; call = call }) sftp.new result }
+    ensures { AwaitsCall L.LinkState.state M.PlanRunner.meaning (record { session = sftp.old; call = call }) sftp.new result }
 {
     let mut call = call;
     let answer = answer_of(sftp, &mut call);

@@ -1,38 +1,38 @@
-//! A folder of the server is listed into a walk.
+//! Lists a directory of the server into a walk.
 ghost use Rattle.std.specs.Prelude.{◌≡◌, ◌∷◌, [], IfOk};
 ghost use Rattle.sftp_core.specs.Core.{IsGrant};
 ghost use Rattle.sftp_fs.specs.Directories.{OpensFrom, opening_dir};
 ghost use Rattle.sftp_fs.specs.Listings.{IsListing};
-ghost use Rattle.transfer_copier.specs.Sessions.{IsGoing};
+ghost use Rattle.transfer_pool.specs.Sessions.{IsGoing};
 ghost use Rattle.transfer_remote.specs.Listed.{ListingTold, ClosedTold, FolderTold, GrowsBy, GrowsByGiven, MayGoOn, StepTold, is_self, kind_of};
 ghost use Rattle.transfer_remote.specs.Runs.{RunsCall};
 
 use crate::asks::{finish, plain_paths, ready};
 use crate::awaiting::await_call;
-use crate::failure::Failure;
+use crate::remote_error::RemoteError;
 use sftp_client::{Dir, DirEntry, ReadDir, Sftp};
 use sftp_file::Poll;
 use sftp_link::Link;
 use sftp_meta::FileType;
 use sftp_model::Error;
 use std::alloc::Global;
-use transfer_copier::turn;
-use transfer_walk::{EntryKind, Walk, WalkError};
+use transfer_plan::{EntryKind, Walk, WalkError};
+use transfer_pool::turn;
 
-/// The name under which a folder lists itself.
+/// The name under which a directory lists itself.
 const SELF: &[u8] = b".";
 
-/// The name under which a folder lists the one above.
+/// The name under which a directory lists its parent.
 const ABOVE: &[u8] = b"..";
 
-/// Whether an entry is the folder itself, or the one above.
+/// Returns true if an entry is the directory itself or its parent.
 fn is_self(name: &[u8]) -> bool
     ensures { result ≡ is_self name.now }
 {
     name == SELF || name == ABOVE
 }
 
-/// What an entry is by its type; `Other` also where the server doesn't tell it.
+/// Returns the kind of an entry, by its type; `Other` also if the server doesn't report the type.
 fn kind_of(kind: Option<FileType>) -> EntryKind
     ensures { result ≡ kind_of kind }
 {
@@ -50,8 +50,8 @@ fn kind_of(kind: Option<FileType>) -> EntryKind
     }
 }
 
-/// Adds an entry to a walk, unless it is the folder itself or the one above.
-fn add_entry(alloc: Global, walk: &mut Walk, entry: &DirEntry) -> Result<(), Failure>
+/// Adds an entry to a walk, unless it is the directory itself or its parent. After an error the walk is unchanged.
+fn add_entry(alloc: Global, walk: &mut Walk, entry: &DirEntry) -> Result<(), RemoteError>
     ensures { GrowsBy (entry.now ∷ []) walk.old walk.new result }
 {
     let name = entry.filename().as_bytes();
@@ -61,17 +61,17 @@ fn add_entry(alloc: Global, walk: &mut Walk, entry: &DirEntry) -> Result<(), Fai
     let attrs = entry.metadata().into_inner();
     match walk.add(alloc, name, kind_of(entry.file_type()), attrs) {
         Ok(()) => Ok(()),
-        Err(WalkError::TooMany) => Err(Failure::TooManyEntries),
-        Err(WalkError::OutOfMemory) => Err(Failure::OutOfMemory),
+        Err(WalkError::TooMany) => Err(RemoteError::TooManyEntries),
+        Err(WalkError::OutOfMemory) => Err(RemoteError::OutOfMemory),
     }
 }
 
-/// What a poll of a listing gave: an entry is added. True at the end.
+/// Adds the entry that a poll of a listing returned. Returns true at the end.
 fn take_given(
     alloc: Global,
     walk: &mut Walk,
     given: Option<Result<DirEntry, Error>>,
-) -> Result<bool, Failure>
+) -> Result<bool, RemoteError>
     ensures { GrowsByGiven given walk.old walk.new result }
 {
     match given {
@@ -84,13 +84,13 @@ fn take_given(
     }
 }
 
-/// One poll of a listing: its entry is added, and where none has come the session takes a turn. True at the end.
+/// Polls a listing once: its entry is added, and if none has come the session takes a turn. Returns true at the end.
 fn list_step<L: Link>(
     alloc: Global,
     sftp: &mut Sftp<L>,
     listing: &mut ReadDir,
     walk: &mut Walk,
-) -> Result<bool, Failure>
+) -> Result<bool, RemoteError>
     requires going { IsGoing L.LinkState.state sftp.old }
     requires listing { IsListing sftp.old.core listing.old }
     ensures goes { MayGoOn L.LinkState.state (record { session = sftp.new; listing = listing.new }) }
@@ -116,7 +116,7 @@ fn list_entries<L: Link>(
     sftp: &mut Sftp<L>,
     listing: &mut ReadDir,
     walk: &mut Walk,
-) -> Result<(), Failure>
+) -> Result<(), RemoteError>
     requires going { IsGoing L.LinkState.state sftp.old }
     requires listing { IsListing sftp.old.core listing.old }
     ensures goes { MayGoOn L.LinkState.state (record { session = sftp.new; listing = listing.new }) }
@@ -130,11 +130,11 @@ fn list_entries<L: Link>(
             Err(e) => return Err(e),
         }
     }
-    Err(Failure::TooLong)
+    Err(RemoteError::TooLong)
 }
 
-/// Opens a folder of the server.
-fn open_folder<L: Link>(alloc: Global, sftp: &mut Sftp<L>, path: &[u8]) -> Result<Dir, Failure>
+/// Opens a directory of the server.
+fn open_folder<L: Link>(alloc: Global, sftp: &mut Sftp<L>, path: &[u8]) -> Result<Dir, RemoteError>
     requires { IsGoing L.LinkState.state sftp.old }
     ensures runs { RunsCall L.LinkState.state opening_dir (OpensFrom path.now []) sftp.old sftp.new result }
     ensures held { IfOk result (λ dir. IsGrant sftp.new.core dir) }
@@ -148,13 +148,14 @@ fn open_folder<L: Link>(alloc: Global, sftp: &mut Sftp<L>, path: &[u8]) -> Resul
     }
 }
 
-/// Adds the entries of an open folder to a walk, up to their end, and closes the folder whatever came of it.
+/// Adds the entries of an open directory to a walk, up to their end, and closes the directory whether or not that
+/// succeeded.
 fn list_closed<L: Link>(
     alloc: Global,
     sftp: &mut Sftp<L>,
     dir: Dir,
     walk: &mut Walk,
-) -> Result<(), Failure>
+) -> Result<(), RemoteError>
     requires going { IsGoing L.LinkState.state sftp.old }
     requires granted { IsGrant sftp.old.core dir }
     ensures going { IsGoing L.LinkState.state sftp.new }
@@ -170,13 +171,18 @@ fn list_closed<L: Link>(
     }
 }
 
-/// Adds the entries of the walk's folder, as the server lists them, without the folder itself and the one above. After an
-/// error those are added that came before it. The folder is closed whatever came of it.
+/// Adds the entries of the walk's current directory, as the server lists them, without the directory itself and its
+/// parent. The directory is closed whether or not the listing succeeded.
+///
+/// # Errors
+///
+/// A `RemoteError` if the server refuses, the session fails, an allocation fails, the walk has too many entries or
+/// 18446744073709551615 steps were not enough. The entries that came before it are added.
 pub fn list_remote<L: Link>(
     alloc: Global,
     sftp: &mut Sftp<L>,
     walk: &mut Walk,
-) -> Result<(), Failure>
+) -> Result<(), RemoteError>
     requires { IsGoing L.LinkState.state sftp.old }
     ensures going { IsGoing L.LinkState.state sftp.new }
     ensures told { FolderTold L.LinkState.state sftp.old sftp.new walk.old walk.new result }

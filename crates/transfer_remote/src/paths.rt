@@ -1,30 +1,35 @@
 //! Calls on paths.
 ghost use Rattle.std.specs.Prelude.{[]};
 ghost use Rattle.plan_model.specs.PathPlans.{mkdir_next, read_link_next, stat_next, symlink_next};
-ghost use Rattle.sftp_file.specs.Settles.{settling};
-ghost use Rattle.sftp_file.specs.Tells.{telling};
-ghost use Rattle.sftp_fs.specs.Names.{naming};
+ghost use Rattle.sftp_file.specs.Settles.{settle_meaning};
+ghost use Rattle.sftp_file.specs.Tells.{attrs_meaning};
+ghost use Rattle.sftp_fs.specs.Names.{name_meaning};
 ghost use Rattle.sftp_fs.specs.PathStarts.{StartsFrom};
 ghost use Rattle.sftp_fs.specs.SettingPlans.{set_attrs_next};
-ghost use Rattle.transfer_copier.specs.Sessions.{IsGoing};
+ghost use Rattle.transfer_pool.specs.Sessions.{IsGoing};
 ghost use Rattle.transfer_remote.specs.Runs.{RunsCall};
 
 use crate::asks::{finish, plain_paths, ready};
-use crate::failure::Failure;
+use crate::remote_error::RemoteError;
 use sftp_client::Sftp;
 use sftp_link::Link;
 use sftp_meta::MetaData;
 use sftp_model::{FileAttrs, RemotePath};
 use std::alloc::Global;
 
-/// Makes a folder (draft-ietf-secsh-filexfer-02, section 6.6).
+/// Creates a directory (draft-ietf-secsh-filexfer-02, section 6.6).
+///
+/// # Errors
+///
+/// A `RemoteError` if the server refuses, the session fails, an allocation fails or 18446744073709551615 steps were not
+/// enough; the session stays open.
 pub fn make_remote_folder<L: Link>(
     alloc: Global,
     sftp: &mut Sftp<L>,
     path: &[u8],
-) -> Result<(), Failure>
+) -> Result<(), RemoteError>
     requires { IsGoing L.LinkState.state sftp.old }
-    ensures { RunsCall L.LinkState.state settling (StartsFrom settling (mkdir_next path.now) []) sftp.old sftp.new result }
+    ensures { RunsCall L.LinkState.state settle_meaning (StartsFrom settle_meaning (mkdir_next path.now) []) sftp.old sftp.new result }
 {
     match ready(sftp) {
         Ok(()) => {
@@ -35,15 +40,21 @@ pub fn make_remote_folder<L: Link>(
     }
 }
 
-/// Makes a symbolic link at a path (draft-ietf-secsh-filexfer-02, section 6.10, in the order that OpenSSH's server reads).
+/// Creates a symbolic link at a path (draft-ietf-secsh-filexfer-02, section 6.10, in the order that OpenSSH's server
+/// reads).
+///
+/// # Errors
+///
+/// A `RemoteError` if the server refuses, the session fails, an allocation fails or 18446744073709551615 steps were not
+/// enough; the session stays open.
 pub fn make_remote_link<L: Link>(
     alloc: Global,
     sftp: &mut Sftp<L>,
     names: &[u8],
     path: &[u8],
-) -> Result<(), Failure>
+) -> Result<(), RemoteError>
     requires { IsGoing L.LinkState.state sftp.old }
-    ensures { RunsCall L.LinkState.state settling (StartsFrom settling (symlink_next names.now path.now) []) sftp.old sftp.new result }
+    ensures { RunsCall L.LinkState.state settle_meaning (StartsFrom settle_meaning (symlink_next names.now path.now) []) sftp.old sftp.new result }
 {
     match ready(sftp) {
         Ok(()) => {
@@ -54,14 +65,19 @@ pub fn make_remote_link<L: Link>(
     }
 }
 
-/// What the symbolic link at a path names (draft-ietf-secsh-filexfer-02, section 6.10).
+/// Returns the target of the symbolic link at a path (draft-ietf-secsh-filexfer-02, section 6.10).
+///
+/// # Errors
+///
+/// A `RemoteError` if the server refuses, the session fails, an allocation fails or 18446744073709551615 steps were not
+/// enough; the session stays open.
 pub fn read_remote_link<L: Link>(
     alloc: Global,
     sftp: &mut Sftp<L>,
     path: &[u8],
-) -> Result<RemotePath, Failure>
+) -> Result<RemotePath, RemoteError>
     requires { IsGoing L.LinkState.state sftp.old }
-    ensures { RunsCall L.LinkState.state naming (StartsFrom naming (read_link_next path.now) []) sftp.old sftp.new result }
+    ensures { RunsCall L.LinkState.state name_meaning (StartsFrom name_meaning (read_link_next path.now) []) sftp.old sftp.new result }
 {
     match ready(sftp) {
         Ok(()) => {
@@ -72,14 +88,20 @@ pub fn read_remote_link<L: Link>(
     }
 }
 
-/// What the server tells of a path; a symbolic link is followed (draft-ietf-secsh-filexfer-02, section 6.8).
+/// Returns the metadata that the server reports for a path; a symbolic link is followed (draft-ietf-secsh-filexfer-02,
+/// section 6.8).
+///
+/// # Errors
+///
+/// A `RemoteError` if the server refuses, the session fails, an allocation fails or 18446744073709551615 steps were not
+/// enough; the session stays open.
 pub fn remote_metadata<L: Link>(
     alloc: Global,
     sftp: &mut Sftp<L>,
     path: &[u8],
-) -> Result<MetaData, Failure>
+) -> Result<MetaData, RemoteError>
     requires { IsGoing L.LinkState.state sftp.old }
-    ensures { RunsCall L.LinkState.state telling (StartsFrom telling (stat_next path.now) []) sftp.old sftp.new result }
+    ensures { RunsCall L.LinkState.state attrs_meaning (StartsFrom attrs_meaning (stat_next path.now) []) sftp.old sftp.new result }
 {
     match ready(sftp) {
         Ok(()) => {
@@ -91,14 +113,19 @@ pub fn remote_metadata<L: Link>(
 }
 
 /// Sets the attributes that are given (draft-ietf-secsh-filexfer-02, section 6.9).
+///
+/// # Errors
+///
+/// A `RemoteError` if the server refuses, the session fails, an allocation fails or 18446744073709551615 steps were not
+/// enough; the session stays open.
 pub fn set_remote_attrs<L: Link>(
     alloc: Global,
     sftp: &mut Sftp<L>,
     path: &[u8],
     attrs: FileAttrs,
-) -> Result<(), Failure>
+) -> Result<(), RemoteError>
     requires { IsGoing L.LinkState.state sftp.old }
-    ensures { RunsCall L.LinkState.state settling (StartsFrom settling (set_attrs_next path.now attrs) []) sftp.old sftp.new result }
+    ensures { RunsCall L.LinkState.state settle_meaning (StartsFrom settle_meaning (set_attrs_next path.now attrs) []) sftp.old sftp.new result }
 {
     match ready(sftp) {
         Ok(()) => {

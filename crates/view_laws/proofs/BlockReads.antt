@@ -49,22 +49,22 @@ use Rattle.machine_model.specs.declared.opened.Opened.{Opened}
 use Rattle.view_model.specs.Viewed.{
   Doing,
   Found,
-  closing,
-  fetched,
+  close_file_call,
+  fetched_block,
   makes,
-  opening,
+  open_call,
   pure,
   read_at,
   read_on,
-  reading,
+  read_call,
   reads_only,
-  seeking,
+  seek_call,
   unless_refused,
   was_read,
   ◌>>=◌,
 }
 use Rattle.view_model.specs.ViewOps.{passes_length}
-use Rattle.view_laws.specs.FileCalls.{Brings, FilesAt, OpensBy, OpensNode, Standing, TellsEnd, at_rest, at_start, bare, standing}
+use Rattle.view_laws.specs.FileCalls.{BringsBytes, FilesAt, OpensBy, OpensNode, OpenFilePlace, TellsEnd, at_rest, at_start, bare, files_with_open}
 use Rattle.view_laws.proofs.Bytes.{drop_first}
 use Rattle.view_laws.proofs.DoingLaws.{Holds, Post, holds_after, holds_bind, holds_pure}
 
@@ -73,11 +73,12 @@ use Rattle.view_laws.proofs.DoingLaws.{Holds, Post, holds_after, holds_bind, hol
 -- these bytes were read, and the file is still open
 pub record HasRead (tree : FileTree) (bytes : List ℕ) (found : Found) (now : FilesAt) : Type 0 where
   pub value : found ≡ Ok bytes
-  pub slot : Standing
-  pub now_is : now ≡ standing tree slot
+  pub slot : OpenFilePlace
+  pub now_is : now ≡ files_with_open tree slot
 
 -- bytes up to where the file ends are all that a block has
-ends_here : (off block : ℕ) (file bytes more : List ℕ) → drop off file ≡ bytes ++ more → length file ≤ off + length bytes
+ends_here : (off block : ℕ) (file bytes more : List ℕ) → drop off file ≡ bytes ++ more
+    → length file ≤ off + length bytes
     → length bytes < block → bytes ++ [] ≡ take block (drop off file)
 ends_here off block file bytes more is behind short =
     let none : more ≡ [] = sym (drop_first off file bytes more is) ∙ drop_all (off + length bytes) file behind in
@@ -90,12 +91,13 @@ module _ (len block off : ℕ) (tree : FileTree) (file : ℕ) where
 
   -- further READs, at most so many, bring the whole block
   abbrev ReadsOn : ℕ → Type 0
-  ReadsOn most = (bytes more : List ℕ) (s : Standing) → s.file ≡ file → s.readable ≡ true → s.offset ≡ off + length bytes
+  ReadsOn most = (bytes more : List ℕ) (s : OpenFilePlace) → s.file ≡ file → s.readable ≡ true → s.offset
+      ≡ off + length bytes
       → drop off (bytes_of tree file) ≡ bytes ++ more → length bytes < block → block ≤ most + length bytes
-      → Holds len (read_on block most bytes) (standing tree s) whole_block
+      → Holds len (read_on block most bytes) (files_with_open tree s) whole_block
 
   -- what is done after a READ that brought bytes
-  after_bytes : (most : ℕ) (bytes b rest : List ℕ) (now : FilesAt) (s : Standing) → now ≡ standing tree s
+  after_bytes : (most : ℕ) (bytes b rest : List ℕ) (now : FilesAt) (s : OpenFilePlace) → now ≡ files_with_open tree s
       → drop off (bytes_of tree file) ≡ (bytes ++ b) ++ rest → 1 ≤ length b → length (bytes ++ b) ≤ block
       → (length (bytes ++ b) < block → Holds len (read_on block most (bytes ++ b)) now whole_block)
       → Holds len (was_read block bytes (Ok b) (λ more. read_on block most more)) now whole_block
@@ -109,19 +111,21 @@ module _ (len block off : ℕ) (tree : FileTree) (file : ℕ) where
       by_tests false true e f =
           let full : block ≤ length (bytes ++ b) = grind (arith, nat_tests) in
           holds_pure len (Ok (bytes ++ b)) now whole_block (record {
-            value = ap (λ (w : List ℕ). Ok w) (sym (ap (take block) is ∙ take_at (bytes ++ b) rest block (omega (arith, full, le))));
+            value = ap (λ (w : List ℕ). Ok w) (sym (ap (take block) is
+                ∙ take_at (bytes ++ b) rest block (omega (arith, full, le))));
             slot = s;
             now_is = at;
           })
       by_tests false false e f = more (let lt : length (bytes ++ b) < block = grind (arith, nat_tests) in lt)
 
-  pub reads_on : (most : ℕ) (bytes more : List ℕ) (s : Standing) → s.file ≡ file → s.readable ≡ true
+  pub reads_on : (most : ℕ) (bytes more : List ℕ) (s : OpenFilePlace) → s.file ≡ file → s.readable ≡ true
       → s.offset ≡ off + length bytes → drop off (bytes_of tree file) ≡ bytes ++ more → length bytes < block
       → block ≤ most + length bytes → off + block < 2 ^ 64
-      → Holds len (read_on block most bytes) (standing tree s) whole_block
+      → Holds len (read_on block most bytes) (files_with_open tree s) whole_block
   reads_on zero bytes more s of way at is short enough far = absurd (omega (arith, short, enough))
   reads_on (suc most) bytes more s of way at is short enough far =
-      holds_after len (reading n) (λ found. was_read block bytes found (λ more. read_on block most more)) (standing tree s) whole_block
+      holds_after len (read_call n) (λ found. was_read block bytes found (λ more. read_on block most more))
+      (files_with_open tree s) whole_block
       (refl, (way, some, fits)) (λ found now did. elim did [
         | inl ends ↦ at_end found now ends
         | inr brings ↦ with_more found now brings (λ b m t e w o i l c. reads_on most b m t e w o i l c far)
@@ -136,10 +140,11 @@ module _ (len block off : ℕ) (tree : FileTree) (file : ℕ) where
       fits : s.offset + n < 2 ^ 64
       fits = omega (arith, at, short, far)
 
-      at_end : (found : Found) (now : FilesAt) → TellsEnd s (standing tree s) found now
+      at_end : (found : Found) (now : FilesAt) → TellsEnd s (files_with_open tree s) found now
           → Holds len (was_read block bytes found (λ more. read_on block most more)) now whole_block
       at_end found now ends =
-          subst (λ (f : Found). Holds len (was_read block bytes f (λ more. read_on block most more)) now whole_block) (sym ends.found_is)
+          subst (λ (f : Found). Holds len (was_read block bytes f (λ more. read_on block most more)) now whole_block)
+          (sym ends.found_is)
           (holds_pure len (Ok (bytes ++ [])) now whole_block (record {
             value = ap (λ (w : List ℕ). Ok w) (ends_here off block (bytes_of tree file) bytes more is
                 (let behind : size_of tree s.file ≤ s.offset = ends.behind in
@@ -149,12 +154,12 @@ module _ (len block off : ℕ) (tree : FileTree) (file : ℕ) where
             now_is = ends.now_is;
           }))
 
-      with_more : (found : Found) (now : FilesAt) → Brings n s (standing tree s) found now → ReadsOn most
+      with_more : (found : Found) (now : FilesAt) → BringsBytes n s (files_with_open tree s) found now → ReadsOn most
           → Holds len (was_read block bytes found (λ more. read_on block most more)) now whole_block
       with_more found now brings reads =
           let b : List ℕ = brings.bytes in
           let rest : List ℕ = brings.rest in
-          let next : Standing = record s { offset = s.offset + length b } in
+          let next : OpenFilePlace = record s { offset = s.offset + length b } in
           let there : drop (off + length bytes) (bytes_of tree file) ≡ b ++ rest =
           (λ i. drop (sym at i) (bytes_of tree (sym of i))) ∙ brings.are in
           let split : more ≡ b ++ rest = sym (drop_first off (bytes_of tree file) bytes more is) ∙ there in
@@ -163,7 +168,8 @@ module _ (len block off : ℕ) (tree : FileTree) (file : ℕ) where
           let sum = length-append bytes b in
           let one = brings.some in
           let fit = brings.most in
-          subst (λ (f : Found). Holds len (was_read block bytes f (λ more. read_on block most more)) now whole_block) (sym brings.found_is)
+          subst (λ (f : Found). Holds len (was_read block bytes f (λ more. read_on block most more)) now whole_block)
+          (sym brings.found_is)
           (after_bytes most bytes b rest now next brings.now_is all one (omega (arith, sum, fit, short))
           (λ lt. subst (λ (m : FilesAt). Holds len (read_on block most (bytes ++ b)) m whole_block) (sym brings.now_is)
           (reads (bytes ++ b) rest next of way (omega (arith, at, sum)) all lt (omega (arith, enough, sum, one)))))
@@ -175,16 +181,20 @@ pub record Finds (tree : FileTree) (value found : Found) (now : FilesAt) : Type 
   pub is : found ≡ value
   pub now_is : now ≡ at_rest tree
 
-pub reads_at : (len block n : ℕ) (tree : FileTree) (s : Standing) → s.readable ≡ true → 1 ≤ block → n * block + block < 2 ^ 64
-    → Holds len (read_at block n) (standing tree s) (Finds tree (Ok (take block (drop (n * block) (bytes_of tree s.file)))))
+pub reads_at : (len block n : ℕ) (tree : FileTree) (s : OpenFilePlace) → s.readable ≡ true → 1 ≤ block
+    → n * block + block < 2 ^ 64
+    → Holds len (read_at block n) (files_with_open tree s) (Finds tree
+    (Ok (take block (drop (n * block) (bytes_of tree s.file)))))
 reads_at len block n tree s way some far =
-    holds_after len (seeking (n * block)) (λ sought. read_on block block [] >>= closes) (standing tree s) post (refl, tt)
+    holds_after len (seek_call (n * block)) (λ sought. read_on block block [] >>= closes) (files_with_open tree s) post
+    (refl, tt)
     (λ found now did. subst (λ (m : FilesAt). Holds len (read_on block block [] >>= closes) m post) (sym did)
-    (holds_bind len (read_on block block []) closes (standing tree sought) (HasRead tree bytes) post
-    (reads_on len block (n * block) tree s.file block [] (drop (n * block) (bytes_of tree s.file)) sought refl way (omega arith) refl
+    (holds_bind len (read_on block block []) closes (files_with_open tree sought) (HasRead tree bytes) post
+    (reads_on len block (n * block) tree s.file block [] (drop (n * block) (bytes_of tree s.file)) sought refl way
+    (omega arith) refl
     (omega (arith, some)) (omega arith) far)
     (λ read now h. subst (λ (m : FilesAt). Holds len (closes read) m post) (sym h.now_is)
-    (holds_after len closing (λ closed. pure read) (standing tree h.slot) post (refl, tt)
+    (holds_after len close_file_call (λ closed. pure read) (files_with_open tree h.slot) post (refl, tt)
     (λ closed now did. holds_pure len read now post (record { is = h.value; now_is = did }))))))
   where
     bytes : List ℕ
@@ -193,11 +203,11 @@ reads_at len block n tree s way some far =
     post : Post Found
     post found now = Finds tree (Ok bytes) found now
 
-    sought : Standing
+    sought : OpenFilePlace
     sought = record s { offset = n * block }
 
     closes : Found → Doing Found
-    closes found = makes closing >>= λ closed. pure found
+    closes found = makes close_file_call >>= λ closed. pure found
 
 -- ---- a block of a name
 
@@ -207,14 +217,18 @@ block_found tree block n None = Err 2
 block_found tree block n (Some node.Directory) = Err 4
 block_found tree block n (Some (node.File file)) = Ok (take block (drop (n * block) (bytes_of tree file)))
 
-pub handles_apart : (tree : FileTree) (h : List ℕ) (o : Opened) (name : Name) → node_at (with_handle tree h o) name ≡ node_at tree name
+pub handles_apart : (tree : FileTree) (h : List ℕ) (o : Opened) (name : Name) → node_at (with_handle tree h o) name
+    ≡ node_at tree name
 handles_apart tree h o [] = refl
 handles_apart tree h o (part ∷ parts) = refl
 
-pub fetches : (len block n : ℕ) (tree : FileTree) (path : List ℕ) → 1 ≤ block → n * block + block < 2 ^ 64 → passes_length path ≡ false
-    → Holds len (fetched block path n) (at_rest tree) (Finds tree (block_found tree block n (node_at tree (components path))))
+pub fetches : (len block n : ℕ) (tree : FileTree) (path : List ℕ) → 1 ≤ block → n * block + block < 2 ^ 64
+    → passes_length path ≡ false
+    → Holds len (fetched_block block path n) (at_rest tree) (Finds tree
+    (block_found tree block n (node_at tree (components path))))
 fetches len block n tree path some far fits =
-    holds_after len (opening reads_only path) (λ opened. unless_refused opened (λ code. Err code) (read_at block n)) (at_rest tree) post
+    holds_after len (open_call reads_only path) (λ opened. unless_refused opened (λ code. Err code) (read_at block n))
+    (at_rest tree) post
     (refl, refl, refl, fits) (λ opened now did. by_node (node_at tree (components path)) refl opened now did)
   where
     name : Name
@@ -223,7 +237,8 @@ fetches len block n tree path some far fits =
     post : Post Found
     post found now = Finds tree (block_found tree block n (node_at tree name)) found now
 
-    refused : (code : ℕ) (opened : Found) (now : FilesAt) → block_found tree block n (node_at tree name) ≡ Err code → opened ≡ Err code → now ≡ at_rest tree
+    refused : (code : ℕ) (opened : Found) (now : FilesAt) → block_found tree block n (node_at tree name) ≡ Err code
+        → opened ≡ Err code → now ≡ at_rest tree
         → Holds len (unless_refused opened (λ code. Err code) (read_at block n)) now post
     refused code opened now is e at =
         subst (λ (f : Found). Holds len (unless_refused f (λ code. Err code) (read_at block n)) now post) (sym e)
@@ -236,10 +251,12 @@ fetches len block n tree path some far fits =
     by_node (Some node.Directory) is opened now (e, at) = refused 4 opened now (ap (block_found tree block n) is) e at
     by_node (Some (node.File file)) is opened now (e, at) =
         let there = handles_apart (bare tree) [] (held_by 1 file) name ∙ (bare_node name ∙ is) in
-        let stands : now ≡ standing tree (at_start 1 file) = subst (λ (x : Option Node). OpensNode 1 (bare tree) x now) there at in
+        let stands : now ≡ files_with_open tree (at_start 1 file) =
+        subst (λ (x : Option Node). OpensNode 1 (bare tree) x now) there at in
         subst (λ (f : Found). Holds len (unless_refused f (λ code. Err code) (read_at block n)) now post) (sym e)
         (subst (λ (m : FilesAt). Holds len (read_at block n) m post) (sym stands)
-        (subst (λ (v : Found). Holds len (read_at block n) (standing tree (at_start 1 file)) (λ found now. Finds tree v found now))
+        (subst (λ (v : Found). Holds len (read_at block n) (files_with_open tree (at_start 1 file))
+        (λ found now. Finds tree v found now))
         (sym (ap (block_found tree block n) is)) (reads_at len block n tree (at_start 1 file) refl some far)))
       where
         bare_node : (name : Name) → node_at (bare tree) name ≡ node_at tree name

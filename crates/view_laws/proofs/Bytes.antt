@@ -11,13 +11,16 @@ take_two (suc a) b (x ∷ xs) = let on : suc a + b ≡ suc (a + b) = omega arith
     (λ i. take (on i) (x ∷ xs)) ∙ (λ i. x ∷ take_two a b xs i)
 
 -- what stands behind more bytes
-pub drop_first : {X : Type 0} (off : ℕ) (xs more rest : List X) → drop off xs ≡ more ++ rest → drop (off + length more) xs ≡ rest
+pub drop_first : {X : Type 0} (off : ℕ) (xs more rest : List X) → drop off xs ≡ more ++ rest
+    → drop (off + length more) xs ≡ rest
 drop_first off xs more rest is =
     sym (drop-drop (length more) off xs) ∙ (ap (drop (length more)) is ∙ drop_at more rest (length more) refl)
 
 -- a part that begins within the first n and ends there is the same part of all
-pub part_of : {X : Type 0} (skipped len n : ℕ) (xs : List X) → skipped + len ≤ n → take len (drop skipped (take n xs)) ≡ take len (drop skipped xs)
+pub part_of : {X : Type 0} (skipped len n : ℕ) (xs : List X) → skipped + len ≤ n → take len (drop skipped (take n xs))
+    ≡ take len (drop skipped xs)
 part_of skipped len n xs le =
     let is : n ≡ skipped + (n - skipped) = omega (arith, le) in
     ap (λ (k : ℕ). take len (drop skipped (take k xs))) is
-    ∙ (ap (take len) (drop-take skipped (n - skipped) xs) ∙ take-take len (n - skipped) (drop skipped xs) (omega (arith, le)))
+    ∙ (ap (take len) (drop-take skipped (n - skipped) xs) ∙ take-take len (n - skipped) (drop skipped xs)
+    (omega (arith, le)))

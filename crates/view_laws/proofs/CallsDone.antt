@@ -76,14 +76,14 @@ use Rattle.machine_model.specs.FileTree.{
   with_handle,
   without_handle,
 }
-use Rattle.machine_model.specs.HandleRequests.{Answer, after_close, after_open, after_read, capped, creates, grants, held_by, is_exclusive, refuses, truncates}
+use Rattle.machine_model.specs.HandleRequests.{Answer, after_close, after_open, after_read, capped_at, creates, grant_answer, held_by, is_exclusive, refusal_answer, truncates}
 use Rattle.machine_model.specs.TreeAnswers.{apply}
 use Rattle.machine_model.specs.declared.node.Node.{Node}
 use Rattle.machine_model.specs.declared.node.Node.TheVariants as node
 use Rattle.machine_model.specs.declared.opened.Opened.{Opened}
 use Rattle.machine_model.specs.declared.opened.Opened.TheVariants as opened
 use Rattle.plan_model.specs.CallPlans.{next}
-use Rattle.plan_model.specs.FilePlans.{open_request, opened as opens}
+use Rattle.plan_model.specs.FilePlans.{open_request, opened_move as opens}
 use Rattle.plan_model.specs.Moves.{Answers, Own, done_by}
 use Rattle.plan_model.specs.TransferPlans.{was_read}
 use Rattle.plan_model.specs.declared.call.Call.{Call}
@@ -96,7 +96,7 @@ use Rattle.run_laws.proofs.MoveWords.{outcome_of, site_of, taken_is}
 use Rattle.run_laws.proofs.OpenLaws.{step_opens}
 use Rattle.run_laws.proofs.WriteLaws.{answers_as}
 use Rattle.view_model.specs.Viewed.{found_in}
-use Rattle.view_laws.specs.FileCalls.{Did, FilesAt, OpensBy, OpensNode, Standing, at_rest, at_start, bare, standing}
+use Rattle.view_laws.specs.FileCalls.{CallEffect, FilesAt, OpensBy, OpensNode, OpenFilePlace, at_rest, at_start, bare, files_with_open}
 use Rattle.view_laws.proofs.BlockReads.{handles_apart}
 use Rattle.view_laws.proofs.PutTrees.{bare_node, by_names, made_here}
 use Rattle.view_laws.proofs.SlotCalls.{HoldsFile, HoldsSlot, IsAt, file_at, held_as, site_with}
@@ -105,7 +105,7 @@ use Rattle.view_laws.proofs.SlotCalls.{HoldsFile, HoldsSlot, IsAt, file_at, held
 pub record HasDone (len : ℕ) (answers : Answers) (own : Own) (c : Call) (site left : Site) (now : FileTree) (before : FilesAt) (o : Outcome) : Type 0
   where
     pub mid : FilesAt
-    pub did : Did len before c (found_in o) mid
+    pub did : CallEffect len before c (found_in o) mid
     pub handle : List ℕ
     pub at : IsAt answers now left handle mid
     pub keeps : (g : ℕ) → is_granted (answers g) ≡ true → (has_grant (given_up c own site) g ≡ true) ⊎ (has_place own g ≡ true) → has_grant left g ≡ true
@@ -127,14 +127,14 @@ one_place p r g e = elim (eqb_tells p g) [ inl t ↦ t.1 | inr t ↦ absurd (let
 -- with handles and without them the OPEN was refused alike, or opened the same file
 record AreRefused (tree : FileTree) (x y : Answer) : Type 0 where
   code : ℕ
-  x_is : x ≡ refuses tree code
-  y_is : y ≡ refuses (bare tree) code
+  x_is : x ≡ refusal_answer tree code
+  y_is : y ≡ refusal_answer (bare tree) code
 
 record AreGranted (tree : FileTree) (handle : List ℕ) (flags : ℕ) (name : Name) (x y : Answer) : Type 0 where
   to : FileTree
   file : ℕ
-  x_is : x ≡ grants to handle (held_by flags file)
-  y_is : y ≡ grants (bare to) [] (held_by flags file)
+  x_is : x ≡ grant_answer to handle (held_by flags file)
+  y_is : y ≡ grant_answer (bare to) [] (held_by flags file)
   named : node_at to name ≡ Some (node.File file)
   handles : to.handles ≡ tree.handles
 
@@ -147,10 +147,10 @@ open_alike tree handle flags name (Some node.Directory) is = inl (record { code 
 open_alike tree handle flags name (Some (node.File file)) is = by_tests (creates flags && is_exclusive flags) (truncates flags)
   where
     by_tests : (a b : Bool) → OpenAlike tree handle flags name
-        (if a then refuses tree SSH_FX_FAILURE else if b then grants (with_bytes tree file []) handle (held_by flags file) else
-        grants tree handle (held_by flags file))
-        (if a then refuses (bare tree) SSH_FX_FAILURE else if b then grants (with_bytes (bare tree) file []) [] (held_by flags file) else
-        grants (bare tree) [] (held_by flags file))
+        (if a then refusal_answer tree SSH_FX_FAILURE else if b then grant_answer (with_bytes tree file []) handle (held_by flags file) else
+        grant_answer tree handle (held_by flags file))
+        (if a then refusal_answer (bare tree) SSH_FX_FAILURE else if b then grant_answer (with_bytes (bare tree) file []) [] (held_by flags file) else
+        grant_answer (bare tree) [] (held_by flags file))
     by_tests true b = inl (record { code = SSH_FX_FAILURE; x_is = refl; y_is = refl })
     by_tests false true = inr (record {
       to = with_bytes tree file [];
@@ -167,11 +167,11 @@ open_alike tree handle flags name None is =
     (ap (λ (x : Option Node). not (is_directory x)) (bare_node tree (parent_of name)))
   where
     by_tests : (a b c d : Bool) → d ≡ b → OpenAlike tree handle flags name
-        (if a then refuses tree SSH_FX_NO_SUCH_FILE else if b then refuses tree SSH_FX_NO_SUCH_FILE else if c then refuses tree SSH_FX_FAILURE else
-        grants (with_file tree name) handle (held_by flags (length tree.files)))
-        (if a then refuses (bare tree) SSH_FX_NO_SUCH_FILE else if d then refuses (bare tree) SSH_FX_NO_SUCH_FILE else
-        if c then refuses (bare tree) SSH_FX_FAILURE else
-        grants (with_file (bare tree) name) [] (held_by flags (length tree.files)))
+        (if a then refusal_answer tree SSH_FX_NO_SUCH_FILE else if b then refusal_answer tree SSH_FX_NO_SUCH_FILE else if c then refusal_answer tree SSH_FX_FAILURE else
+        grant_answer (with_file tree name) handle (held_by flags (length tree.files)))
+        (if a then refusal_answer (bare tree) SSH_FX_NO_SUCH_FILE else if d then refusal_answer (bare tree) SSH_FX_NO_SUCH_FILE else
+        if c then refusal_answer (bare tree) SSH_FX_FAILURE else
+        grant_answer (with_file (bare tree) name) [] (held_by flags (length tree.files)))
     by_tests true b c d e = inl (record { code = SSH_FX_NO_SUCH_FILE; x_is = refl; y_is = refl })
     by_tests false true c true e = inl (record { code = SSH_FX_NO_SUCH_FILE; x_is = refl; y_is = refl })
     by_tests false true c false e = absurd cc
@@ -189,7 +189,7 @@ open_alike tree handle flags name None is =
 fresh_has : (g : ℕ) → has_grant fresh_site g ≡ true → ⊥
 fresh_has g e = (let both : false ≡ true = e in cc)
 
-has_this : (p : ℕ) (s : Standing) (g : ℕ) → p ≡ g → has_grant (site_with (file_at p s)) g ≡ true
+has_this : (p : ℕ) (s : OpenFilePlace) (g : ℕ) → p ≡ g → has_grant (site_with (file_at p s)) g ≡ true
 has_this p s g same = rw (eq-eqb p g same) refl
 
 module _ (len : ℕ) (config : ServerConfig) (answers : Answers) (facts : Facts) where
@@ -226,7 +226,7 @@ module _ (len : ℕ) (config : ServerConfig) (answers : Answers) (facts : Facts)
           (after_open (bare tree) [] (flags_of options).0 (components path) (node_at tree (components path)))
           → HasDone len answers ((st.place, st.request) ∷ []) (call.OpenFile 0 options path) site left (answer_to config tree st).1 before o
       by_alike (inl r) =
-          let is : answer_to config tree st ≡ refuses tree r.code = ans ∙ r.x_is in
+          let is : answer_to config tree st ≡ refusal_answer tree r.code = ans ∙ r.x_is in
           let came : answers st.place ≡ Some (reply.Status r.code [] []) = taken.0 ∙ ap (λ (a : Answer). Some a.0) is in
           done_as len answers ((st.place, st.request) ∷ []) (call.OpenFile 0 options path) site left site (answer_to config tree st).1 before o
           (outcome.Refused (error.SftpError r.code [] []))
@@ -237,7 +237,7 @@ module _ (len : ℕ) (config : ServerConfig) (answers : Answers) (facts : Facts)
             handle = [];
             at = record {
               tree_is = tree_is ∙ ap (λ (a : Answer). bare a.1) (sym is);
-              slot_is = subst (λ (s : Option Standing). HoldsSlot answers (answer_to config tree st).1 site [] s) (sym none) site_is;
+              slot_is = subst (λ (s : Option OpenFilePlace). HoldsSlot answers (answer_to config tree st).1 site [] s) (sym none) site_is;
             };
             keeps = λ g granted h. elim h [
               | inl held ↦ absurd (fresh_only g held)
@@ -247,9 +247,9 @@ module _ (len : ℕ) (config : ServerConfig) (answers : Answers) (facts : Facts)
             replied = one_reply st.place st.request (reply.Status r.code [] []) came;
           })
       by_alike (inr w) =
-          let is : answer_to config tree st ≡ grants w.to st.handle (held_by (flags_of options).0 w.file) = ans ∙ w.x_is in
+          let is : answer_to config tree st ≡ grant_answer w.to st.handle (held_by (flags_of options).0 w.file) = ans ∙ w.x_is in
           let came : answers st.place ≡ Some (reply.Handle st.handle) = taken.0 ∙ ap (λ (a : Answer). Some a.0) is in
-          let s : Standing = at_start (flags_of options).0 w.file in
+          let s : OpenFilePlace = at_start (flags_of options).0 w.file in
           let name : Name = components path in
           let held : Opened = held_by (flags_of options).0 w.file in
           let now : FileTree = with_handle w.to st.handle held in
@@ -262,10 +262,10 @@ module _ (len : ℕ) (config : ServerConfig) (answers : Answers) (facts : Facts)
           (subst (λ (a : Answer). HasDone len answers ((st.place, st.request) ∷ []) (call.OpenFile 0 options path) site
           (with_slot site 0 (File (file_at st.place s))) a.1 before outcome.Opened) (sym is)
           (record {
-            mid = standing w.to s;
-            did = subst (λ (a : Answer). OpensBy (flags_of options).0 (components path) before a (Ok []) (standing w.to s)) (sym (bare_is ∙ w.y_is)) (
+            mid = files_with_open w.to s;
+            did = subst (λ (a : Answer). OpensBy (flags_of options).0 (components path) before a (Ok []) (files_with_open w.to s)) (sym (bare_is ∙ w.y_is)) (
               refl,
-              subst (λ (n : Option Node). OpensNode (flags_of options).0 (bare w.to) n (standing w.to s))
+              subst (λ (n : Option Node). OpensNode (flags_of options).0 (bare w.to) n (files_with_open w.to s))
                   (sym (handles_apart (bare w.to) [] held name ∙ (bare_node w.to name ∙ w.named))) refl,
             );
             handle = st.handle;
@@ -291,7 +291,7 @@ module _ (len : ℕ) (config : ServerConfig) (answers : Answers) (facts : Facts)
   -- ---- a file that stays open
 
   -- the slot's file, elsewhere in it, and of a tree with the same names and handles
-  pub moved : (tree now : FileTree) (site : Site) (handle : List ℕ) (s : Standing) (to : ℕ) (h : HoldsFile answers tree site handle s)
+  pub moved : (tree now : FileTree) (site : Site) (handle : List ℕ) (s : OpenFilePlace) (to : ℕ) (h : HoldsFile answers tree site handle s)
       → now.names ≡ tree.names → now.handles ≡ tree.handles
       → HoldsFile answers now (site_with (file_at h.grant (record s { offset = to }))) handle (record s { offset = to })
   moved tree now site handle s to h names handles = record {
@@ -304,13 +304,13 @@ module _ (len : ℕ) (config : ServerConfig) (answers : Answers) (facts : Facts)
   }
 
   -- where the slot's file is elsewhere the lane holds its grant, and what was asked has none
-  pub grant_stays : (c : Call) (own : Own) (site : Site) (grant to : ℕ) (s : Standing) → given_up c own site ≡ site → site ≡ site_with (file_at grant s)
+  pub grant_stays : (c : Call) (own : Own) (site : Site) (grant to : ℕ) (s : OpenFilePlace) → given_up c own site ≡ site → site ≡ site_with (file_at grant s)
       → ((g : ℕ) → has_place own g ≡ true → is_granted (answers g) ≡ true → ⊥) → (g : ℕ) → is_granted (answers g) ≡ true
       → (has_grant (given_up c own site) g ≡ true) ⊎ (has_place own g ≡ true) → has_grant (site_with (file_at grant (record s { offset = to }))) g ≡ true
   grant_stays c own site grant to s same site_is none g granted (inl held) = subst (λ (y : Site). has_grant y g ≡ true) (same ∙ site_is) held
   grant_stays c own site grant to s same site_is none g granted (inr asked) = absurd (none g asked granted)
 
-  pub seek_done : (n : ℕ) (tree t : FileTree) (site left : Site) (handle : List ℕ) (s : Standing) (o : Outcome) → t ≡ bare tree
+  pub seek_done : (n : ℕ) (tree t : FileTree) (site left : Site) (handle : List ℕ) (s : OpenFilePlace) (o : Outcome) → t ≡ bare tree
       → HoldsFile answers tree site handle s → next (call.Seek 0 (position.Start n)) site facts [] answers ≡ Done o left
       → HasDone len answers [] (call.Seek 0 (position.Start n)) site left tree (record { tree = t; slot = Some s }) o
   seek_done n tree t site left handle s o tree_is h done =
@@ -318,7 +318,7 @@ module _ (len : ℕ) (config : ServerConfig) (answers : Answers) (facts : Facts)
       (record { tree = t; slot = Some s }) o (outcome.Count n)
       (subst (λ (y : Site). next (call.Seek 0 (position.Start n)) y facts [] answers ≡ Done o left) h.site_is done)
       (record {
-        mid = standing t (record s { offset = n });
+        mid = files_with_open t (record s { offset = n });
         did = refl;
         handle = handle;
         at = record { tree_is = ap bare tree_is; slot_is = moved tree tree site handle s n h refl refl };
@@ -328,13 +328,13 @@ module _ (len : ℕ) (config : ServerConfig) (answers : Answers) (facts : Facts)
 
   -- ---- READ
 
-  capped_some : (cap k : ℕ) → 0 < k → 1 ≤ capped cap k
+  capped_some : (cap k : ℕ) → 0 < k → 1 ≤ capped_at cap k
   capped_some cap k some = grind (arith, nat_tests)
 
-  capped_most : (cap k : ℕ) → capped cap k ≤ k
+  capped_most : (cap k : ℕ) → capped_at cap k ≤ k
   capped_most cap k = grind (arith, nat_tests)
 
-  pub read_done : (n : ℕ) (tree t : FileTree) (st : Step) (site left : Site) (handle : List ℕ) (s : Standing) (o : Outcome) → t ≡ bare tree
+  pub read_done : (n : ℕ) (tree t : FileTree) (st : Step) (site left : Site) (handle : List ℕ) (s : OpenFilePlace) (o : Outcome) → t ≡ bare tree
       → HoldsFile answers tree site handle s → s.readable ≡ true → 1 ≤ n → 1 ≤ facts.read_len
       → st.request ≡ request.Read handle s.offset (min n facts.read_len) → AreServed config answers tree (st ∷ []) → st.choice.refuse ≡ SSH_FX_OK
       → next (call.Read 0 n) site facts ((st.place, st.request) ∷ []) answers ≡ Done o left
@@ -352,10 +352,10 @@ module _ (len : ℕ) (config : ServerConfig) (answers : Answers) (facts : Facts)
       file = file_at h.grant s
 
       part : List ℕ
-      part = take (capped st.choice.cap (min n facts.read_len)) (drop s.offset (bytes_of tree s.file))
+      part = take (capped_at st.choice.cap (min n facts.read_len)) (drop s.offset (bytes_of tree s.file))
 
-      ans : answer_to config tree st ≡ (if nat_le (size_of tree s.file) s.offset then refuses tree SSH_FX_EOF else
-          (reply.Content (take (capped st.choice.cap (min n facts.read_len)) (drop s.offset (bytes_of tree s.file))), tree))
+      ans : answer_to config tree st ≡ (if nat_le (size_of tree s.file) s.offset then refusal_answer tree SSH_FX_EOF else
+          (reply.Content (take (capped_at st.choice.cap (min n facts.read_len)) (drop s.offset (bytes_of tree s.file))), tree))
       ans =
           ap (λ (w : Request). apply tree config w st.choice st.handle) asks
           ∙ (answers_as tree config (request.Read handle s.offset (min n facts.read_len)) st.choice st.handle unrefused
@@ -376,7 +376,7 @@ module _ (len : ℕ) (config : ServerConfig) (answers : Answers) (facts : Facts)
       by_test : (b : Bool) → nat_le (size_of tree s.file) s.offset ≡ b
           → HasDone len answers ((st.place, st.request) ∷ []) (call.Read 0 n) site left (answer_to config tree st).1 (record { tree = t; slot = Some s }) o
       by_test true e =
-          let is : answer_to config tree st ≡ refuses tree SSH_FX_EOF = ans ∙ rw e refl in
+          let is : answer_to config tree st ≡ refusal_answer tree SSH_FX_EOF = ans ∙ rw e refl in
           let came : answers st.place ≡ Some (reply.Status SSH_FX_EOF [] []) = taken.0 ∙ ap (λ (a : Answer). Some a.0) is in
           done_as len answers ((st.place, st.request) ∷ []) (call.Read 0 n) site left (site_with (file_at h.grant s)) (answer_to config tree st).1
           (record { tree = t; slot = Some s }) o outcome.End
@@ -384,7 +384,7 @@ module _ (len : ℕ) (config : ServerConfig) (answers : Answers) (facts : Facts)
           (subst (λ (a : Answer). HasDone len answers ((st.place, st.request) ∷ []) (call.Read 0 n) site
           (site_with (file_at h.grant s)) a.1 (record { tree = t; slot = Some s }) outcome.End) (sym is)
           (record {
-            mid = standing t s;
+            mid = files_with_open t s;
             did = inl (record {
               behind = (let le : size_of tree s.file ≤ s.offset = grind (arith, nat_tests) in
                   let same : size_of t s.file ≡ size_of tree s.file = ap (λ (x : FileTree). size_of x s.file) tree_is in omega (arith, le, same));
@@ -398,7 +398,7 @@ module _ (len : ℕ) (config : ServerConfig) (answers : Answers) (facts : Facts)
             replied = one_reply st.place st.request (reply.Status SSH_FX_EOF [] []) came;
           }))
       by_test false e =
-          let bytes : List ℕ = take (capped st.choice.cap (min n facts.read_len)) (drop s.offset (bytes_of tree s.file)) in
+          let bytes : List ℕ = take (capped_at st.choice.cap (min n facts.read_len)) (drop s.offset (bytes_of tree s.file)) in
           let is : answer_to config tree st ≡ (let a : Answer = (reply.Content bytes, tree) in a) = ans ∙ rw e refl in
           let came : answers st.place ≡ Some (reply.Content bytes) = taken.0 ∙ ap (λ (a : Answer). Some a.0) is in
           let to : ℕ = s.offset + length bytes in
@@ -410,25 +410,25 @@ module _ (len : ℕ) (config : ServerConfig) (answers : Answers) (facts : Facts)
           (site_with (file_at h.grant (record s { offset = to }))) a.1 (record { tree = t; slot = Some s })
           (outcome.Bytes bytes)) (sym is)
           (record {
-            mid = standing t (record s { offset = to });
+            mid = files_with_open t (record s { offset = to });
             did = inr (record {
               bytes = bytes;
-              rest = drop (capped st.choice.cap (min n facts.read_len)) (drop s.offset (bytes_of tree s.file));
+              rest = drop (capped_at st.choice.cap (min n facts.read_len)) (drop s.offset (bytes_of tree s.file));
               some = (let lt : s.offset < size_of tree s.file = grind (arith, nat_tests) in
                   let one = at_least in
                   let c = capped_some st.choice.cap (min n facts.read_len) (omega (arith, one)) in
-                  let a : length bytes ≡ min (capped st.choice.cap (min n facts.read_len)) (length (drop s.offset (bytes_of tree s.file))) =
-                  length-take (capped st.choice.cap (min n facts.read_len)) (drop s.offset (bytes_of tree s.file)) in
+                  let a : length bytes ≡ min (capped_at st.choice.cap (min n facts.read_len)) (length (drop s.offset (bytes_of tree s.file))) =
+                  length-take (capped_at st.choice.cap (min n facts.read_len)) (drop s.offset (bytes_of tree s.file)) in
                   let b : length (drop s.offset (bytes_of tree s.file)) ≡ length (bytes_of tree s.file) - s.offset =
                   length-drop s.offset (bytes_of tree s.file) in
                   let size : size_of tree s.file ≡ length (bytes_of tree s.file) = refl in
                   omega (arith, lt, c, a, b, size));
               most = (let c = capped_most st.choice.cap (min n facts.read_len) in
-                  let a : length bytes ≡ min (capped st.choice.cap (min n facts.read_len)) (length (drop s.offset (bytes_of tree s.file))) =
-                  length-take (capped st.choice.cap (min n facts.read_len)) (drop s.offset (bytes_of tree s.file)) in
+                  let a : length bytes ≡ min (capped_at st.choice.cap (min n facts.read_len)) (length (drop s.offset (bytes_of tree s.file))) =
+                  length-take (capped_at st.choice.cap (min n facts.read_len)) (drop s.offset (bytes_of tree s.file)) in
                   omega (arith, c, a));
               are = (λ i. drop s.offset (bytes_of (tree_is i) s.file))
-                  ∙ sym (take-append-drop (capped st.choice.cap (min n facts.read_len)) (drop s.offset (bytes_of tree s.file)));
+                  ∙ sym (take-append-drop (capped_at st.choice.cap (min n facts.read_len)) (drop s.offset (bytes_of tree s.file)));
               found_is = refl;
               now_is = refl;
             });
@@ -448,7 +448,7 @@ module _ (len : ℕ) (config : ServerConfig) (answers : Answers) (facts : Facts)
       ap (λ (b : Bool). bare (if b || list_any (λ (pair : List ℕ × Opened). opens_file file pair.1) (without_handle tree handle).handles then
       without_handle tree handle else with_bytes (without_handle tree handle) file [])) living
 
-  pub close_done : (tree t : FileTree) (st : Step) (site left : Site) (handle : List ℕ) (s : Standing) (o : Outcome) → t ≡ bare tree
+  pub close_done : (tree t : FileTree) (st : Step) (site left : Site) (handle : List ℕ) (s : OpenFilePlace) (o : Outcome) → t ≡ bare tree
       → HoldsFile answers tree site handle s → st.request ≡ request.Close handle → AreServed config answers tree (st ∷ []) → st.choice.refuse ≡ SSH_FX_OK
       → next (call.Close 0) site facts ((st.place, st.request) ∷ []) answers ≡ Done o left
       → HasDone len answers ((st.place, st.request) ∷ []) (call.Close 0) site left (answer_to config tree st).1 (record { tree = t; slot = Some s }) o

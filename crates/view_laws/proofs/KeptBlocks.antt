@@ -37,7 +37,7 @@ use Rattle.lru.specs.LruCache.{promoted}
 use Rattle.machine_model.proofs.NameLaws.{names_tell}
 use Rattle.machine_model.specs.Components.{Name, same_name}
 use Rattle.machine_model.specs.FileTree.{FileTree, node_at}
-use Rattle.view_model.specs.Blocks.{Entries, Kept, dropped, hit, kept_but, kept_with, missed_with}
+use Rattle.view_model.specs.Blocks.{Entries, Kept, without_blocks_of, count_hit, kept_but, kept_with, missed_with}
 use Rattle.view_model.specs.Kept.{Keys}
 use Rattle.view_model.specs.Keys.{key_of, same_key}
 use Rattle.view_model.specs.declared.key.BlockKey.{BlockKey}
@@ -64,7 +64,8 @@ abbrev pub without_bytes : Kept (List ℕ) → Keys
 without_bytes k = record { entries = keys_alone k.entries; hits = k.hits; misses = k.misses }
 
 -- a choice of one of two lists goes by the keys
-by_test_alone : (b : Bool) (xs ys : Entries (List ℕ)) → keys_alone (if b then xs else ys) ≡ (if b then keys_alone xs else keys_alone ys)
+by_test_alone : (b : Bool) (xs ys : Entries (List ℕ)) → keys_alone (if b then xs else ys)
+    ≡ (if b then keys_alone xs else keys_alone ys)
 by_test_alone true xs ys = refl
 by_test_alone false xs ys = refl
 
@@ -84,7 +85,8 @@ module _ (test : BlockKey → Bool) where
   found_alone (e ∷ es) = by_test (test e.0) (found_alone es)
     where
       by_test : (b : Bool) → lookup_entry test (keys_alone es) ≡ entry_alone (lookup_entry test es)
-          → (if b then Some (key_alone e) else lookup_entry test (keys_alone es)) ≡ entry_alone (if b then Some e else lookup_entry test es)
+          → (if b then Some (key_alone e) else lookup_entry test (keys_alone es))
+          ≡ entry_alone (if b then Some e else lookup_entry test es)
       by_test true rest = refl
       by_test false rest = rest
 
@@ -93,7 +95,8 @@ module _ (test : BlockKey → Bool) where
   is_kept_alone (e ∷ es) = by_test (test e.0) (is_kept_alone es)
     where
       by_test : (b : Bool) → is_some (lookup test (keys_alone es)) ≡ is_some (lookup test es)
-          → is_some (if b then Some tt else lookup test (keys_alone es)) ≡ is_some (if b then Some e.1 else lookup test es)
+          → is_some (if b then Some tt else lookup test (keys_alone es))
+          ≡ is_some (if b then Some e.1 else lookup test es)
       by_test true rest = refl
       by_test false rest = rest
 
@@ -115,11 +118,13 @@ put_alone : (capacity : ℕ) (key : BlockKey) (bytes : List ℕ) (es : Entries (
     → keys_alone (kept_with capacity key bytes es) ≡ kept_with capacity key tt (keys_alone es)
 put_alone capacity key bytes es =
     by_entry (lookup_entry (same_key key) es)
-    ∙ sym (ap (λ o. option_map_or (λ e. (e.0, tt) ∷ remove_entry (same_key key) (keys_alone es)) o ((key, tt) ∷ take (capacity - 1) (keys_alone es)))
+    ∙ sym (ap (λ o. option_map_or (λ e. (e.0, tt) ∷ remove_entry (same_key key) (keys_alone es)) o
+    ((key, tt) ∷ take (capacity - 1) (keys_alone es)))
     (found_alone (same_key key) es))
   where
     by_entry : (o : Option Entry)
-        → keys_alone (option_map_or (λ e. (e.0, bytes) ∷ remove_entry (same_key key) es) o ((key, bytes) ∷ take (capacity - 1) es))
+        → keys_alone (option_map_or (λ e. (e.0, bytes) ∷ remove_entry (same_key key) es) o
+        ((key, bytes) ∷ take (capacity - 1) es))
         ≡ option_map_or (λ e. (e.0, tt) ∷ remove_entry (same_key key) (keys_alone es)) (entry_alone (same_key key) o)
         ((key, tt) ∷ take (capacity - 1) (keys_alone es))
     by_entry None = (λ i. key_alone (key, bytes) ∷ taken_alone (capacity - 1) es i)
@@ -129,16 +134,27 @@ but_alone : (name : Name) (es : Entries (List ℕ)) → keys_alone (kept_but nam
 but_alone name [] = refl
 but_alone name (e ∷ es) =
     by_test_alone (not (same_name name e.0.name)) (e ∷ kept_but name es) (kept_but name es)
-    ∙ (λ i. if not (same_name name e.0.name) then (let k : Key = key_alone e in k ∷ but_alone name es i) else but_alone name es i)
+    ∙ (λ i. if not (same_name name e.0.name) then (let k : Key = key_alone e in k ∷ but_alone name es i) else
+    but_alone name es i)
 
-pub hit_alone : (key : BlockKey) (k : Kept (List ℕ)) → without_bytes (hit key k) ≡ hit key (without_bytes k)
-hit_alone key k = (λ i. record { entries = promoted_alone (same_key key) k.entries i; hits = k.hits + 1; misses = k.misses })
+pub hit_alone : (key : BlockKey) (k : Kept (List ℕ)) → without_bytes (count_hit key k) ≡ count_hit key (without_bytes k)
+hit_alone key k = (λ i. record {
+  entries = promoted_alone (same_key key) k.entries i;
+  hits = k.hits + 1;
+  misses =
+      k.misses;
+})
 
 pub missed_alone : (capacity : ℕ) (key : BlockKey) (bytes : List ℕ) (k : Kept (List ℕ))
     → without_bytes (missed_with capacity key bytes k) ≡ missed_with capacity key tt (without_bytes k)
-missed_alone capacity key bytes k = (λ i. record { entries = put_alone capacity key bytes k.entries i; hits = k.hits; misses = k.misses + 1 })
+missed_alone capacity key bytes k = (λ i. record {
+  entries = put_alone capacity key bytes k.entries i;
+  hits = k.hits;
+  misses = k.misses + 1;
+})
 
-pub dropped_alone : (name : Name) (k : Kept (List ℕ)) → without_bytes (dropped name k) ≡ dropped name (without_bytes k)
+pub dropped_alone : (name : Name) (k : Kept (List ℕ)) → without_bytes (without_blocks_of name k)
+    ≡ without_blocks_of name (without_bytes k)
 dropped_alone name k = (λ i. record { entries = but_alone name k.entries i; hits = k.hits; misses = k.misses })
 
 -- ---- what holds of each entry
@@ -161,13 +177,15 @@ module _ (P : Entry → Type 0) where
     holds : P e
     passes : test e.0 ≡ true
 
-  entry_found : (test : BlockKey → Bool) (es : Entries (List ℕ)) (e : Entry) → Each P es → lookup_entry test es ≡ Some e → IsEntry test e
+  entry_found : (test : BlockKey → Bool) (es : Entries (List ℕ)) (e : Entry) → Each P es → lookup_entry test es ≡ Some e
+      → IsEntry test e
   entry_found test [] e h is = absurd cc
   entry_found test (f ∷ es) e h is = by_test (test f.0) refl is (λ later. entry_found test es e h.1 later)
     where
       by_test : (b : Bool) → test f.0 ≡ b → (if b then Some f else lookup_entry test es) ≡ Some e
           → (lookup_entry test es ≡ Some e → IsEntry test e) → IsEntry test e
-      by_test true t is later = (let same : f ≡ e = cc in subst (IsEntry test) same (record { holds = h.0; passes = t }))
+      by_test true t is later = (let same : f ≡ e = cc in subst (IsEntry test) same
+          (record { holds = h.0; passes = t }))
       by_test false t is later = later is
 
   pub record HasValue (test : BlockKey → Bool) (bytes : List ℕ) : Type 0 where
@@ -175,19 +193,22 @@ module _ (P : Entry → Type 0) where
     pub holds : P (key, bytes)
     pub passes : test key ≡ true
 
-  pub value_found : (test : BlockKey → Bool) (es : Entries (List ℕ)) (bytes : List ℕ) → Each P es → lookup test es ≡ Some bytes → HasValue test bytes
+  pub value_found : (test : BlockKey → Bool) (es : Entries (List ℕ)) (bytes : List ℕ) → Each P es → lookup test es
+      ≡ Some bytes → HasValue test bytes
   value_found test [] bytes h is = absurd cc
   value_found test (f ∷ es) bytes h is = by_test (test f.0) refl is (λ later. value_found test es bytes h.1 later)
     where
       by_test : (b : Bool) → test f.0 ≡ b → (if b then Some f.1 else lookup test es) ≡ Some bytes
           → (lookup test es ≡ Some bytes → HasValue test bytes) → HasValue test bytes
-      by_test true t is later = (let same : f.1 ≡ bytes = cc in record { key = f.0; holds = subst (λ (b : List ℕ). P (f.0, b)) same h.0; passes = t })
+      by_test true t is later = (let same : f.1 ≡ bytes = cc in
+          record { key = f.0; holds = subst (λ (b : List ℕ). P (f.0, b)) same h.0; passes = t })
       by_test false t is later = later is
 
   pub each_used : (test : BlockKey → Bool) (es : Entries (List ℕ)) → Each P es → Each P (promoted test es)
   each_used test es h = by_entry (lookup_entry test es) (λ e is. entry_found test es e h is)
     where
-      by_entry : (o : Option Entry) → ((e : Entry) → o ≡ Some e → IsEntry test e) → Each P (option_map_or (λ e. e ∷ remove_entry test es) o es)
+      by_entry : (o : Option Entry) → ((e : Entry) → o ≡ Some e → IsEntry test e)
+          → Each P (option_map_or (λ e. e ∷ remove_entry test es) o es)
       by_entry None f = h
       by_entry (Some e) f = ((f e refl).holds, each_removed test es h)
 
@@ -196,19 +217,23 @@ module _ (P : Entry → Type 0) where
   each_taken (suc n) [] h = tt
   each_taken (suc n) (e ∷ es) h = (h.0, each_taken n es h.1)
 
-  pub each_put : (capacity : ℕ) (key : BlockKey) (bytes : List ℕ) (es : Entries (List ℕ)) → lookup_entry (same_key key) es ≡ None → P (key, bytes)
+  pub each_put : (capacity : ℕ) (key : BlockKey) (bytes : List ℕ) (es : Entries (List ℕ))
+      → lookup_entry (same_key key) es ≡ None → P (key, bytes)
       → Each P es → Each P (kept_with capacity key bytes es)
   each_put capacity key bytes es none new h =
-      subst (λ o. Each P (option_map_or (λ e. (e.0, bytes) ∷ remove_entry (same_key key) es) o ((key, bytes) ∷ take (capacity - 1) es))) (sym none)
+      subst (λ o. Each P (option_map_or (λ e. (e.0, bytes) ∷ remove_entry (same_key key) es) o
+      ((key, bytes) ∷ take (capacity - 1) es))) (sym none)
       (new, each_taken (capacity - 1) es h)
 
 -- where the names apart from this one have what they had
-pub each_but : (P Q : Entry → Type 0) (name : Name) (es : Entries (List ℕ)) → ((e : Entry) → same_name name e.0.name ≡ false → P e → Q e)
+pub each_but : (P Q : Entry → Type 0) (name : Name) (es : Entries (List ℕ))
+    → ((e : Entry) → same_name name e.0.name ≡ false → P e → Q e)
     → Each P es → Each Q (kept_but name es)
 each_but P Q name [] f h = tt
 each_but P Q name (e ∷ es) f h = by_test (same_name name e.0.name) refl (each_but P Q name es f h.1)
   where
-    by_test : (b : Bool) → same_name name e.0.name ≡ b → Each Q (kept_but name es) → Each Q (if not b then e ∷ kept_but name es else kept_but name es)
+    by_test : (b : Bool) → same_name name e.0.name ≡ b → Each Q (kept_but name es)
+        → Each Q (if not b then e ∷ kept_but name es else kept_but name es)
     by_test true t rest = rest
     by_test false t rest = (f e t h.0, rest)
 
@@ -216,7 +241,8 @@ pub no_entry : (test : BlockKey → Bool) (es : Entries (List ℕ)) → lookup t
 no_entry test [] none = refl
 no_entry test (e ∷ es) none = by_test (test e.0) none (λ later. no_entry test es later)
   where
-    by_test : (b : Bool) → (if b then Some e.1 else lookup test es) ≡ None → (lookup test es ≡ None → lookup_entry test es ≡ None)
+    by_test : (b : Bool) → (if b then Some e.1 else lookup test es) ≡ None
+        → (lookup test es ≡ None → lookup_entry test es ≡ None)
         → (if b then Some e else lookup_entry test es) ≡ None
     by_test true none later = absurd cc
     by_test false none later = later none
@@ -228,7 +254,8 @@ abbrev pub IsBlock : FileTree → ℕ → Entry → Type 0
 IsBlock tree block e = block_found tree block e.0.block (node_at tree e.0.name) ≡ Ok e.1
 
 -- a block that is kept under this key
-pub kept_block : (tree : FileTree) (block : ℕ) (name : Name) (n : ℕ) (es : Entries (List ℕ)) (bytes : List ℕ) → Each (IsBlock tree block) es
+pub kept_block : (tree : FileTree) (block : ℕ) (name : Name) (n : ℕ) (es : Entries (List ℕ)) (bytes : List ℕ)
+    → Each (IsBlock tree block) es
     → lookup (same_key (key_of name n)) es ≡ Some bytes → block_found tree block n (node_at tree name) ≡ Ok bytes
 kept_block tree block name n es bytes h is =
     let v = value_found (IsBlock tree block) (same_key (key_of name n)) es bytes h is in

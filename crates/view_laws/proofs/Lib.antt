@@ -1,17 +1,17 @@
-pub mod DoingLaws
-pub mod Bytes
-pub mod BlockReads
-pub mod KeptBlocks
-pub mod Gathering
-pub mod GetLaws
-pub mod PutTrees
-pub mod PutLaws
-pub mod ViewedLaws
-pub mod SlotCalls
-pub mod CallsDone
-pub mod WritesDone
-pub mod EachCall
-pub mod JournalSteps
-pub mod JournalEnds
-pub mod JournalDid
+mod DoingLaws
+mod Bytes
+mod BlockReads
+mod KeptBlocks
+mod Gathering
+mod GetLaws
+mod PutTrees
+mod PutLaws
+mod ViewedLaws
+mod SlotCalls
+mod CallsDone
+mod WritesDone
+mod EachCall
+mod JournalSteps
+mod JournalEnds
+mod JournalDid
 pub mod PlainLaws

@@ -15,30 +15,30 @@ use Rattle.machine_model.specs.declared.node.Node.{Node}
 use Rattle.machine_model.specs.declared.node.Node.TheVariants as node
 use Rattle.plan_model.specs.FilePlans.{open_request}
 use Rattle.view_model.proofs.LengthLaws.{open_len}
-use Rattle.view_model.specs.Blocks.{Kept, dropped}
+use Rattle.view_model.specs.Blocks.{Kept, without_blocks_of}
 use Rattle.view_model.specs.Plain.{Given, pieces, put_node, put_opened, put_pieces, to_put}
 use Rattle.view_model.specs.Viewed.{
   Doing,
   Found,
-  answered,
-  closing,
+  answered_with,
+  close_file_call,
   makes,
   makes_and_writes,
-  opening,
+  open_call,
   pure,
   put_at,
   put_by,
   put_of,
-  seeking,
+  seek_call,
   unless_refused,
-  writing,
-  written,
+  write_file_call,
+  write_bytes,
   ◌>>=◌,
 }
 use Rattle.view_model.specs.ViewOps.{passes_length}
 use Rattle.view_model.specs.declared.answer.Answer.{Answer}
 use Rattle.view_model.specs.declared.answer.Answer.TheVariants as answer
-use Rattle.view_laws.specs.FileCalls.{FilesAt, OpensBy, OpensNode, Standing, WritesAt, at_rest, at_start, bare, standing}
+use Rattle.view_laws.specs.FileCalls.{FilesAt, OpensBy, OpensNode, OpenFilePlace, WritesAt, at_rest, at_start, bare, files_with_open}
 use Rattle.view_laws.proofs.DoingLaws.{Holds, Post, holds_after, holds_bind, holds_pure}
 use Rattle.view_laws.proofs.GetLaws.{IsAnswered}
 use Rattle.view_laws.proofs.KeptBlocks.{Each, IsBlock, dropped_alone, each_but, without_bytes}
@@ -49,7 +49,8 @@ opens_alike : (flags : OpenFlags) (path : List ℕ) → length (request_body (op
 unfolding request_body
 opens_alike flags path = simp lengths (omega arith)
 
-not_long : (flags : OpenFlags) (path : List ℕ) → passes_length path ≡ false → is_too_long (open_request flags path) ≡ false
+not_long : (flags : OpenFlags) (path : List ℕ) → passes_length path ≡ false → is_too_long (open_request flags path)
+    ≡ false
 not_long flags path fits = ap (nat_lt MAX_BODY_LEN) (opens_alike flags path ∙ sym (open_len path)) ∙ fits
 
 -- this was answered, and nothing is open of these files
@@ -66,41 +67,45 @@ given_by len offset content tree path = put_opened (bare tree) (components path)
     (to_write tree (components path) (node_at (bare tree) (components path)))
 
 module _ (len : ℕ) (offset : ℕ) (content : List ℕ) (fits : offset + length content < 2 ^ 64) where
-  puts_at : (tree : FileTree) (file : ℕ) → Holds len (put_at offset content) (standing tree (at_start to_put file))
+  puts_at : (tree : FileTree) (file : ℕ) → Holds len (put_at offset content)
+      (files_with_open tree (at_start to_put file))
       (IsPut (put_pieces (bare tree) file offset (pieces_of len content)))
   puts_at tree file =
-      holds_after len (seeking offset) (λ sought. writes) (standing tree (at_start to_put file)) post (refl, tt)
+      holds_after len (seek_call offset) (λ sought. writes) (files_with_open tree (at_start to_put file)) post
+      (refl, tt)
       (λ sought now did. subst (λ (m : FilesAt). Holds len writes m post) (sym did)
-      (holds_after len (writing content) closes (standing tree there) post (refl, (refl, fits))
+      (holds_after len (write_file_call content) closes (files_with_open tree there) post (refl, (refl, fits))
       (λ found now did. by_write found now did)))
     where
-      there : Standing
+      there : OpenFilePlace
       there = record (at_start to_put file) { offset = offset }
 
       post : Post Answer
       post a now = IsPut (put_pieces (bare tree) file offset (pieces (length content) len content)) a now
 
       closes : Found → Doing Answer
-      closes found = makes closing >>= λ closed. pure (put_of found)
+      closes found = makes close_file_call >>= λ closed. pure (put_of found)
 
       writes : Doing Answer
-      writes = makes (writing content) >>= λ found. makes closing >>= λ closed. pure (put_of found)
+      writes = makes (write_file_call content) >>= λ found. makes close_file_call >>= λ closed. pure (put_of found)
 
       by_write : (found : Found) (now : FilesAt) → WritesAt len content
-          (record (at_start to_put file) { offset = offset }) (standing tree
+          (record (at_start to_put file) { offset = offset }) (files_with_open tree
           (record (at_start to_put file) { offset = offset })) found now
-          → Holds len (makes closing >>= λ closed. pure (put_of found)) now
+          → Holds len (makes close_file_call >>= λ closed. pure (put_of found)) now
           (λ a now. IsPut (put_pieces (bare tree) file offset (pieces (length content) len content)) a now)
       by_write found now w =
-          subst (λ (m : FilesAt). Holds len (makes closing >>= λ closed. pure (put_of found)) m
+          subst (λ (m : FilesAt). Holds len (makes close_file_call >>= λ closed. pure (put_of found)) m
           (λ a now. IsPut (put_pieces (bare tree) file offset (pieces (length content) len content)) a now))
           (sym w.now_is)
-          (holds_after len closing (λ closed. pure (put_of found)) _
+          (holds_after len close_file_call (λ closed. pure (put_of found)) _
           (λ a now. IsPut (put_pieces (bare tree) file offset (pieces (length content) len content)) a now)
           (refl, tt)
-          (λ closed m did. holds_pure len (put_of found) m (λ a now. IsPut (put_pieces (bare tree) file offset (pieces (length content) len content)) a now)
+          (λ closed m did. holds_pure len (put_of found) m (λ a now. IsPut
+          (put_pieces (bare tree) file offset (pieces (length content) len content)) a now)
           (record {
-            answer_is = ap put_of w.found_is ∙ pieces_told file offset (bare tree) (pieces (length content) len content);
+            answer_is = ap put_of w.found_is ∙ pieces_told file offset (bare tree)
+                (pieces (length content) len content);
             now_is = did;
           })))
 
@@ -112,13 +117,16 @@ module _ (len : ℕ) (offset : ℕ) (content : List ℕ) (fits : offset + length
   puts_opened tree name (reply.Status code message language) left opened now (e, at) =
       subst (λ (f : Found). Holds len (unless_refused f (λ code. answer.Refused code) (put_at offset content)) now
       (IsPut (answer.Refused code, bare tree))) (sym e)
-      (holds_pure len (answer.Refused code) now (IsPut (answer.Refused code, bare tree)) (record { answer_is = refl; now_is = at }))
+      (holds_pure len (answer.Refused code) now (IsPut (answer.Refused code, bare tree))
+      (record { answer_is = refl; now_is = at }))
   puts_opened tree name other left opened now (e, at) =
       subst (λ (f : Found). Holds len (unless_refused f (λ code. answer.Refused code) (put_at offset content)) now
-      (IsPut (put_node (bare left) offset (pieces_of len content) (node_at left name)))) (sym e) (by_node (node_at left name) at)
+      (IsPut (put_node (bare left) offset (pieces_of len content) (node_at left name)))) (sym e)
+      (by_node (node_at left name) at)
     where
       by_node : (x : Option Node) → OpensNode to_put (bare left) x now
-          → Holds len (put_at offset content) now (IsPut (put_node (bare left) offset (pieces (length content) len content) x))
+          → Holds len (put_at offset content) now (IsPut (put_node (bare left) offset
+          (pieces (length content) len content) x))
       by_node None at = absurd at
       by_node (Some node.Directory) at = absurd at
       by_node (Some (node.File file)) at =
@@ -127,30 +135,38 @@ module _ (len : ℕ) (offset : ℕ) (content : List ℕ) (fits : offset + length
           (puts_at left file)
 
   pub writes_file : (tree : FileTree) (path : List ℕ) → passes_length path ≡ false
-      → Holds len (written path offset content) (at_rest tree) (IsPut (given_by len offset content tree path))
+      → Holds len (write_bytes path offset content) (at_rest tree) (IsPut (given_by len offset content tree path))
   writes_file tree path short =
-      holds_after len (opening makes_and_writes path) (λ opened. unless_refused opened (λ code. answer.Refused code) (put_at offset content))
-      (at_rest tree) (IsPut (given_by len offset content tree path)) (refl, refl, refl, not_long (flags_of makes_and_writes) path short)
-      (λ opened now did. puts_opened tree (components path) (to_write tree (components path) (node_at (bare tree) (components path))).0
+      holds_after len (open_call makes_and_writes path) (λ opened. unless_refused opened (λ code. answer.Refused code)
+      (put_at offset content))
+      (at_rest tree) (IsPut (given_by len offset content tree path))
+      (refl, refl, refl, not_long (flags_of makes_and_writes) path short)
+      (λ opened now did. puts_opened tree (components path) (to_write tree (components path)
+      (node_at (bare tree) (components path))).0
       (to_write tree (components path) (node_at (bare tree) (components path))).1 opened now did)
 
-  pub puts : (block : ℕ) (tree : FileTree) (path : List ℕ) (kept : Kept (List ℕ)) → passes_length path ≡ false → IsWellFormed tree
+  pub puts : (block : ℕ) (tree : FileTree) (path : List ℕ) (kept : Kept (List ℕ)) → passes_length path ≡ false
+      → IsWellFormed tree
       → Each (IsBlock tree block) kept.entries
       → Holds len (put_by path offset content kept) (at_rest tree)
-      (IsAnswered block (given_by len offset content tree path).0 (given_by len offset content tree path).1 (dropped (components path) (without_bytes kept)))
+      (IsAnswered block (given_by len offset content tree path).0 (given_by len offset content tree path).1
+      (without_blocks_of (components path) (without_bytes kept)))
   puts block tree path kept short well h =
       let leaves = put_leaves path offset tree (pieces_of len content) well in
-      holds_bind len (written path offset content) (λ a. pure (answered a (dropped (components path) kept))) (at_rest tree)
+      holds_bind len (write_bytes path offset content) (λ a. pure
+      (answered_with a (without_blocks_of (components path) kept))) (at_rest tree)
       (IsPut (given_by len offset content tree path)) (IsAnswered block (given_by len offset content tree path).0
-      (given_by len offset content tree path).1 (dropped (components path) (without_bytes kept)))
+      (given_by len offset content tree path).1 (without_blocks_of (components path) (without_bytes kept)))
       (writes_file tree path short)
-      (λ a now w. holds_pure len (answered a (dropped (components path) kept)) now
-      (IsAnswered block (given_by len offset content tree path).0 (given_by len offset content tree path).1 (dropped (components path) (without_bytes kept)))
+      (λ a now w. holds_pure len (answered_with a (without_blocks_of (components path) kept)) now
+      (IsAnswered block (given_by len offset content tree path).0 (given_by len offset content tree path).1
+      (without_blocks_of (components path) (without_bytes kept)))
       (record {
         answer_is = w.answer_is;
         keeps = record {
           now_is = w.now_is;
-          blocks = each_but (IsBlock tree block) (IsBlock (given_by len offset content tree path).1 block) (components path) kept.entries
+          blocks = each_but (IsBlock tree block) (IsBlock (given_by len offset content tree path).1 block)
+              (components path) kept.entries
               (blocks_keep block (components path) tree (given_by len offset content tree path).1 leaves.keeps) h;
           keys_are = dropped_alone (components path) kept;
         };

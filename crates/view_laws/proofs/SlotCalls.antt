@@ -51,38 +51,39 @@ use Rattle.machine_model.specs.declared.node.Node.TheVariants as node
 use Rattle.machine_model.specs.declared.opened.Held.{Held}
 use Rattle.machine_model.specs.declared.opened.Opened.TheVariants as opened
 use Rattle.plan_model.specs.CallPlans.{next}
-use Rattle.plan_model.specs.FilePlans.{open_request, opened as opens}
-use Rattle.plan_model.specs.Moves.{Answers, Own, ask_read, ask_write, done_by, further, handle_of, on_status, once_answered, overflows, refuses}
-use Rattle.plan_model.specs.OwnRequests.{Extends}
+use Rattle.plan_model.specs.FilePlans.{open_request, opened_move as opens}
+use Rattle.plan_model.specs.Moves.{Answers, Own, ask_read, ask_write, done_by, further, handle_of, on_status, once_answered, overflows, refuse_locally}
+use Rattle.plan_model.specs.OwnRequests.{ExtendsAnswers}
 use Rattle.plan_model.specs.TransferPlans.{in_slot, next_part, part_len, rest_next, was_read}
 use Rattle.plan_model.specs.declared.call.Call.{Call}
 use Rattle.plan_model.specs.declared.call.Call.TheVariants as call
 use Rattle.run_laws.proofs.MoveWords.{asked_of, is_ask}
 use Rattle.run_laws.proofs.OpenLaws.{open_is}
 use Rattle.run_laws.proofs.WholeWriteLaws.{write_is}
-use Rattle.view_laws.specs.FileCalls.{FilesAt, MayCall, MayRead, MayWrite, Standing, Stands, bare}
+use Rattle.view_laws.specs.FileCalls.{FilesAt, MayCall, MayRead, MayWrite, OpenFilePlace, IsStanding, bare}
 
 -- ---- the file in the slot
 
-abbrev pub file_at : ℕ → Standing → FileAt
+abbrev pub file_at : ℕ → OpenFilePlace → FileAt
 file_at grant s = record { grant = grant; readable = s.readable; writable = s.writable; offset = s.offset }
 
-abbrev pub held_as : Standing → Held
+abbrev pub held_as : OpenFilePlace → Held
 held_as s = record { file = s.file; readable = s.readable; writable = s.writable; append = false }
 
 abbrev pub site_with : FileAt → Site
 site_with at = with_slot fresh_site 0 (File at)
 
 -- The slot has a file that a HANDLE was granted for, and the machine has it open so; a name has the file.
-pub record HoldsFile (answers : Answers) (tree : FileTree) (site : Site) (handle : List ℕ) (s : Standing) : Type 0 where
-  pub grant : ℕ
-  pub site_is : site ≡ site_with (file_at grant s)
-  pub came : answers grant ≡ Some (reply.Handle handle)
-  pub open_is : opened_at tree handle ≡ Some (opened.File (held_as s))
-  pub name : Name
-  pub named : node_at tree name ≡ Some (node.File s.file)
+pub record HoldsFile (answers : Answers) (tree : FileTree) (site : Site) (handle : List ℕ) (s : OpenFilePlace) : Type 0
+  where
+    pub grant : ℕ
+    pub site_is : site ≡ site_with (file_at grant s)
+    pub came : answers grant ≡ Some (reply.Handle handle)
+    pub open_is : opened_at tree handle ≡ Some (opened.File (held_as s))
+    pub name : Name
+    pub named : node_at tree name ≡ Some (node.File s.file)
 
-abbrev pub HoldsSlot : Answers → FileTree → Site → List ℕ → Option Standing → Type 0
+abbrev pub HoldsSlot : Answers → FileTree → Site → List ℕ → Option OpenFilePlace → Type 0
 HoldsSlot answers tree site handle None = site ≡ fresh_site
 HoldsSlot answers tree site handle (Some s) = HoldsFile answers tree site handle s
 
@@ -117,15 +118,17 @@ AreWrites facts answers handle offset bytes (a ∷ later) = (a.1 ≡ request.Wri
     × (length bytes == 0 ≡ false) × AfterOk later (answers a.0)
     × AreWrites facts answers handle (offset + part_len facts bytes) (drop (part_len facts bytes) bytes) later
 
-abbrev pub offset_in : Option Standing → ℕ
+abbrev pub offset_in : Option OpenFilePlace → ℕ
 offset_in None = 0
 offset_in (Some s) = s.offset
 
 -- what the call asks, where the slot's file has this handle and stands here
 abbrev pub AsksSo : Facts → Answers → Call → List ℕ → ℕ → Own → Type 0
-AsksSo facts answers (call.OpenFile slot options path) handle offset own = IsOne (open_request (flags_of options) path) own
+AsksSo facts answers (call.OpenFile slot options path) handle offset own =
+    IsOne (open_request (flags_of options) path) own
 AsksSo facts answers (call.Seek slot position) handle offset own = own ≡ []
-AsksSo facts answers (call.Read slot n) handle offset own = IsOne (request.Read handle offset (min n facts.read_len)) own
+AsksSo facts answers (call.Read slot n) handle offset own = IsOne (request.Read handle offset (min n facts.read_len))
+    own
 AsksSo facts answers (call.WriteAll slot bytes) handle offset own = AreWrites facts answers handle offset bytes own
 AsksSo facts answers (call.Close slot) handle offset own = IsOne (request.Close handle) own
 AsksSo facts answers other handle offset own = ⊥
@@ -143,7 +146,8 @@ asks_none facts answers (call.Close slot) handle offset at may = tt
 asks_none facts answers other handle offset at may = absurd may
 
 -- a request that has its reply is the last where nothing is asked after it
-unasked : (place : ℕ) (o : Option Reply) (go : Reply → Move) (r : Request) → ((x : Reply) → is_ask (go x) ≡ false) → once_answered place o go ≡ Ask r → ⊥
+unasked : (place : ℕ) (o : Option Reply) (go : Reply → Move) (r : Request) → ((x : Reply) → is_ask (go x) ≡ false)
+    → once_answered place o go ≡ Ask r → ⊥
 unasked place None go r never e = (let both : false ≡ true = ap is_ask e in cc)
 unasked place (Some x) go r never e = (let both : false ≡ true = sym (never x) ∙ ap is_ask e in cc)
 
@@ -152,18 +156,21 @@ ends_by_test : (b : Bool) (x y : Move) → is_ask x ≡ false → is_ask y ≡ f
 ends_by_test true x y e f = e
 ends_by_test false x y e f = f
 
-open_ends : (slot : ℕ) (options : OpenOptions) (site : Site) (p : ℕ) (x : Reply) → is_ask (opens slot (flags_of options) site p x) ≡ false
+open_ends : (slot : ℕ) (options : OpenOptions) (site : Site) (p : ℕ) (x : Reply)
+    → is_ask (opens slot (flags_of options) site p x) ≡ false
 open_ends slot options site p (reply.Handle handle) = refl
 open_ends slot options site p (reply.Status code message language) = refl
 open_ends slot options site p other = refl
 
 status_ends : (site : Site) (x : Reply) → is_ask (done_by site x) ≡ false
-status_ends site (reply.Status code message language) = ends_by_test (code == SSH_FX_OK) (Done outcome.Done site) _ refl refl
+status_ends site (reply.Status code message language) = ends_by_test (code == SSH_FX_OK) (Done outcome.Done site) _ refl
+    refl
 status_ends site other = refl
 
 read_ends : (slot : ℕ) (file : FileAt) (site : Site) (x : Reply) → is_ask (was_read slot file site x) ≡ false
 read_ends slot file site (reply.Content bytes) = refl
-read_ends slot file site (reply.Status code message language) = ends_by_test (code == SSH_FX_EOF) (Done outcome.End site) _ refl refl
+read_ends slot file site (reply.Status code message language) =
+    ends_by_test (code == SSH_FX_EOF) (Done outcome.End site) _ refl refl
 read_ends slot file site other = refl
 
 -- a READ that was asked
@@ -172,7 +179,7 @@ pub read_is : (file : FileAt) (len : ℕ) (site : Site) (answers : Answers) (r :
 read_is file len site answers r e = by_tests (not file.readable) (overflows file.offset len) e
   where
     by_tests : (a b : Bool)
-        → (if a then refuses kind.NotReadable site else if b then refuses kind.OffsetOverflow site else
+        → (if a then refuse_locally kind.NotReadable site else if b then refuse_locally kind.OffsetOverflow site else
         Ask (request.Read (handle_of (answers file.grant)) file.offset len)) ≡ Ask r
         → r ≡ request.Read (handle_of (answers file.grant)) file.offset len
     by_tests true b e = absurd (let both : false ≡ true = ap is_ask e in cc)
@@ -184,10 +191,12 @@ read_is file len site answers r e = by_tests (not file.readable) (overflows file
 module _ (facts : Facts) (answers : Answers) (handle : List ℕ) (p : ℕ) (r : Request) where
   write_more : (file : FileAt) (bytes : List ℕ) (site : Site) (own : Own) → handle_of (answers file.grant) ≡ handle
       → rest_next (in_slot 0) file bytes site facts own answers ≡ Ask r
-      → AreWrites facts answers handle file.offset bytes own → AreWrites facts answers handle file.offset bytes (own ++ (p, r) ∷ [])
+      → AreWrites facts answers handle file.offset bytes own → AreWrites facts answers handle file.offset bytes
+      (own ++ (p, r) ∷ [])
   write_more file bytes site [] same e asked = let w = by_test (length bytes == 0) e in (w.0, w.1, tt, tt)
     where
-      by_test : (b : Bool) → (if b then Done outcome.Done site else ask_write file (next_part facts bytes) site answers) ≡ Ask r
+      by_test : (b : Bool) → (if b then Done outcome.Done site else ask_write file (next_part facts bytes) site answers)
+          ≡ Ask r
           → (r ≡ request.Write handle file.offset (next_part facts bytes)) × (b ≡ false)
       by_test true e = absurd (let both : false ≡ true = ap is_ask e in cc)
       by_test false e = (
@@ -208,10 +217,12 @@ module _ (facts : Facts) (answers : Answers) (handle : List ℕ) (p : ℕ) (r : 
       after_ok [] o ok = tt
       after_ok (x ∷ xs) o ok = ok
 
-      by_status : (code : ℕ) (x y : Move) → is_ask y ≡ false → (if code == SSH_FX_OK then x else y) ≡ Ask r → (code ≡ SSH_FX_OK) × (x ≡ Ask r)
+      by_status : (code : ℕ) (x y : Move) → is_ask y ≡ false → (if code == SSH_FX_OK then x else y) ≡ Ask r
+          → (code ≡ SSH_FX_OK) × (x ≡ Ask r)
       by_status code x y never e = elim (eqb_tells code SSH_FX_OK) [
         | inl t ↦ (t.1, rw t.0 at e)
-        | inr t ↦ absurd (let other : y ≡ Ask r = rw t.0 at e in let both : false ≡ true = sym never ∙ ap is_ask other in cc)
+        | inr t ↦ absurd (let other : y ≡ Ask r = rw t.0 at e in let both : false ≡ true = sym never ∙ ap is_ask other
+            in cc)
       ]
 
       by_reply : (o : Option Reply) → once_answered a.0 o (λ x. on_status x site
@@ -224,7 +235,8 @@ module _ (facts : Facts) (answers : Answers) (handle : List ℕ) (p : ℕ) (r : 
       by_reply (Some other) e = absurd (let both : false ≡ true = ap is_ask e in cc)
 
   -- a call asks what it may ask
-  pub asks_more : (c : Call) (tree : FileTree) (site : Site) (at : FilesAt) (own : Own) → IsAt answers tree site handle at → MayCall at c
+  pub asks_more : (c : Call) (tree : FileTree) (site : Site) (at : FilesAt) (own : Own)
+      → IsAt answers tree site handle at → MayCall at c
       → next c site facts own answers ≡ Ask r → AsksSo facts answers c handle (offset_in at.slot) own
       → AsksSo facts answers c handle (offset_in at.slot) (own ++ (p, r) ∷ [])
   asks_more (call.OpenFile slot options path) tree site at [] is may e asked = open_is (flags_of options) path site r e
@@ -232,23 +244,28 @@ module _ (facts : Facts) (answers : Answers) (handle : List ℕ) (p : ℕ) (r : 
       absurd (unasked a.0 (answers a.0) (opens slot (flags_of options) site a.0) r (open_ends slot options site a.0) e)
   asks_more (call.OpenFile slot options path) tree site at (a ∷ b ∷ later) is may e asked = absurd asked
   asks_more (call.Seek slot (position.Start n)) tree site at own is may e asked =
-      absurd (seek_ends at.slot may.1 is.slot_is (subst (λ (k : ℕ). next (call.Seek k (position.Start n)) site facts own answers ≡ Ask r) may.0 e))
+      absurd (seek_ends at.slot may.1 is.slot_is (subst (λ (k : ℕ). next (call.Seek k (position.Start n)) site facts own
+      answers ≡ Ask r) may.0 e))
     where
-      seek_ends : (slot : Option Standing) → Stands slot → HoldsSlot answers tree site handle slot
+      seek_ends : (slot : Option OpenFilePlace) → IsStanding slot → HoldsSlot answers tree site handle slot
           → next (call.Seek 0 (position.Start n)) site facts own answers ≡ Ask r → ⊥
       seek_ends None stands holds e = stands
       seek_ends (Some s) stands holds e =
-          let both : false ≡ true = ap is_ask (subst (λ (x : Site). next (call.Seek 0 (position.Start n)) x facts own answers ≡ Ask r) holds.site_is e) in cc
+          let both : false ≡ true = ap is_ask (subst (λ (x : Site). next (call.Seek 0 (position.Start n)) x facts own
+          answers ≡ Ask r) holds.site_is e) in cc
   asks_more (call.Seek slot (position.End n)) tree site at own is may e asked = absurd may
   asks_more (call.Seek slot (position.Current n)) tree site at own is may e asked = absurd may
   asks_more (call.Read slot n) tree site at own is may e asked =
-      by_slot at.slot may.1 is.slot_is (subst (λ (k : ℕ). next (call.Read k n) site facts own answers ≡ Ask r) may.0 e) asked
+      by_slot at.slot may.1 is.slot_is (subst (λ (k : ℕ). next (call.Read k n) site facts own answers ≡ Ask r) may.0 e)
+      asked
     where
-      by_slot : (slot : Option Standing) → MayRead slot n → HoldsSlot answers tree site handle slot
-          → next (call.Read 0 n) site facts own answers ≡ Ask r → IsOne (request.Read handle (offset_in slot) (min n facts.read_len)) own
+      by_slot : (slot : Option OpenFilePlace) → MayRead slot n → HoldsSlot answers tree site handle slot
+          → next (call.Read 0 n) site facts own answers ≡ Ask r →
+          IsOne (request.Read handle (offset_in slot) (min n facts.read_len)) own
           → IsOne (request.Read handle (offset_in slot) (min n facts.read_len)) (own ++ (p, r) ∷ [])
       by_slot None may holds e asked = absurd may
-      by_slot (Some s) may holds e asked = by_own own (subst (λ (x : Site). next (call.Read 0 n) x facts own answers ≡ Ask r) holds.site_is e) asked
+      by_slot (Some s) may holds e asked = by_own own (subst (λ (x : Site). next (call.Read 0 n) x facts own answers
+          ≡ Ask r) holds.site_is e) asked
         where
           by_own : (own : Own) → next (call.Read 0 n) (site_with (file_at holds.grant s)) facts own answers ≡ Ask r
               → IsOne (request.Read handle s.offset (min n facts.read_len)) own
@@ -256,31 +273,39 @@ module _ (facts : Facts) (answers : Answers) (handle : List ℕ) (p : ℕ) (r : 
           by_own [] e asked = by_test (n == 0) e
             where
               by_test : (b : Bool) → (if b then Done outcome.End (site_with (file_at holds.grant s)) else
-                  ask_read (file_at holds.grant s) (min n facts.read_len) (site_with (file_at holds.grant s)) answers) ≡ Ask r
+                  ask_read (file_at holds.grant s) (min n facts.read_len) (site_with (file_at holds.grant s)) answers)
+                  ≡ Ask r
                   → r ≡ request.Read handle s.offset (min n facts.read_len)
               by_test true e = absurd (let both : false ≡ true = ap is_ask e in cc)
-              by_test false e = read_is (file_at holds.grant s) (min n facts.read_len) (site_with (file_at holds.grant s)) answers r e
+              by_test false e = read_is (file_at holds.grant s) (min n facts.read_len)
+                  (site_with (file_at holds.grant s)) answers r e
                   ∙ ap (λ (o : Option Reply). request.Read (handle_of o) s.offset (min n facts.read_len)) holds.came
-          by_own (a ∷ []) e asked = absurd (unasked a.0 (answers a.0) (was_read 0 (file_at holds.grant s) (site_with (file_at holds.grant s))) r
+          by_own (a ∷ []) e asked = absurd (unasked a.0 (answers a.0)
+              (was_read 0 (file_at holds.grant s) (site_with (file_at holds.grant s))) r
               (read_ends 0 (file_at holds.grant s) (site_with (file_at holds.grant s))) e)
           by_own (a ∷ b ∷ later) e asked = absurd asked
   asks_more (call.WriteAll slot bytes) tree site at own is may e asked =
-      by_slot at.slot may.1 is.slot_is (subst (λ (k : ℕ). next (call.WriteAll k bytes) site facts own answers ≡ Ask r) may.0 e) asked
+      by_slot at.slot may.1 is.slot_is (subst (λ (k : ℕ). next (call.WriteAll k bytes) site facts own answers ≡ Ask r)
+      may.0 e) asked
     where
-      by_slot : (slot : Option Standing) → MayWrite slot bytes → HoldsSlot answers tree site handle slot
-          → next (call.WriteAll 0 bytes) site facts own answers ≡ Ask r → AreWrites facts answers handle (offset_in slot) bytes own
+      by_slot : (slot : Option OpenFilePlace) → MayWrite slot bytes → HoldsSlot answers tree site handle slot
+          → next (call.WriteAll 0 bytes) site facts own answers ≡ Ask r
+          → AreWrites facts answers handle (offset_in slot) bytes own
           → AreWrites facts answers handle (offset_in slot) bytes (own ++ (p, r) ∷ [])
       by_slot None may holds e asked = absurd may
       by_slot (Some s) may holds e asked =
           write_more (file_at holds.grant s) bytes (site_with (file_at holds.grant s)) own (ap handle_of holds.came)
           (subst (λ (x : Site). next (call.WriteAll 0 bytes) x facts own answers ≡ Ask r) holds.site_is e) asked
   asks_more (call.Close slot) tree site at own is may e asked =
-      by_slot at.slot may.1 is.slot_is (subst (λ (k : ℕ). next (call.Close k) site facts own answers ≡ Ask r) may.0 e) asked
+      by_slot at.slot may.1 is.slot_is (subst (λ (k : ℕ). next (call.Close k) site facts own answers ≡ Ask r) may.0 e)
+      asked
     where
-      by_slot : (slot : Option Standing) → Stands slot → HoldsSlot answers tree site handle slot
-          → next (call.Close 0) site facts own answers ≡ Ask r → IsOne (request.Close handle) own → IsOne (request.Close handle) (own ++ (p, r) ∷ [])
+      by_slot : (slot : Option OpenFilePlace) → IsStanding slot → HoldsSlot answers tree site handle slot
+          → next (call.Close 0) site facts own answers ≡ Ask r → IsOne (request.Close handle) own
+          → IsOne (request.Close handle) (own ++ (p, r) ∷ [])
       by_slot None stands holds e asked = absurd stands
-      by_slot (Some s) stands holds e asked = by_own own (subst (λ (x : Site). next (call.Close 0) x facts own answers ≡ Ask r) holds.site_is e) asked
+      by_slot (Some s) stands holds e asked = by_own own (subst
+          (λ (x : Site). next (call.Close 0) x facts own answers ≡ Ask r) holds.site_is e) asked
         where
           by_own : (own : Own) → next (call.Close 0) (site_with (file_at holds.grant s)) facts own answers ≡ Ask r
               → IsOne (request.Close handle) own → IsOne (request.Close handle) (own ++ (p, r) ∷ [])
@@ -300,26 +325,31 @@ after_stays : (xs : Own) (o q : Option Reply) → ((r : Reply) → o ≡ Some r 
 after_stays [] o q f ok = tt
 after_stays (x ∷ xs) o q f ok = ok_stays o q f ok
 
-writes_stay : (facts : Facts) (before now : Answers) (handle : List ℕ) (offset : ℕ) (bytes : List ℕ) (own : Own) → Extends before now
+writes_stay : (facts : Facts) (before now : Answers) (handle : List ℕ) (offset : ℕ) (bytes : List ℕ) (own : Own)
+    → ExtendsAnswers before now
     → AreWrites facts before handle offset bytes own → AreWrites facts now handle offset bytes own
 writes_stay facts before now handle offset bytes [] more asked = tt
 writes_stay facts before now handle offset bytes (a ∷ later) more asked = (
   asked.0,
   asked.1,
   after_stays later (before a.0) (now a.0) (more a.0) asked.2,
-  writes_stay facts before now handle (offset + part_len facts bytes) (drop (part_len facts bytes) bytes) later more asked.3,
+  writes_stay facts before now handle (offset + part_len facts bytes) (drop (part_len facts bytes) bytes) later more
+      asked.3,
 )
 
-pub asks_stay : (facts : Facts) (before now : Answers) (c : Call) (handle : List ℕ) (offset : ℕ) (own : Own) → Extends before now
+pub asks_stay : (facts : Facts) (before now : Answers) (c : Call) (handle : List ℕ) (offset : ℕ) (own : Own)
+    → ExtendsAnswers before now
     → AsksSo facts before c handle offset own → AsksSo facts now c handle offset own
 asks_stay facts before now (call.OpenFile slot options path) handle offset own more asked = asked
 asks_stay facts before now (call.Seek slot position) handle offset own more asked = asked
 asks_stay facts before now (call.Read slot n) handle offset own more asked = asked
-asks_stay facts before now (call.WriteAll slot bytes) handle offset own more asked = writes_stay facts before now handle offset bytes own more asked
+asks_stay facts before now (call.WriteAll slot bytes) handle offset own more asked =
+    writes_stay facts before now handle offset bytes own more asked
 asks_stay facts before now (call.Close slot) handle offset own more asked = asked
 asks_stay facts before now other handle offset own more asked = absurd asked
 
-slot_stays : (before now : Answers) (tree : FileTree) (site : Site) (handle : List ℕ) (slot : Option Standing) → Extends before now
+slot_stays : (before now : Answers) (tree : FileTree) (site : Site) (handle : List ℕ) (slot : Option OpenFilePlace)
+    → ExtendsAnswers before now
     → HoldsSlot before tree site handle slot → HoldsSlot now tree site handle slot
 slot_stays before now tree site handle None more h = h
 slot_stays before now tree site handle (Some s) more h = record {
@@ -331,6 +361,11 @@ slot_stays before now tree site handle (Some s) more h = record {
   named = h.named;
 }
 
-pub at_stays : (before now : Answers) (tree : FileTree) (site : Site) (handle : List ℕ) (at : FilesAt) → Extends before now
+pub at_stays : (before now : Answers) (tree : FileTree) (site : Site) (handle : List ℕ) (at : FilesAt)
+    → ExtendsAnswers before now
     → IsAt before tree site handle at → IsAt now tree site handle at
-at_stays before now tree site handle at more h = record { tree_is = h.tree_is; slot_is = slot_stays before now tree site handle at.slot more h.slot_is }
+at_stays before now tree site handle at more h = record {
+  tree_is = h.tree_is;
+  slot_is =
+      slot_stays before now tree site handle at.slot more h.slot_is;
+}

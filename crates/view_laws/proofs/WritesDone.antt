@@ -1,5 +1,5 @@
--- What a `write_all` on the first slot did over the file machine, once it is done: its parts were written one after another,
--- up to the first that a limit refuses.
+-- What a `write_all` on the first slot did over the file machine, once it is done: its parts were written one after
+-- another, up to the first that a limit refuses.
 use Rattle.std.proofs.Common.{
   ◌≡◌,
   ◌≤◌,
@@ -48,8 +48,8 @@ use Rattle.sftp_model.specs.declared.slot.Facts.{Facts}
 use Rattle.sftp_model.specs.declared.slot.Move.{Move}
 use Rattle.sftp_model.specs.declared.slot.Move.TheVariants.{Done}
 use Rattle.sftp_model.specs.declared.slot.Site.{Site}
-use Rattle.machine_model.specs.FileTree.{FileTree, bytes_of, file_of, is_over, opened_at, put, size_of, with_bytes}
-use Rattle.machine_model.specs.HandleRequests.{Answer, after_write, done, refuses, writes}
+use Rattle.machine_model.specs.FileTree.{FileTree, bytes_of, file_of, is_over, opened_at, written_at, size_of, with_bytes}
+use Rattle.machine_model.specs.HandleRequests.{Answer, after_write, ok_answer, refusal_answer, answer_to_write}
 use Rattle.machine_model.specs.TreeAnswers.{apply}
 use Rattle.machine_model.specs.declared.opened.Opened.{Opened}
 use Rattle.machine_model.specs.declared.opened.Opened.TheVariants as opened
@@ -57,13 +57,13 @@ use Rattle.plan_model.specs.Moves.{Answers, Own, ask_write, on_status, overflows
 use Rattle.plan_model.specs.TransferPlans.{in_slot, next_part, part_len, rest_next}
 use Rattle.session_model.proofs.CallLaws.{has_place}
 use Rattle.session_model.specs.Grants.{is_granted}
-use Rattle.run_laws.specs.Steps.{AreServed, Choose, RefusesNone, Step, after, answer_to, asked_in}
+use Rattle.run_laws.specs.Steps.{AreServed, ChooseOnly, RefusesNone, Step, after, answer_to, asked_in}
 use Rattle.run_laws.proofs.MoveWords.{is_done, outcome_of, site_of, taken_is}
 use Rattle.run_laws.proofs.WriteLaws.{answers_as}
 use Rattle.view_model.specs.Plain.{Given, pieces, put_pieces}
 use Rattle.view_model.specs.Viewed.{found_in}
 use Rattle.view_model.specs.declared.answer.Answer.TheVariants as answer
-use Rattle.view_laws.specs.FileCalls.{Standing, bare, found_by}
+use Rattle.view_laws.specs.FileCalls.{OpenFilePlace, bare, found_by}
 use Rattle.view_laws.proofs.SlotCalls.{AfterOk, AreWrites, file_at, held_as, site_with}
 
 no_pieces : (most len : ℕ) → pieces most len [] ≡ []
@@ -73,9 +73,11 @@ no_pieces (suc most) len = refl
 pub not_over : (m n : ℕ) → n < m → nat_le m n ≡ false
 not_over m n lt = grind (arith, nat_tests)
 
-module _ (config : ServerConfig) (answers : Answers) (facts : Facts) (handle : List ℕ) (grant : ℕ) (some : 1 ≤ facts.write_len) where
+module _ (config : ServerConfig) (answers : Answers) (facts : Facts) (handle : List ℕ) (grant : ℕ)
+    (some : 1 ≤ facts.write_len) where
   -- what the parts leave, and how the call ended
-  pub record WritesDone (own : Own) (s : Standing) (most : ℕ) (bytes : List ℕ) (tree now : FileTree) (left : Site) (o : Outcome) : Type 0 where
+  pub record WritesDone (own : Own) (s : OpenFilePlace) (most : ℕ) (bytes : List ℕ) (tree now : FileTree) (left : Site)
+      (o : Outcome) : Type 0 where
     pub to : ℕ
     pub left_is : left ≡ site_with (file_at grant (record s { offset = to }))
     pub found : found_in o ≡ found_by (put_pieces (bare tree) s.file s.offset (pieces most facts.write_len bytes)).0
@@ -97,20 +99,23 @@ module _ (config : ServerConfig) (answers : Answers) (facts : Facts) (handle : L
       sym (drop_min facts.write_len bytes) ∙ ap (λ (k : ℕ). drop k bytes) turned
 
   pieces_are : (most : ℕ) (bytes : List ℕ) → length bytes == 0 ≡ false
-      → pieces (suc most) facts.write_len bytes ≡ next_part facts bytes ∷ pieces most facts.write_len (drop (part_len facts bytes) bytes)
+      → pieces (suc most) facts.write_len bytes ≡ next_part facts bytes ∷ pieces most facts.write_len
+      (drop (part_len facts bytes) bytes)
   pieces_are most [] any = absurd cc
   pieces_are most (b ∷ bytes) any = λ i. piece_is (b ∷ bytes) i ∷ pieces most facts.write_len (rest_is (b ∷ bytes) i)
 
-  abbrev written_by : FileTree → Standing → List ℕ → FileTree
-  written_by tree s bytes = with_bytes tree s.file (put (bytes_of tree s.file) s.offset (next_part facts bytes))
+  abbrev written_by : FileTree → OpenFilePlace → List ℕ → FileTree
+  written_by tree s bytes = with_bytes tree s.file (written_at (bytes_of tree s.file) s.offset (next_part facts bytes))
 
   -- one part, and then the others
-  next_pieces : (most : ℕ) (bytes : List ℕ) (tree : FileTree) (s : Standing) → length bytes == 0 ≡ false
+  next_pieces : (most : ℕ) (bytes : List ℕ) (tree : FileTree) (s : OpenFilePlace) → length bytes == 0 ≡ false
       → is_over tree s.file (max (size_of tree s.file) (s.offset + length (next_part facts bytes))) ≡ false
       → put_pieces (bare tree) s.file s.offset (pieces (suc most) facts.write_len bytes)
-      ≡ put_pieces (bare (written_by tree s bytes)) s.file (s.offset + part_len facts bytes) (pieces most facts.write_len (drop (part_len facts bytes) bytes))
+      ≡ put_pieces (bare (written_by tree s bytes)) s.file (s.offset + part_len facts bytes)
+      (pieces most facts.write_len (drop (part_len facts bytes) bytes))
   next_pieces most bytes tree s any fits =
-      let len_is : length (next_part facts bytes) ≡ part_len facts bytes = length-take-le (part_len facts bytes) bytes (part_short bytes) in
+      let len_is : length (next_part facts bytes) ≡ part_len facts bytes =
+      length-take-le (part_len facts bytes) bytes (part_short bytes) in
       ap (put_pieces (bare tree) s.file s.offset) (pieces_are most bytes any)
       ∙ (ap (λ (b : Bool). (let g : Given = if b then (answer.Refused SSH_FX_FAILURE, bare tree) else
       put_pieces (bare (written_by tree s bytes)) s.file (s.offset + length (next_part facts bytes))
@@ -118,9 +123,10 @@ module _ (config : ServerConfig) (answers : Answers) (facts : Facts) (handle : L
       ∙ ap (λ (k : ℕ). put_pieces (bare (written_by tree s bytes)) s.file (s.offset + k)
       (pieces most facts.write_len (drop (part_len facts bytes) bytes))) len_is)
 
-  refused_pieces : (most : ℕ) (bytes : List ℕ) (tree : FileTree) (s : Standing) → length bytes == 0 ≡ false
+  refused_pieces : (most : ℕ) (bytes : List ℕ) (tree : FileTree) (s : OpenFilePlace) → length bytes == 0 ≡ false
       → is_over tree s.file (max (size_of tree s.file) (s.offset + length (next_part facts bytes))) ≡ true
-      → put_pieces (bare tree) s.file s.offset (pieces (suc most) facts.write_len bytes) ≡ (let g : Given = (answer.Refused SSH_FX_FAILURE, bare tree) in g)
+      → put_pieces (bare tree) s.file s.offset (pieces (suc most) facts.write_len bytes)
+      ≡ (let g : Given = (answer.Refused SSH_FX_FAILURE, bare tree) in g)
   refused_pieces most bytes tree s any over =
       ap (put_pieces (bare tree) s.file s.offset) (pieces_are most bytes any)
       ∙ ap (λ (b : Bool). (let g : Given = if b then (answer.Refused SSH_FX_FAILURE, bare tree) else
@@ -128,19 +134,24 @@ module _ (config : ServerConfig) (answers : Answers) (facts : Facts) (handle : L
       (pieces most facts.write_len (drop (part_len facts bytes) bytes)) in g)) over
 
   -- what a WRITE of the next part answers
-  part_written : (tree : FileTree) (st : Step) (s : Standing) (bytes : List ℕ) → s.writable ≡ true → opened_at tree handle ≡ Some (opened.File (held_as s))
+  part_written : (tree : FileTree) (st : Step) (s : OpenFilePlace) (bytes : List ℕ) → s.writable ≡ true
+      → opened_at tree handle ≡ Some (opened.File (held_as s))
       → st.request ≡ request.Write handle s.offset (next_part facts bytes) → st.choice.refuse ≡ SSH_FX_OK
-      → answer_to config tree st ≡ writes tree s.file s.offset (next_part facts bytes)
+      → answer_to config tree st ≡ answer_to_write tree s.file s.offset (next_part facts bytes)
   part_written tree st s bytes way open_is asks unrefused =
       ap (λ (w : Request). apply tree config w st.choice st.handle) asks
       ∙ (answers_as tree config (request.Write handle s.offset (next_part facts bytes)) st.choice st.handle unrefused
-      ∙ (ap (λ (x : Option Opened). after_write tree s.offset (next_part facts bytes) (file_of x)) open_is ∙ rw way refl))
+      ∙ (ap (λ (x : Option Opened). after_write tree s.offset (next_part facts bytes) (file_of x)) open_is
+      ∙ rw way refl))
 
   abbrev Writing : List Step → Type 0
-  Writing steps = (most : ℕ) (bytes : List ℕ) (tree : FileTree) (s : Standing) (left : Site) (o : Outcome) → length bytes ≤ most → s.writable ≡ true
-      → s.offset + length bytes < 2 ^ 64 → opened_at tree handle ≡ Some (opened.File (held_as s)) → AreServed config answers tree steps
-      → Choose RefusesNone steps → AreWrites facts answers handle s.offset bytes (asked_in steps)
-      → rest_next (in_slot 0) (file_at grant s) bytes (site_with (file_at grant s)) facts (asked_in steps) answers ≡ Done o left
+  Writing steps = (most : ℕ) (bytes : List ℕ) (tree : FileTree) (s : OpenFilePlace) (left : Site) (o : Outcome)
+      → length bytes ≤ most → s.writable ≡ true
+      → s.offset + length bytes < 2 ^ 64 → opened_at tree handle ≡ Some (opened.File (held_as s))
+      → AreServed config answers tree steps
+      → ChooseOnly RefusesNone steps → AreWrites facts answers handle s.offset bytes (asked_in steps)
+      → rest_next (in_slot 0) (file_at grant s) bytes (site_with (file_at grant s)) facts (asked_in steps) answers
+      ≡ Done o left
       → WritesDone (asked_in steps) s most bytes tree (after config tree steps) left o
 
   -- nothing more is asked
@@ -156,8 +167,10 @@ module _ (config : ServerConfig) (answers : Answers) (facts : Facts) (handle : L
             | inl t ↦ t.1
             | inr t ↦ absurd (let both : false ≡ true = sym t.0 ∙ e in cc)
           ]) in
-          let none : pieces most facts.write_len bytes ≡ [] = ap (pieces most facts.write_len) nil ∙ no_pieces most facts.write_len in
-          let is : put_pieces (bare tree) s.file s.offset (pieces most facts.write_len bytes) ≡ (let g : Given = (answer.Put, bare tree) in g) =
+          let none : pieces most facts.write_len bytes ≡ [] = ap (pieces most facts.write_len) nil
+          ∙ no_pieces most facts.write_len in
+          let is : put_pieces (bare tree) s.file s.offset (pieces most facts.write_len bytes)
+          ≡ (let g : Given = (answer.Put, bare tree) in g) =
           ap (put_pieces (bare tree) s.file s.offset) none in
           record {
             to = s.offset;
@@ -170,7 +183,8 @@ module _ (config : ServerConfig) (answers : Answers) (facts : Facts) (handle : L
             replied = λ g has none. let both : false ≡ true = has in cc;
           }
       by_test false e done =
-          let len_is : length (next_part facts bytes) ≡ part_len facts bytes = length-take-le (part_len facts bytes) bytes (part_short bytes) in
+          let len_is : length (next_part facts bytes) ≡ part_len facts bytes =
+          length-take-le (part_len facts bytes) bytes (part_short bytes) in
           let short = part_short bytes in
           let fits : overflows s.offset (length (next_part facts bytes)) ≡ false =
           not_over (2 ^ 64) (s.offset + length (next_part facts bytes)) (omega (arith, far, len_is, short)) in
@@ -190,27 +204,34 @@ module _ (config : ServerConfig) (answers : Answers) (facts : Facts) (handle : L
       part : List ℕ
       part = next_part facts bytes
 
-      ans : answer_to config tree st ≡ writes tree s.file s.offset (next_part facts bytes)
+      ans : answer_to config tree st ≡ answer_to_write tree s.file s.offset (next_part facts bytes)
       ans = part_written tree st s bytes way open_is asked.0 chosen.0
 
       go : Move
-      go = rest_next (in_slot 0) (file_at grant (record s { offset = s.offset + part_len facts bytes })) (drop (part_len facts bytes) bytes)
-          (site_with (file_at grant (record s { offset = s.offset + part_len facts bytes }))) facts (asked_in steps) answers
+      go = rest_next (in_slot 0) (file_at grant (record s { offset = s.offset + part_len facts bytes }))
+          (drop (part_len facts bytes) bytes)
+          (site_with (file_at grant (record s { offset = s.offset + part_len facts bytes }))) facts (asked_in steps)
+          answers
 
       taken : (answers st.place ≡ Some (answer_to config tree st).0)
           × (on_status (answer_to config tree st).0 (site_with (file_at grant s))
-          (rest_next (in_slot 0) (file_at grant (record s { offset = s.offset + part_len facts bytes })) (drop (part_len facts bytes) bytes)
-          (site_with (file_at grant (record s { offset = s.offset + part_len facts bytes }))) facts (asked_in steps) answers) ≡ Done o left)
+          (rest_next (in_slot 0) (file_at grant (record s { offset = s.offset + part_len facts bytes }))
+          (drop (part_len facts bytes) bytes)
+          (site_with (file_at grant (record s { offset = s.offset + part_len facts bytes }))) facts (asked_in steps)
+          answers) ≡ Done o left)
       taken = taken_is st.place (answers st.place) (answer_to config tree st).0
           (λ x. on_status x (site_with (file_at grant s))
-          (rest_next (in_slot 0) (file_at grant (record s { offset = s.offset + part_len facts bytes })) (drop (part_len facts bytes) bytes)
-          (site_with (file_at grant (record s { offset = s.offset + part_len facts bytes }))) facts (asked_in steps) answers)) o left served.1 done
+          (rest_next (in_slot 0) (file_at grant (record s { offset = s.offset + part_len facts bytes }))
+          (drop (part_len facts bytes) bytes)
+          (site_with (file_at grant (record s { offset = s.offset + part_len facts bytes }))) facts (asked_in steps)
+          answers)) o left served.1 done
 
       ungranted_here : (code : ℕ) → answers st.place ≡ Some (reply.Status code [] [])
           → ((g : ℕ) → has_place (asked_in steps) g ≡ true → is_granted (answers g) ≡ true → ⊥)
           → (g : ℕ) → has_place (asked_in (st ∷ steps)) g ≡ true → is_granted (answers g) ≡ true → ⊥
       ungranted_here code came others g has granted = elim (eqb_tells st.place g) [
-        | inl t ↦ (let both : false ≡ true = sym (ap is_granted came) ∙ subst (λ (j : ℕ). is_granted (answers j) ≡ true) (sym t.1) granted in cc)
+        | inl t ↦ (let both : false ≡ true = sym (ap is_granted came)
+            ∙ subst (λ (j : ℕ). is_granted (answers j) ≡ true) (sym t.1) granted in cc)
         | inr t ↦ others g (rw t.0 at has) granted
       ]
 
@@ -222,14 +243,18 @@ module _ (config : ServerConfig) (answers : Answers) (facts : Facts) (handle : L
         | inr t ↦ others g (rw t.0 at has) none
       ]
 
-      by_test : (m : ℕ) → length bytes ≤ suc m → (b : Bool) → is_over tree s.file (max (size_of tree s.file) (s.offset + length (next_part facts bytes))) ≡ b
-          → WritesDone (asked_in (st ∷ steps)) s (suc m) bytes tree (after config (answer_to config tree st).1 steps) left o
+      by_test : (m : ℕ) → length bytes ≤ suc m → (b : Bool) → is_over tree s.file
+          (max (size_of tree s.file) (s.offset + length (next_part facts bytes))) ≡ b
+          → WritesDone (asked_in (st ∷ steps)) s (suc m) bytes tree (after config (answer_to config tree st).1 steps)
+          left o
       by_test m le true e =
-          let is : answer_to config tree st ≡ refuses tree SSH_FX_FAILURE = ans ∙ rw e refl in
-          let came : answers st.place ≡ Some (reply.Status SSH_FX_FAILURE [] []) = taken.0 ∙ ap (λ (a : Answer). Some a.0) is in
+          let is : answer_to config tree st ≡ refusal_answer tree SSH_FX_FAILURE = ans ∙ rw e refl in
+          let came : answers st.place ≡ Some (reply.Status SSH_FX_FAILURE [] []) = taken.0
+          ∙ ap (λ (a : Answer). Some a.0) is in
           let last : steps ≡ [] = no_steps steps (status_of_part (asked_in steps) SSH_FX_FAILURE
           (subst (λ (x : Option Reply). AfterOk (asked_in steps) x) came asked.2) (λ same. omega (arith, same))) in
-          let went : Done (outcome.Refused (error.SftpError SSH_FX_FAILURE [] [])) (site_with (file_at grant s)) ≡ Done o left =
+          let went : Done (outcome.Refused (error.SftpError SSH_FX_FAILURE [] [])) (site_with (file_at grant s))
+          ≡ Done o left =
           subst (λ (a : Answer). on_status a.0 (site_with (file_at grant s)) go ≡ Done o left) is taken.1 in
           let now_is : after config (answer_to config tree st).1 steps ≡ tree =
           ap (after config (answer_to config tree st).1) last ∙ ap (λ (a : Answer). a.1) is in
@@ -251,17 +276,22 @@ module _ (config : ServerConfig) (answers : Answers) (facts : Facts) (handle : L
       by_test m le false e =
           let next : FileTree = written_by tree s bytes in
           let is : answer_to config tree st ≡ done_with next = ans ∙ rw e refl in
-          let came : answers st.place ≡ Some (reply.Status SSH_FX_OK [] []) = taken.0 ∙ ap (λ (a : Answer). Some a.0) is in
-          let went : go ≡ Done o left = subst (λ (a : Answer). on_status a.0 (site_with (file_at grant s)) go ≡ Done o left) is taken.1 in
-          let s' : Standing = record s { offset = s.offset + part_len facts bytes } in
+          let came : answers st.place ≡ Some (reply.Status SSH_FX_OK [] []) = taken.0 ∙ ap (λ (a : Answer). Some a.0) is
+          in
+          let went : go ≡ Done o left = subst (λ (a : Answer). on_status a.0 (site_with (file_at grant s)) go
+          ≡ Done o left) is taken.1 in
+          let s' : OpenFilePlace = record s { offset = s.offset + part_len facts bytes } in
           let count = length-drop (part_len facts bytes) bytes in
           let short = part_short bytes in
           let any : 1 ≤ part_len facts bytes = some_part (length bytes) asked.1 in
-          let later : WritesDone (asked_in steps) s' m (drop (part_len facts bytes) bytes) next (after config next steps) left o =
-          more m (drop (part_len facts bytes) bytes) next s' left o (omega (arith, le, count, any)) way (omega (arith, far, count, short)) open_is
+          let later : WritesDone (asked_in steps) s' m (drop (part_len facts bytes) bytes) next
+          (after config next steps) left o =
+          more m (drop (part_len facts bytes) bytes) next s' left o (omega (arith, le, count, any)) way
+          (omega (arith, far, count, short)) open_is
           (subst (λ (a : Answer). AreServed config answers a.1 steps) is served.2) chosen.1 asked.3 went in
           let all = next_pieces m bytes tree s asked.1 e in
-          let now_is : after config (answer_to config tree st).1 steps ≡ after config next steps = ap (λ (a : Answer). after config a.1 steps) is in
+          let now_is : after config (answer_to config tree st).1 steps ≡ after config next steps =
+          ap (λ (a : Answer). after config a.1 steps) is in
           record {
             to = later.to;
             left_is = later.left_is;
@@ -282,12 +312,14 @@ module _ (config : ServerConfig) (answers : Answers) (facts : Facts) (handle : L
             | inr t ↦ (let ne = t.1 in omega (arith, ne, some))
           ]
 
-      by_most : (most : ℕ) → length bytes ≤ most → WritesDone (asked_in (st ∷ steps)) s most bytes tree (after config (answer_to config tree st).1 steps) left o
+      by_most : (most : ℕ) → length bytes ≤ most → WritesDone (asked_in (st ∷ steps)) s most bytes tree
+          (after config (answer_to config tree st).1 steps) left o
       by_most zero le = absurd (elim (eqb_tells (length bytes) 0) [
         | inl t ↦ (let both : true ≡ false = sym t.0 ∙ asked.1 in cc)
         | inr t ↦ (let ne = t.1 in omega (arith, ne, le))
       ])
-      by_most (suc m) le = by_test m le (is_over tree s.file (max (size_of tree s.file) (s.offset + length (next_part facts bytes)))) refl
+      by_most (suc m) le = by_test m le (is_over tree s.file (max (size_of tree s.file)
+          (s.offset + length (next_part facts bytes)))) refl
 
   pub writes_done : (steps : List Step) → Writing steps
   writes_done [] = none_left

@@ -1,2 +1,2 @@
-//! Laws of views: what operations answer and leave is what the files alone say.
+//! Laws of views: the answers to operations and the files that they leave are those that the files alone determine.
 #![tactic(auto)]

@@ -24,7 +24,8 @@ few_blocks block a b offset len some low high = by_more (b - a) refl
         let is_all : (suc d + 1) * (block + 3) ≡ suc d * block + block + 3 * suc d + 3 = omega arith in
         omega (arith, spread, low', wide, is_all, high)
 
-pub blocks_counted : (block offset len : ℕ) → 1 ≤ block → 2 * (block_count block offset len * block_calls block) ≤ 12 * (len + 2 * block + 2)
+pub blocks_counted : (block offset len : ℕ) → 1 ≤ block → 2 * (block_count block offset len * block_calls block) ≤ 12 *
+    (len + 2 * block + 2)
 blocks_counted block offset len some =
     few_blocks block (offset / block) ((offset + len - 1) / block) offset len some
     (let le = div-mul-le_self (offset + len - 1) block in omega (arith, le)) (lt-div-mul-add some)
@@ -50,7 +51,8 @@ first_before_last block offset len some long =
     (le-div_iff_mul-le some).1 less
 
 -- they are few
-pub blocks_few : (block offset len : ℕ) → 1 ≤ block → block ≤ 65536 → len ≤ 1048576 → block_count block offset len ≤ 2097152
+pub blocks_few : (block offset len : ℕ) → 1 ≤ block → block ≤ 65536 → len ≤ 1048576
+    → block_count block offset len ≤ 2097152
 blocks_few block offset len some short most =
     let all = blocks_counted block offset len some in
     let wide : block_count block offset len * 4 ≤ block_count block offset len * block_calls block =

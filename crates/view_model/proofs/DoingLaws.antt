@@ -18,7 +18,8 @@ module _ {T : Type 0} where
   pub comes_on : (f g h : Doing T) (cs ds : List Call) (os ps : List Outcome) → ComesTo f g cs os → ComesTo g h ds ps
       → ComesTo f h (cs ++ ds) (os ++ ps)
   comes_on f g h cs ds os ps first second = record {
-    by = λ later. ap f (append_assoc os ps later) ∙ (first.by (ps ++ later) ∙ (ap (after_calls cs) (second.by later) ∙ after_both cs ds (h later)));
+    by = λ later. ap f (append_assoc os ps later) ∙ (first.by (ps ++ later)
+        ∙ (ap (after_calls cs) (second.by later) ∙ after_both cs ds (h later)));
   }
 
   -- what is left to do in other words
@@ -26,7 +27,8 @@ module _ {T : Type 0} where
   comes_by f g h cs os same comes = subst (λ (w : Doing T). ComesTo f w cs os) same comes
 
 -- one thing is done, and what follows from it is left
-pub comes_bind : {A B : Type 0} (m : Doing A) (v : A) (k : A → Doing B) (cs : List Call) (os : List Outcome) → ComesTo m (pure v) cs os
+pub comes_bind : {A B : Type 0} (m : Doing A) (v : A) (k : A → Doing B) (cs : List Call) (os : List Outcome)
+    → ComesTo m (pure v) cs os
     → ComesTo (m >>= k) (k v) cs os
 comes_bind m v k cs os comes = record {
   by = λ later. (λ i. after_calls (comes.by later i).calls (k (comes.by later i).value (comes.by later i).later))

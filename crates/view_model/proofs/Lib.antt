@@ -1,7 +1,9 @@
 pub mod DoingLaws
 pub mod BoundLaws
 pub mod CountLaws
-pub mod AddedLaws
+mod AddedLaws
 pub mod EndedLaws
-pub mod CacheLaws
+mod CacheLaws
 pub mod LengthLaws
+mod ChoiceLaws
+mod ListLaws

@@ -5,35 +5,35 @@ use Rattle.machine_model.specs.Components.{Name, same_name}
 use Rattle.view_model.specs.Keys.{same_key}
 use Rattle.view_model.specs.declared.key.BlockKey.{BlockKey}
 
--- ---- the blocks of a get
+-- ---- The blocks of a get
 
--- the first block
+-- The first block.
 abbrev pub first_block : ℕ → ℕ → ℕ
 first_block block offset = offset / block
 
--- how many there are, up to the one that holds the last byte
+-- The number of blocks, up to the one that holds the last byte.
 abbrev pub block_count : ℕ → ℕ → ℕ → ℕ
 block_count block offset len = (offset + len - 1) / block - offset / block + 1
 
--- ---- the blocks that are kept
+-- ---- The blocks that are kept
 
--- by their keys: with their bytes, or with nothing where only the keys count
+-- Blocks by their keys: with their bytes, or with nothing if only the keys count.
 abbrev pub Entries : Type 0 → Type 0
 Entries V = List (BlockKey × V)
 
--- a block that is kept comes to the front
-abbrev pub used : {V : Type 0} → BlockKey → Entries V → Entries V
-used key entries = promoted (same_key key) entries
+-- A block that is kept moves to the front.
+abbrev pub block_promoted : {V : Type 0} → BlockKey → Entries V → Entries V
+block_promoted key entries = promoted (same_key key) entries
 
--- a new one is put to the front, and the last one goes where so many are kept already
+-- A new block is put to the front. The last one is removed if the cache is full.
 abbrev pub kept_with : {V : Type 0} → ℕ → BlockKey → V → Entries V → Entries V
 kept_with capacity key value entries = put_entries same_key (lru_cache entries capacity) key value
 
--- all blocks of a name are dropped
+-- The blocks after all those of a name were dropped.
 abbrev pub kept_but : {V : Type 0} → Name → Entries V → Entries V
 kept_but name entries = filter (λ e. not (same_name name e.0.name)) entries
 
--- what is kept, and how often a block was, and was not
+-- The blocks that are kept, the number of hits, and the number of misses.
 pub record Kept (V : Type 0) : Type 0 where
   pub entries : Entries V
   pub hits : ℕ
@@ -42,19 +42,19 @@ pub record Kept (V : Type 0) : Type 0 where
 abbrev pub nothing_kept : {V : Type 0} → Kept V
 nothing_kept = record { entries = []; hits = 0; misses = 0 }
 
--- a block was kept
-abbrev pub hit : {V : Type 0} → BlockKey → Kept V → Kept V
-hit key k = record { entries = used key k.entries; hits = k.hits + 1; misses = k.misses }
+-- A block was kept.
+abbrev pub count_hit : {V : Type 0} → BlockKey → Kept V → Kept V
+count_hit key k = record { entries = block_promoted key k.entries; hits = k.hits + 1; misses = k.misses }
 
--- a block was not kept, and was refused
-abbrev pub missed : {V : Type 0} → Kept V → Kept V
-missed k = record { entries = k.entries; hits = k.hits; misses = k.misses + 1 }
+-- A block was not kept, and was refused.
+abbrev pub count_miss : {V : Type 0} → Kept V → Kept V
+count_miss k = record { entries = k.entries; hits = k.hits; misses = k.misses + 1 }
 
--- a block was not kept, and is now
+-- A block was not kept, and is now.
 abbrev pub missed_with : {V : Type 0} → ℕ → BlockKey → V → Kept V → Kept V
 missed_with capacity key value k =
     record { entries = kept_with capacity key value k.entries; hits = k.hits; misses = k.misses + 1 }
 
--- a name was written
-abbrev pub dropped : {V : Type 0} → Name → Kept V → Kept V
-dropped name k = record { entries = kept_but name k.entries; hits = k.hits; misses = k.misses }
+-- A name was written.
+abbrev pub without_blocks_of : {V : Type 0} → Name → Kept V → Kept V
+without_blocks_of name k = record { entries = kept_but name k.entries; hits = k.hits; misses = k.misses }

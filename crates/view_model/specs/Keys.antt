@@ -5,7 +5,7 @@ use Rattle.std.specs.Cmp.Lexicographic.{lists_equiv}
 use Rattle.machine_model.specs.Components.{Name, same_name}
 use Rattle.view_model.specs.declared.key.BlockKey.{BlockKey}
 
--- the two keys are the same
+-- The two keys are the same.
 abbrev pub same_key : BlockKey → BlockKey → Bool
 same_key a b = same_name a.name b.name && a.block == b.block
 

@@ -10,3 +10,7 @@ pub mod AnswerText
 pub mod ViewRows
 pub mod OneCall
 pub mod Uncancelled
+pub mod CacheSizes
+pub mod CanView
+pub mod Lists
+pub mod ListRows

@@ -10,15 +10,24 @@ use Rattle.machine_model.specs.FileTree.{FileTree}
 use Rattle.machine_model.specs.FirstTree.{first_tree}
 use Rattle.machine_model.specs.declared.node.Node.TheVariants as node
 use Rattle.view_model.specs.Keys.{key_of}
-use Rattle.view_model.specs.Kept.{kept}
+use Rattle.view_model.specs.Kept.{kept_keys}
 use Rattle.view_model.specs.Plain.{pieces, plain, plain_op}
-use Rattle.view_model.specs.Viewed.{closing, makes_and_writes, opening, reading, reads_only, seeking, viewed, writing}
+use Rattle.view_model.specs.Viewed.{
+  close_file_call,
+  makes_and_writes,
+  open_call,
+  read_call,
+  reads_only,
+  seek_call,
+  view_all,
+  write_file_call,
+}
 use Rattle.view_model.specs.ViewOps.{are_ok}
 use Rattle.view_model.specs.declared.answer.Answer.TheVariants as answer
 use Rattle.view_model.specs.declared.op.ViewOp.{ViewOp}
 use Rattle.view_model.specs.declared.op.ViewOp.TheVariants as op
 
--- ---- blocks of two bytes, of which one is kept
+-- ---- Blocks of two bytes, of which one is kept
 
 abbrev pub three_gets : List ViewOp
 three_gets = op.Get (codes "a") 0 3 ∷ op.Get (codes "a") 2 1 ∷ op.Get (codes "a") 0 1 ∷ []
@@ -34,8 +43,8 @@ pub three_plain : plain 9 three_gets abc
 unfolding components request_body string uint32 attributes
 three_plain = refl
 
--- the second get finds its block, the third one doesn't
-pub three_kept : kept 2 1 9 three_gets abc
+-- The second get finds its block; the third one doesn't.
+pub three_kept : kept_keys 2 1 9 three_gets abc
     ≡ record { entries = (key_of (codes "a" ∷ []) 0, tt) ∷ []; hits = 1; misses = 3 }
 unfolding components request_body string uint32 attributes
 three_kept = refl
@@ -47,11 +56,11 @@ three_outcomes =
     ∷ outcome.Opened ∷ outcome.Count 0 ∷ outcome.Bytes (codes "ab") ∷ outcome.Done
     ∷ []
 
-pub three_viewed : viewed 2 1 three_gets three_outcomes
+pub three_viewed : view_all 2 1 three_gets three_outcomes
     ≡ record {
-      calls = opening reads_only (codes "a") ∷ seeking 0 ∷ reading 2 ∷ closing
-          ∷ opening reads_only (codes "a") ∷ seeking 2 ∷ reading 2 ∷ reading 1 ∷ closing
-          ∷ opening reads_only (codes "a") ∷ seeking 0 ∷ reading 2 ∷ closing
+      calls = open_call reads_only (codes "a") ∷ seek_call 0 ∷ read_call 2 ∷ close_file_call
+          ∷ open_call reads_only (codes "a") ∷ seek_call 2 ∷ read_call 2 ∷ read_call 1 ∷ close_file_call
+          ∷ open_call reads_only (codes "a") ∷ seek_call 0 ∷ read_call 2 ∷ close_file_call
           ∷ [];
       value = record {
         answers = answer.Got (codes "abc") ∷ answer.Got (codes "c") ∷ answer.Got (codes "a") ∷ [];
@@ -62,11 +71,11 @@ pub three_viewed : viewed 2 1 three_gets three_outcomes
 unfolding components request_body string uint32 attributes
 three_viewed = refl
 
--- a READ that brings fewer bytes than it may is followed by another one
-pub short_reads : viewed 3 9 (op.Get (codes "a") 1 2 ∷ []) (outcome.Opened ∷ outcome.Count 0
+-- A READ that returns fewer bytes than it may is followed by another.
+pub short_reads : view_all 3 9 (op.Get (codes "a") 1 2 ∷ []) (outcome.Opened ∷ outcome.Count 0
     ∷ outcome.Bytes (codes "ab") ∷ outcome.Bytes (codes "c") ∷ outcome.Done ∷ [])
     ≡ record {
-      calls = opening reads_only (codes "a") ∷ seeking 0 ∷ reading 3 ∷ reading 1 ∷ closing ∷ [];
+      calls = open_call reads_only (codes "a") ∷ seek_call 0 ∷ read_call 3 ∷ read_call 1 ∷ close_file_call ∷ [];
       value = record {
         answers = answer.Got (codes "bc") ∷ [];
         kept = record { entries = (key_of (codes "a" ∷ []) 0, codes "abc") ∷ []; hits = 0; misses = 1 };
@@ -76,11 +85,11 @@ pub short_reads : viewed 3 9 (op.Get (codes "a") 1 2 ∷ []) (outcome.Opened ∷
 unfolding components request_body string uint32 attributes
 short_reads = refl
 
--- a READ that is refused ends its block and the get; the block isn't kept
-pub refused_read : viewed 3 9 (op.Get (codes "a") 0 9 ∷ []) (outcome.Opened ∷ outcome.Count 0
+-- A READ that is refused ends its block and the get. The block isn't kept.
+pub refused_read : view_all 3 9 (op.Get (codes "a") 0 9 ∷ []) (outcome.Opened ∷ outcome.Count 0
     ∷ outcome.Bytes (codes "ab") ∷ outcome.Refused (error.SftpError 4 [] []) ∷ outcome.Done ∷ [])
     ≡ record {
-      calls = opening reads_only (codes "a") ∷ seeking 0 ∷ reading 3 ∷ reading 1 ∷ closing ∷ [];
+      calls = open_call reads_only (codes "a") ∷ seek_call 0 ∷ read_call 3 ∷ read_call 1 ∷ close_file_call ∷ [];
       value = record {
         answers = answer.Refused 4 ∷ [];
         kept = record { entries = []; hits = 0; misses = 1 };
@@ -90,7 +99,7 @@ pub refused_read : viewed 3 9 (op.Get (codes "a") 0 9 ∷ []) (outcome.Opened �
 unfolding components request_body string uint32 attributes
 refused_read = refl
 
--- ---- a put drops the blocks of its name, whichever path was used
+-- ---- A put drops the blocks of its name, by whichever path it was given
 
 abbrev pub put_between : List ViewOp
 put_between =
@@ -107,21 +116,21 @@ pub between_plain : plain 9 put_between ab
 unfolding components request_body string uint32 attributes
 between_plain = refl
 
-pub between_kept : kept 4 8 9 put_between ab
+pub between_kept : kept_keys 4 8 9 put_between ab
     ≡ record { entries = (key_of (codes "a" ∷ []) 0, tt) ∷ []; hits = 0; misses = 3 }
 unfolding components request_body string uint32 attributes
 between_kept = refl
 
-pub between_viewed : viewed 4 8 put_between
+pub between_viewed : view_all 4 8 put_between
     (outcome.Opened ∷ outcome.Count 0 ∷ outcome.Bytes (codes "ab") ∷ outcome.End ∷ outcome.Done
     ∷ outcome.Opened ∷ outcome.Count 1 ∷ outcome.Done ∷ outcome.Done
     ∷ outcome.Opened ∷ outcome.Count 0 ∷ outcome.Bytes (codes "az") ∷ outcome.End ∷ outcome.Done
     ∷ outcome.Refused (error.SftpError 2 [] []) ∷ [])
     ≡ record {
-      calls = opening reads_only (codes "a") ∷ seeking 0 ∷ reading 4 ∷ reading 2 ∷ closing
-          ∷ opening makes_and_writes (codes "/a") ∷ seeking 1 ∷ writing (codes "z") ∷ closing
-          ∷ opening reads_only (codes "a") ∷ seeking 0 ∷ reading 4 ∷ reading 2 ∷ closing
-          ∷ opening reads_only (codes "b")
+      calls = open_call reads_only (codes "a") ∷ seek_call 0 ∷ read_call 4 ∷ read_call 2 ∷ close_file_call
+          ∷ open_call makes_and_writes (codes "/a") ∷ seek_call 1 ∷ write_file_call (codes "z") ∷ close_file_call
+          ∷ open_call reads_only (codes "a") ∷ seek_call 0 ∷ read_call 4 ∷ read_call 2 ∷ close_file_call
+          ∷ open_call reads_only (codes "b")
           ∷ [];
       value = record {
         answers = answer.Got (codes "ab") ∷ answer.Put ∷ answer.Got (codes "az") ∷ answer.Refused 2 ∷ [];
@@ -132,9 +141,9 @@ pub between_viewed : viewed 4 8 put_between
 unfolding components request_body string uint32 attributes
 between_viewed = refl
 
--- ---- what is not asked for
+-- ---- Operations without requests
 
-pub nothing_asked : viewed 4 8 (op.Get (codes "b") 7 0 ∷ []) []
+pub nothing_asked : view_all 4 8 (op.Get (codes "b") 7 0 ∷ []) []
     ≡ record {
       calls = [];
       value = record { answers = answer.Got [] ∷ []; kept = record { entries = []; hits = 0; misses = 0 } };
@@ -142,15 +151,15 @@ pub nothing_asked : viewed 4 8 (op.Get (codes "b") 7 0 ∷ []) []
     }
 nothing_asked = refl
 
--- behind the end of a file an empty block is kept
-pub behind_end : kept 2 8 9 (op.Get (codes "a") 6 4 ∷ op.Get (codes "a") 7 1 ∷ []) abc
+-- After the end of a file, an empty block is kept.
+pub behind_end : kept_keys 2 8 9 (op.Get (codes "a") 6 4 ∷ op.Get (codes "a") 7 1 ∷ []) abc
     ≡ record { entries = (key_of (codes "a" ∷ []) 3, tt) ∷ []; hits = 1; misses = 1 }
 unfolding components request_body string uint32 attributes
 behind_end = refl
 
--- ---- writes
+-- ---- Writes
 
--- the content goes in pieces, and a gap is filled with zeros
+-- The content is written in pieces, and a gap is filled with zeros.
 pub cut_in_pieces : pieces 5 2 (codes "abcde") ≡ codes "ab" ∷ codes "cd" ∷ codes "e" ∷ []
 cut_in_pieces = refl
 

@@ -1,6 +1,9 @@
+//! The answers to operations.
 use sftp_values::ByteText;
 
-/// What an operation is answered.
+/// The answer to an operation.
+///
+/// Used in `crates/view_model/src/text.rt`.
 #[derive(Debug, Drop, PartialEq, Eq)]
 pub enum Answer {
     /// The bytes of the file.

@@ -1,7 +1,7 @@
-//! The blocks that are kept.
+//! The cache of blocks.
 ghost use Rattle.std.specs.Prelude.{◌≡◌, ◌≤◌, ◌<◌, ◌-◌, ◌^◌, IfOk, OnOk};
-ghost use Rattle.view_model.specs.Blocks.{dropped, nothing_kept};
-ghost use Rattle.view_model.specs.Caches.{Finds, blocks_of, cached};
+ghost use Rattle.view_model.specs.Blocks.{without_blocks_of, nothing_kept};
+ghost use Rattle.view_model.specs.Caches.{FindsBlock, blocks_of, cache_of};
 ghost use Rattle.view_model.specs.Viewed.{missed_by};
 
 use crate::key::BlockKey;
@@ -13,8 +13,10 @@ use std::alloc::Global;
 use std::marker::Model;
 use std::num::NonZeroUsize;
 
-/// The blocks that were used last, with their bytes, and how often one that was wanted was kept and was not. A contract
-/// sees the capacity and what the definitions say is kept.
+/// The blocks that were used last, with their bytes, the number of hits and the number of misses. A contract sees the
+/// capacity and the blocks that the definitions keep.
+///
+/// Example: `crates/view_model/src/tests.rt`.
 #[derive(Drop)]
 pub struct BlockCache {
     blocks: LruCache<BlockKey, ByteText>,
@@ -23,18 +25,22 @@ pub struct BlockCache {
 }
 
 impl Model for BlockCache {
-    ghost use Rattle.view_model.specs.Caches.{CacheValue, cached};
+    ghost use Rattle.view_model.specs.Caches.{CacheValue, cache_of};
 
     ghost Value = { CacheValue };
 
-    ghost view = { λ c. cached c.blocks.cap (record { entries = c.blocks.entries; hits = c.hits; misses = c.misses }) };
+    ghost view = { λ c. cache_of c.blocks.cap (record { entries = c.blocks.entries; hits = c.hits; misses = c.misses }) };
 }
 
 impl BlockCache {
-    /// A cache of at most so many blocks, none of which is kept yet. Refused only for want of memory.
+    /// Returns an empty cache of at most `capacity` blocks.
+    ///
+    /// # Errors
+    ///
+    /// `OutOfMemory` if an allocation fails.
     pub fn new(alloc: Global, capacity: u32) -> Result<BlockCache, OutOfMemory>
         requires { 1 ≤ capacity }
-        ensures { IfOk result (λ cache. cache ≡ cached capacity nothing_kept) }
+        ensures { IfOk result (λ cache. cache ≡ cache_of capacity nothing_kept) }
     {
         let Some(capacity) = NonZeroUsize::new(capacity as usize) else {
             unreachable!()
@@ -47,25 +53,29 @@ impl BlockCache {
         })
     }
 
-    /// How often a block that was wanted was kept.
+    /// Returns the number of lookups that found their block in the cache.
     pub fn hits(&self) -> u64
         ensures { result ≡ self.now.kept.hits }
     {
         self.hits
     }
 
-    /// How often a block that was wanted was not kept.
+    /// Returns the number of lookups that did not find their block in the cache.
     pub fn misses(&self) -> u64
         ensures { result ≡ self.now.kept.misses }
     {
         self.misses
     }
 
-    /// The bytes of a block that is kept, which comes to the front and counts a hit; None where it isn't kept, and then
-    /// nothing changes. Refused only for want of memory.
+    /// Returns the bytes of a block that is kept; the block moves to the front, and a hit is counted. Returns `None` if
+    /// it isn't kept, and then nothing changes.
+    ///
+    /// # Errors
+    ///
+    /// `OutOfMemory` if an allocation fails.
     pub fn find(&mut self, alloc: Global, key: &BlockKey) -> Result<Option<ByteText>, OutOfMemory>
         requires { self.old.kept.hits < 2 ^ 64 - 1 }
-        ensures { IfOk result (λ found. Finds key.now found self.old self.new) }
+        ensures { IfOk result (λ found. FindsBlock key.now found self.old self.new) }
     {
         match self.blocks.get(key) {
             Some(bytes) => {
@@ -77,8 +87,12 @@ impl BlockCache {
         }
     }
 
-    /// Counts a miss, and puts a block that was read to the front; the last one goes where the cache is full. One that
-    /// was refused isn't kept. Refused only for want of memory.
+    /// Counts a miss, and puts a block that was read to the front. The last one is removed if the cache is full. A
+    /// block that was refused isn't kept.
+    ///
+    /// # Errors
+    ///
+    /// `OutOfMemory` if an allocation fails.
     pub fn keep(
         &mut self,
         alloc: Global,
@@ -86,7 +100,7 @@ impl BlockCache {
         found: &Result<ByteText, u32>,
     ) -> Result<(), OutOfMemory>
         requires { self.old.kept.misses < 2 ^ 64 - 1 }
-        ensures { OnOk result (self.new ≡ cached self.old.capacity (missed_by self.old.capacity key.now self.old.kept found.now).kept) }
+        ensures { OnOk result (self.new ≡ cache_of self.old.capacity (missed_by self.old.capacity key.now self.old.kept found.now).kept) }
     {
         let Ok(bytes) = found else {
             self.misses += 1;
@@ -100,9 +114,13 @@ impl BlockCache {
         Ok(())
     }
 
-    /// Drops all blocks of a name. Refused only for want of memory.
+    /// Drops all blocks of a name.
+    ///
+    /// # Errors
+    ///
+    /// `OutOfMemory` if an allocation fails.
     pub fn forget(&mut self, alloc: Global, name: &Items<ByteText>) -> Result<(), OutOfMemory>
-        ensures { OnOk result (self.new ≡ cached self.old.capacity (dropped name.now self.old.kept)) }
+        ensures { OnOk result (self.new ≡ cache_of self.old.capacity (without_blocks_of name.now self.old.kept)) }
     {
         let numbers = blocks_of(alloc, &self.blocks, name)?;
         let mut key = BlockKey {
@@ -117,7 +135,7 @@ impl BlockCache {
     }
 }
 
-/// The numbers of the blocks of a name that are kept, in their order.
+/// Returns the numbers of the blocks of a name that are kept, in their order.
 fn blocks_of(
     alloc: Global,
     blocks: &LruCache<BlockKey, ByteText>,

@@ -1,6 +1,6 @@
 //! The calls of operations.
 ghost use Rattle.std.specs.Prelude.{◌≡◌, IfOk};
-ghost use Rattle.view_model.specs.Viewed.{closing, makes_and_writes, opening, reading, reads_only, seeking, writing};
+ghost use Rattle.view_model.specs.Viewed.{close_file_call, makes_and_writes, open_call, read_call, reads_only, seek_call, write_file_call};
 
 use plan_model::Call;
 use sftp_model::{OpenOptions, TryCopy};
@@ -12,9 +12,13 @@ use std::io::SeekFrom;
 /// The slot of all calls.
 const SLOT: u8 = 0;
 
-/// Opens a file that is to be read. Refused only for want of memory.
+/// Returns the call that opens a file for reading.
+///
+/// # Errors
+///
+/// `OutOfMemory` if an allocation fails.
 pub fn open_to_read(alloc: Global, path: &ByteText) -> Result<Call, OutOfMemory>
-    ensures { IfOk result (λ call. call ≡ opening reads_only path.now) }
+    ensures { IfOk result (λ call. call ≡ open_call reads_only path.now) }
 {
     let mut flags = OpenOptions::new();
     flags.read(true);
@@ -25,9 +29,13 @@ pub fn open_to_read(alloc: Global, path: &ByteText) -> Result<Call, OutOfMemory>
     })
 }
 
-/// Opens a file that is to be written, and makes it where it isn't there. Refused only for want of memory.
+/// Returns the call that opens a file for writing, and creates it if it doesn't exist.
+///
+/// # Errors
+///
+/// `OutOfMemory` if an allocation fails.
 pub fn open_to_write(alloc: Global, path: &ByteText) -> Result<Call, OutOfMemory>
-    ensures { IfOk result (λ call. call ≡ opening makes_and_writes path.now) }
+    ensures { IfOk result (λ call. call ≡ open_call makes_and_writes path.now) }
 {
     let mut flags = OpenOptions::new();
     flags.write(true);
@@ -39,9 +47,9 @@ pub fn open_to_write(alloc: Global, path: &ByteText) -> Result<Call, OutOfMemory
     })
 }
 
-/// Goes to an offset.
+/// Returns the call that seeks to an offset.
 pub fn seek_to(offset: u64) -> Call
-    ensures { result ≡ seeking offset }
+    ensures { result ≡ seek_call offset }
 {
     Call::Seek {
         slot: SLOT,
@@ -49,16 +57,20 @@ pub fn seek_to(offset: u64) -> Call
     }
 }
 
-/// Reads at most so many bytes.
+/// Returns the call that reads at most `n` bytes.
 pub fn read_up_to(n: u32) -> Call
-    ensures { result ≡ reading n }
+    ensures { result ≡ read_call n }
 {
     Call::Read { slot: SLOT, n }
 }
 
-/// Writes bytes. Refused only for want of memory.
+/// Returns the call that writes bytes.
+///
+/// # Errors
+///
+/// `OutOfMemory` if an allocation fails.
 pub fn write_all(alloc: Global, bytes: &ByteText) -> Result<Call, OutOfMemory>
-    ensures { IfOk result (λ call. call ≡ writing bytes.now) }
+    ensures { IfOk result (λ call. call ≡ write_file_call bytes.now) }
 {
     Ok(Call::WriteAll {
         slot: SLOT,
@@ -66,9 +78,9 @@ pub fn write_all(alloc: Global, bytes: &ByteText) -> Result<Call, OutOfMemory>
     })
 }
 
-/// Closes the file.
+/// Returns the call that closes the file.
 pub fn close() -> Call
-    ensures { result ≡ closing }
+    ensures { result ≡ close_file_call }
 {
     Call::Close { slot: SLOT }
 }

@@ -1,4 +1,4 @@
-//! What calls bring.
+//! The results of calls.
 ghost use Rattle.std.specs.Prelude.{◌≡◌, IfOk};
 ghost use Rattle.view_model.specs.Viewed.{code_of, found_in};
 
@@ -8,7 +8,7 @@ use sftp_values::ByteText;
 use ssh_encoding::OutOfMemory;
 use std::alloc::Global;
 
-/// The status of a refusal.
+/// Returns the status of a refusal.
 fn code_of(error: &Error) -> u32
     ensures { result ≡ code_of error.now }
 {
@@ -18,7 +18,11 @@ fn code_of(error: &Error) -> u32
     }
 }
 
-/// What a call brought that ended so: bytes, or nothing, or the status of its refusal. Refused only for want of memory.
+/// Returns the result of a call with this outcome: bytes, or nothing, or the status of its refusal.
+///
+/// # Errors
+///
+/// `OutOfMemory` if an allocation fails.
 pub fn found_in(alloc: Global, outcome: &Outcome) -> Result<Result<ByteText, u32>, OutOfMemory>
     ensures { IfOk result (λ found. found ≡ found_in outcome.now) }
 {

@@ -1,15 +1,18 @@
+//! The operations on a view.
 use sftp_values::ByteText;
 
-/// What is asked of a view. Offsets and lengths are in bytes.
+/// An operation on a view. Offsets and lengths are in bytes.
+///
+/// Example: `crates/view_model/src/list_tests.rt`.
 #[derive(Debug, Drop, PartialEq, Eq)]
 pub enum ViewOp {
-    /// At most `len` bytes of the file at a path, from an offset on.
+    /// Reads at most `len` bytes of the file at a path, from an offset on.
     Get {
         name: ByteText,
         offset: u64,
         len: u32,
     },
-    /// Bytes are to be written to the file at a path, from an offset on; one that isn't there is made.
+    /// Writes bytes to the file at a path, from an offset on; a missing file is created.
     Put {
         name: ByteText,
         offset: u64,

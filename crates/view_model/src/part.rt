@@ -5,7 +5,11 @@ use sftp_values::ByteText;
 use ssh_encoding::OutOfMemory;
 use std::alloc::Global;
 
-/// At most `len` of the bytes after the first `skipped`. Refused only for want of memory.
+/// Returns at most `len` of the bytes after the first `skipped`.
+///
+/// # Errors
+///
+/// `OutOfMemory` if an allocation fails.
 pub fn cut(alloc: Global, bytes: &[u8], skipped: u64, len: u32) -> Result<ByteText, OutOfMemory>
     ensures { IfOk result (λ part. part ≡ take len (drop skipped bytes.now)) }
 {

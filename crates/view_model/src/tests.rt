@@ -1,11 +1,11 @@
-//! A cache of one block.
+//! A test of a cache of one block.
 use crate::{BlockCache, BlockKey};
 use sftp_values::{ByteText, Items};
 use ssh_encoding::OutOfMemory;
 use std::alloc::Global;
 use std::test::Fail;
 
-/// The first block of the name `a`.
+/// Returns the key of the first block of the name `a`.
 fn first_key(alloc: Global) -> Result<BlockKey, OutOfMemory> {
     let mut name = Vec::new(alloc);
     name.push(ByteText::new(Vec::from_slice(alloc, b"a")?))?;
@@ -15,7 +15,7 @@ fn first_key(alloc: Global) -> Result<BlockKey, OutOfMemory> {
     })
 }
 
-/// Whether these bytes were found.
+/// Returns true if these bytes were found.
 fn is_found(found: &Option<ByteText>, bytes: &[u8]) -> bool {
     match found {
         Some(text) => text.as_slice() == bytes,
@@ -23,7 +23,7 @@ fn is_found(found: &Option<ByteText>, bytes: &[u8]) -> bool {
     }
 }
 
-/// A block that is kept is found, until its name is dropped.
+/// Checks that a block that is kept is found until its name is dropped.
 #[test]
 fn one_block(rt: HostRuntime) -> Result<(), Fail> {
     let alloc = rt.alloc();

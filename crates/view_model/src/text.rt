@@ -1,19 +1,19 @@
-//! The lines of what operations were answered.
+//! The lines of the answers to operations.
 ghost use Rattle.std.specs.Prelude.{◌≡◌, ◌++◌, codes, OnErr, OnOk};
-ghost use Rattle.sftp_text.specs.Texts.{line, number_text};
-ghost use Rattle.sftp_wire.specs.Body.{Grows};
+ghost use Rattle.script_text.specs.Texts.{line, number_text};
+ghost use Rattle.sftp_wire.specs.Body.{AppendsBytes};
 ghost use Rattle.view_model.specs.AnswerText.{answer_lines, answer_text, view_lines};
 
 use crate::answer::Answer;
-use sftp_text::{put_bytes, put_number, put_word};
+use script_text::{put_bytes, put_number, put_word};
 use ssh_encoding::OutOfMemory;
 use std::alloc::Global;
 
-/// The words of an answer.
+/// Appends the words of an answer.
 #[tactic(auto, using(sftp_wire::proofs::Puts::puts))]
 fn put_answer(alloc: Global, answer: &Answer, out: &mut Vec<u8>) -> Result<(), OutOfMemory>
     ensures ok { OnOk result (out.new.items ≡ out.old.items ++ answer_text answer.now) }
-    ensures grows { Grows out.old.items out.new.items }
+    ensures grows { AppendsBytes out.old.items out.new.items }
 {
     match answer {
         Answer::Got(bytes) => {
@@ -29,21 +29,21 @@ fn put_answer(alloc: Global, answer: &Answer, out: &mut Vec<u8>) -> Result<(), O
     }
 }
 
-/// The line of an answer.
+/// Appends the line of an answer.
 #[tactic(auto, using(sftp_wire::proofs::Puts::puts))]
 fn put_answer_line(alloc: Global, answer: &Answer, out: &mut Vec<u8>) -> Result<(), OutOfMemory>
     ensures ok { OnOk result (out.new.items ≡ out.old.items ++ line (answer_text answer.now)) }
-    ensures grows { Grows out.old.items out.new.items }
+    ensures grows { AppendsBytes out.old.items out.new.items }
 {
     put_answer(alloc, answer, out)?;
     put_word("\n", out)
 }
 
-/// The lines of answers.
+/// Appends the lines of answers.
 #[tactic(auto, using(sftp_wire::proofs::Puts::puts))]
 fn put_answers(alloc: Global, answers: &[Answer], out: &mut Vec<u8>) -> Result<(), OutOfMemory>
     ensures ok { OnOk result (out.new.items ≡ out.old.items ++ answer_lines answers.now) }
-    ensures grows { Grows out.old.items out.new.items }
+    ensures grows { AppendsBytes out.old.items out.new.items }
 {
     let mut rest = answers;
     loop {
@@ -57,18 +57,18 @@ fn put_answers(alloc: Global, answers: &[Answer], out: &mut Vec<u8>) -> Result<(
     }
 }
 
-/// The line of a count.
+/// Appends the line of a count.
 #[tactic(auto, using(sftp_wire::proofs::Puts::puts))]
 fn put_count(word: &str, n: u64, out: &mut Vec<u8>) -> Result<(), OutOfMemory>
     ensures ok { OnOk result (out.new.items ≡ out.old.items ++ line (word.now ++ number_text n)) }
-    ensures grows { Grows out.old.items out.new.items }
+    ensures grows { AppendsBytes out.old.items out.new.items }
 {
     put_word(word, out)?;
     put_number(n, out)?;
     put_word("\n", out)
 }
 
-/// The lines of answers, and then the counts.
+/// Appends the lines of answers, and then the counts.
 #[tactic(auto, using(sftp_wire::proofs::Puts::puts))]
 fn put_view(
     alloc: Global,
@@ -78,7 +78,7 @@ fn put_view(
     out: &mut Vec<u8>,
 ) -> Result<(), OutOfMemory>
     ensures ok { OnOk result (out.new.items ≡ out.old.items ++ view_lines answers.now hits misses) }
-    ensures grows { Grows out.old.items out.new.items }
+    ensures grows { AppendsBytes out.old.items out.new.items }
 {
     put_answers(alloc, answers, out)?;
     put_count("hits ", hits, out)?;
@@ -86,7 +86,11 @@ fn put_view(
 }
 
 /// Appends a line for each answer: `got` with the bytes, `put`, `refused` with the status, or `toolong`; and then a
-/// line for the hits and one for the misses. Refused only for want of memory; `out` is unchanged then.
+/// line for the hits and one for the misses.
+///
+/// # Errors
+///
+/// `OutOfMemory` if an allocation fails; `out` is unchanged.
 pub fn write_view(
     alloc: Global,
     answers: &[Answer],
@@ -95,7 +99,7 @@ pub fn write_view(
     out: &mut Vec<u8>,
 ) -> Result<(), OutOfMemory>
     ensures ok { OnOk result (out.new.items ≡ out.old.items ++ view_lines answers.now hits misses) }
-    ensures err { OnErr result (out.new.items ≡ out.old.items) }
+    ensures unchanged { OnErr result (out.new.items ≡ out.old.items) }
 {
     let before = out.len();
     match put_view(alloc, answers, hits, misses, out) {

@@ -1,4 +1,4 @@
-// Links that fail at any call, or end behind any byte.
+//! Tests of links that fail at any call, or end after any byte.
 use super::HELLO;
 use super::links::{Item, REPLIES, REPLIES_TEXT, over};
 use std::alloc::{AllocError, Global};
@@ -8,8 +8,8 @@ const FAULT: &str = "error LinkFault\n";
 
 const ENDED: &str = "error LinkEnded\n";
 
-/// How many runs there are before the first whose link doesn't fail, where the link fails at call 0, 1 and so on; None where
-/// one of them isn't `error LinkFault`, or the last isn't whole.
+/// Returns the number of runs before the first whose link doesn't fail, where the link fails at call 0, 1 and so on.
+/// Returns `None` if one of them isn't `error LinkFault`, or the last isn't whole.
 fn failed_runs(alloc: Global, cut: u32) -> Result<Option<u32>, AllocError> {
     for k in 0..200u32 {
         if over(alloc, HELLO, REPLIES, &[k], cut, 0, REPLIES_TEXT)? {
@@ -22,7 +22,7 @@ fn failed_runs(alloc: Global, cut: u32) -> Result<Option<u32>, AllocError> {
     Ok(None)
 }
 
-/// A link that fails at any of its calls is told as a fault: four sends, and two recvs a frame.
+/// Checks that a link that fails at any of its calls is reported as a fault: four sends, and two recvs per frame.
 #[test]
 fn each_call_fails(rt: HostRuntime) -> Result<(), Fail> {
     assert!(rt; failed_runs(rt.alloc(), 0)? == Some(12));
@@ -30,7 +30,7 @@ fn each_call_fails(rt: HostRuntime) -> Result<(), Fail> {
     Ok(())
 }
 
-/// Whether a link is told as ended that ends behind these replies and any number of bytes of a frame but all.
+/// Returns true if a link is reported as ended that ends after these replies and any proper prefix of a frame.
 fn all_end(alloc: Global, replies: &[Item], frame: &'static [u8]) -> Result<bool, AllocError> {
     for n in 0..frame.len() {
         let mut items = Vec::from_slice(alloc, replies)?;
@@ -42,7 +42,8 @@ fn all_end(alloc: Global, replies: &[Item], frame: &'static [u8]) -> Result<bool
     Ok(true)
 }
 
-/// Where each frame ends too early: no id of these is looked at, since none of them comes whole.
+/// Checks links in which each frame ends too early. The ids of these frames are not examined, since none of them comes
+/// whole.
 #[test]
 fn each_end(rt: HostRuntime) -> Result<(), Fail> {
     let version = b"\x00\x00\x00\x05\x02\x00\x00\x00\x03";

@@ -1,4 +1,4 @@
-// Servers that say what they may not, as one table, and handles of the greatest length.
+//! Tests of servers that send forbidden replies, as one table, and of handles of the greatest length.
 use super::links::{HANDLE, Item, LIMITED, OK, Row, VERSION, check_rows};
 use std::test::Fail;
 
@@ -6,7 +6,7 @@ const OPEN: &str = "lane\nopen 0 r 61\n";
 
 const READ: &str = "lane\nopen 0 r 61\nread 0 1\n";
 
-/// STATUS 0 without a text, and a byte more.
+/// STATUS 0 without a text, and another byte.
 const OK_AND_MORE: &[u8] = &[0; 13];
 
 /// STATUS 4 without a text.
@@ -34,7 +34,7 @@ const TOO_LONG: &[u8] = b"\x00\x00\x01\x01a\
     aaaaaaaaaaaaaaaaaaaaaaaaaaaaaaaaaaaaaaaaaaaaaaaaaaaaaaaaaaaaaaaa\
     aaaaaaaaaaaaaaaaaaaaaaaaaaaaaaaaaaaaaaaaaaaaaaaaaaaaaaaaaaaaaaaa";
 
-/// What is printed where the longest handle is closed.
+/// The text that is printed if the longest handle is closed.
 const LONGEST_TEXT: &str = "> open 00000001610000000100000000
 < handle 00000100\
     6161616161616161616161616161616161616161616161616161616161616161\
@@ -61,13 +61,13 @@ lane 0 call 0 opened
 /// ATTRS without fields.
 const ATTRIBUTES: &[u8] = &[0, 0, 0, 0];
 
-/// NAME with the name `x`, without attributes, and one that counts a name more than it has.
+/// NAME with the name `x`, without attributes; and a NAME whose count is one more than its names.
 const ONE_NAME: &[u8] = b"\x00\x00\x00\x01\x00\x00\x00\x01x\x00\x00\x00\x00\x00\x00\x00\x00";
 
 const ONE_NAME_TOO_FEW: &[u8] =
     b"\x00\x00\x00\x02\x00\x00\x00\x01x\x00\x00\x00\x00\x00\x00\x00\x00";
 
-/// What comes behind VERSION, and the error that stops the run.
+/// The bytes that come after VERSION, and the error that stops the run.
 const HOSTILE: &[Row] = &[
     (
         "lane\n",
@@ -245,7 +245,7 @@ fn hostile_servers(rt: HostRuntime) -> Result<(), Fail> {
     check_rows(&rt, rt.alloc(), HOSTILE)
 }
 
-/// What is printed of a directory that has the same name again and again.
+/// The text that is printed for a directory that has the same name again and again.
 const ENDLESS_TEXT: &str = "> opendir 000000012f
 < handle 0000000161
 > readdir 0000000161
@@ -257,7 +257,7 @@ const ENDLESS_TEXT: &str = "> opendir 000000012f
 lane 0 call 0 givenup
 ";
 
-/// What a server may say, odd as it is: a directory without an end is given up.
+/// Checks unusual but permitted replies of a server: a directory without an end is abandoned.
 #[test]
 fn odd_servers(rt: HostRuntime) -> Result<(), Fail> {
     check_rows(

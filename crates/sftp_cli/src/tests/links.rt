@@ -1,5 +1,5 @@
-// Links in memory that say what a table has, and runs over them. The bytes of frames are laid out by
-// draft-ietf-secsh-filexfer-02, sections 3 to 7.
+//! Links in memory that follow a table, and runs over them; the bytes of frames are laid out by
+//! draft-ietf-secsh-filexfer-02, sections 3 to 7.
 ghost use Rattle.std.specs.Prelude.{◌≡◌, IfOk};
 
 use super::{Run, ends_so};
@@ -9,8 +9,8 @@ use std::alloc::{AllocError, Global};
 use std::process::Abort;
 use std::test::Fail;
 
-/// What a server says: bytes as they are, or the reply to a frame by its number, with its id changed by exclusive or, its type
-/// byte and its fields.
+/// An item that a server sends: bytes as they are, or the reply to a frame by its number, with its id changed by
+/// exclusive or, its type byte and its fields.
 #[derive(Clone, Copy)]
 pub(super) enum Item {
     Raw(&'static [u8]),
@@ -20,7 +20,7 @@ pub(super) enum Item {
 /// VERSION 3 without extensions.
 pub(super) const VERSION: Item = Item::Raw(b"\x00\x00\x00\x05\x02\x00\x00\x00\x03");
 
-/// VERSION 3 of a server that tells its limits.
+/// VERSION 3 of a server that reports its limits.
 pub(super) const LIMITED: Item = Item::Raw(
     b"\x00\x00\x00\x20\x02\x00\x00\x00\x03\x00\x00\x00\x12limits@openssh.com\x00\x00\x00\x011",
 );
@@ -39,7 +39,7 @@ pub(super) const REPLIES: &[Item] = &[
     Item::To(3, 0, 101, OK),
 ];
 
-/// What is printed of them.
+/// The text that is printed for them.
 pub(super) const REPLIES_TEXT: &str = "> open 00000001610000000100000000
 < handle 0000000161
 > read 0000000161000000000000000000000005
@@ -51,7 +51,8 @@ lane 0 call 1 read 68656c6c6f
 lane 0 call 2 done
 ";
 
-/// A dial whose link says these items, fails at the calls with these numbers, and moves at most so many bytes a call.
+/// Returns a dial whose link sends these items, fails at the calls with these numbers, and moves at most `cut` bytes
+/// per call.
 fn dial(alloc: Global, items: &[Item], fails: &[u32], cut: u32) -> Result<MemoryDial, AllocError>
     ensures { IfOk result (λ d. d.faults ≡ 0) }
 {
@@ -71,7 +72,7 @@ fn dial(alloc: Global, items: &[Item], fails: &[u32], cut: u32) -> Result<Memory
     Ok(MemoryDial::new(Some(ScriptedLink::new(alloc, said, fails, cut))))
 }
 
-/// Whether a script over such a link ends with this status and writes this text.
+/// Returns true if a script over such a link ends with this status and writes this text.
 pub(super) fn over(
     alloc: Global,
     script: &str,
@@ -93,7 +94,7 @@ pub(super) fn over(
     ends_so(alloc, &wanted, &mut dial)
 }
 
-/// A script, what the server says, the calls that fail, the most bytes a call, the status and the text.
+/// A script, the items that the server sends, the calls that fail, the most bytes per call, the status and the text.
 pub(super) type Row = (
     &'static str,
     &'static [Item],
@@ -103,7 +104,7 @@ pub(super) type Row = (
     &'static str,
 );
 
-/// Each row's script has its status and text.
+/// Checks that each row's script has its status and text.
 pub(super) fn check_rows(rt: &impl Abort, alloc: Global, rows: &[Row]) -> Result<(), Fail> {
     for (script, items, fails, cut, status, text) in rows {
         assert!(rt; over(alloc, *script, *items, *fails, *cut, *status, *text)?);

@@ -1,4 +1,4 @@
-// A run over a socket that listens in the test's own folder.
+//! A test of a run over a socket that listens in the test's own directory.
 use crate::run;
 use sftp_link::{MemorySink, MemorySource, UnixDial};
 use std::alloc::{AllocError, Global};
@@ -8,7 +8,7 @@ use std::os::unix::net::UnixListener;
 use std::test::Fail;
 use std::{fs, io, thread};
 
-/// Accepts one stream, says VERSION 3 and takes nine bytes.
+/// Accepts one stream, sends VERSION 3 and takes nine bytes.
 fn serve(listener: &UnixListener) -> io::Result<[u8; 9]> {
     let (mut stream, _) = listener.accept()?;
     stream.write_all(b"\x00\x00\x00\x05\x02\x00\x00\x00\x03")?;
@@ -17,7 +17,7 @@ fn serve(listener: &UnixListener) -> io::Result<[u8; 9]> {
     Ok(got)
 }
 
-/// The status of a script of one lane without calls over a socket, and how many bytes were written.
+/// Returns the status of a script of one lane without calls over a socket, and the number of bytes written.
 fn call<R: Net + Drop>(runtime: R, alloc: Global, path: &str) -> Result<(u8, usize), AllocError> {
     let mut words = Vec::with_capacity(alloc, 2)?;
     words.push(String::from_str(alloc, "unix")?)?;

@@ -1,12 +1,12 @@
-// Whole runs over links in memory.
+//! Tests of whole runs over links in memory.
 use super::HELLO;
 use super::links::{HANDLE, Item, LIMITED, OK, REPLIES, REPLIES_TEXT, Row, VERSION, check_rows};
 use std::test::Fail;
 
-/// Two opens under way at once, whose replies come in the other order.
+/// Two opens in flight at once, whose replies come in the opposite order.
 const TWO_LANES: &str = "lane\nopen 0 r 61\nlane\nopen 0 r 62\nstep 0\nstep 1\nflush\ntake\ntake\n";
 
-/// The same, where the second open goes out with the first since one request alone may wait.
+/// The same, but the second open is sent together with the first, since only one request may wait.
 const TWO_LANES_FULL: &str = "option max_pending_requests 1
 lane\nopen 0 r 61\nlane\nopen 0 r 62\nstep 0\nstep 1\ntake\ntake\n";
 
@@ -55,7 +55,7 @@ lane 0 call 2 done
 lane 0 call 3 done
 ";
 
-/// A file that isn't open to read.
+/// A file that isn't open for reading.
 const UNREADABLE: &str = "lane\nopen 0 w 61\nread 0 1\n";
 
 const UNREADABLE_REPLIES: &[Item] = &[
@@ -77,7 +77,7 @@ const LIMITS_TEXT: &str = "> extended 000000126c696d697473406f70656e7373682e636f
 < extended_reply 0000000000000000000000000000000000000000000000000000000000000000
 ";
 
-/// Lines on the server are passed over.
+/// Lines on the server, which are ignored.
 const SERVER: &str = "server limits 1 1 1 1\nserver ext fsync\nchoice 4 0\npick 1\nlane\n";
 
 const WHOLE: &[Row] = &[

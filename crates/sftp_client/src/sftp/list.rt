@@ -1,21 +1,24 @@
-// Entries of a directory that are waited for.
+//! Entries of a directory that are waited for.
 ghost use Rattle.std.specs.Prelude.{◌≡◌, ◌<◌, ◌-◌, ◌^◌};
-ghost use Rattle.call_state.specs.declared.poll.Poll.TheVariants.{Ready};
+ghost use Rattle.plan_state.specs.declared.poll.Poll.TheVariants.{Ready};
 ghost use Rattle.sftp_client.specs.Listed.{HasListed, ListedIn, MayWaitFor, given_by};
 
 use super::Sftp;
-use call_state::Poll;
+use plan_state::Poll;
 use sftp_core::MAX_IDS;
 use sftp_fs::{DirEntry, ReadDir};
 use sftp_link::Link;
 use sftp_model::Error;
 
 impl<L: Link> Sftp<L> {
-    /// The next entry of a listing, in the server's order; None at its end, and ever after. While it is awaited what is
-    /// queued is sent, and one frame at a time is taken.
+    /// Returns the next entry of a listing, in the server's order, or `None` at its end, and always from then on. While
+    /// the entry is awaited, the queue is sent and one frame at a time is taken.
     ///
-    /// The errors of the listing are its poll's, those of a round are `flush`'s and `take`'s; the listing may be waited
-    /// for on after each of them, and is to be closed. `OutOfMemory` comes also where 2147483648 ids are in use.
+    /// # Errors
+    ///
+    /// The errors of the listing are those of its poll; the errors of a round are those of `flush` and `take`. After
+    /// each of them the listing may be waited for again, and must be closed in the end. `OutOfMemory` comes also if
+    /// 2147483648 ids are in use.
     pub fn next_entry(&mut self, listing: &mut ReadDir) -> Result<Option<DirEntry>, Error>
         requires may { MayWaitFor self.old.core listing.old }
         requires count { (L.LinkState.state self.old.link).faults < 2 ^ 64 - 1 }
@@ -30,7 +33,7 @@ impl<L: Link> Sftp<L> {
         Err(Error::OutOfMemory)
     }
 
-    /// Polls a listing, where an id is left for a request of it.
+    /// Polls a listing, if an id is left for a request of it.
     fn poll_entry(&mut self, listing: &mut ReadDir) -> Poll<Option<Result<DirEntry, Error>>>
         requires { MayWaitFor self.old.core listing.old }
         ensures { ListedIn self.old self.new listing.old listing.new result }
@@ -42,7 +45,7 @@ impl<L: Link> Sftp<L> {
     }
 }
 
-/// What is answered of what a listing gave.
+/// Returns the result of the wait for a result of the listing.
 fn answer_of(given: Option<Result<DirEntry, Error>>) -> Result<Option<DirEntry>, Error>
     ensures { given_by result ≡ Ready given }
 {

@@ -1,4 +1,4 @@
-// What a session offers: options to open files by, extensions, and lengths.
+//! Offers of a session: options to open files with, extensions, and lengths.
 ghost use Rattle.std.specs.Prelude.{◌≡◌, [], Some, IsSome};
 ghost use Rattle.plan_model.specs.Moves.{offers};
 ghost use Rattle.sftp_core.specs.Info.{info_of};
@@ -15,22 +15,22 @@ use sftp_link::Link;
 use sftp_model::{Error, Extensions, OpenOptions, RemotePath};
 
 impl<L: Link> Sftp<L> {
-    /// Options of which nothing is chosen, to open a file by.
+    /// Returns options to open a file with, with nothing chosen.
     pub fn options(&self) -> OpenOptions
         ensures { result ≡ nothing_chosen }
     {
         OpenOptions::new()
     }
 
-    /// The calls on paths from where the session began. Takes no memory.
+    /// Returns the calls on paths from the directory in which the session began. No memory is allocated.
     pub fn fs(&self) -> Fs
         ensures { result ≡ [] }
     {
         Fs::new(RemotePath::new(Vec::new(self.alloc)))
     }
 
-    /// Whether the server finds the whole name of a path that begins with `~` (`expand-path@openssh.com`, OpenSSH's
-    /// PROTOCOL, section 4.9).
+    /// Returns true if the server finds the whole name of a path that begins with `~` (`expand-path@openssh.com`,
+    /// OpenSSH's PROTOCOL, section 4.9).
     pub fn support_expand_path(&self) -> bool
         requires { IsSome (info_of self.now.core.phase) }
         ensures { result ≡ offers (facts_of self.now.core) EXPAND_PATH }
@@ -38,8 +38,8 @@ impl<L: Link> Sftp<L> {
         self.offers(Extensions::EXPAND_PATH)
     }
 
-    /// Whether the server writes a file's content to its disk when asked (`fsync@openssh.com`, OpenSSH's PROTOCOL,
-    /// section 4.6).
+    /// Returns true if the server writes a file's content to its disk when asked (`fsync@openssh.com`, OpenSSH's
+    /// PROTOCOL, section 4.6).
     pub fn support_fsync(&self) -> bool
         requires { IsSome (info_of self.now.core.phase) }
         ensures { result ≡ offers (facts_of self.now.core) FSYNC }
@@ -47,7 +47,7 @@ impl<L: Link> Sftp<L> {
         self.offers(Extensions::FSYNC)
     }
 
-    /// Whether the server gives a file a second name (`hardlink@openssh.com`, OpenSSH's PROTOCOL, section 4.5).
+    /// Returns true if the server gives a file a second name (`hardlink@openssh.com`, OpenSSH's PROTOCOL, section 4.5).
     pub fn support_hardlink(&self) -> bool
         requires { IsSome (info_of self.now.core.phase) }
         ensures { result ≡ offers (facts_of self.now.core) HARDLINK }
@@ -55,7 +55,8 @@ impl<L: Link> Sftp<L> {
         self.offers(Extensions::HARDLINK)
     }
 
-    /// Whether a rename replaces what has the new name (`posix-rename@openssh.com`, OpenSSH's PROTOCOL, section 4.3).
+    /// Returns true if a rename replaces a file that has the new name (`posix-rename@openssh.com`, OpenSSH's PROTOCOL,
+    /// section 4.3).
     pub fn support_posix_rename(&self) -> bool
         requires { IsSome (info_of self.now.core.phase) }
         ensures { result ≡ offers (facts_of self.now.core) POSIX_RENAME }
@@ -63,7 +64,7 @@ impl<L: Link> Sftp<L> {
         self.offers(Extensions::POSIX_RENAME)
     }
 
-    /// Whether the server copies from one file to another (`copy-data`,
+    /// Returns true if the server copies from one file to another (`copy-data`,
     /// draft-ietf-secsh-filexfer-extensions-00, section 7).
     pub fn support_copy(&self) -> bool
         requires { IsSome (info_of self.now.core.phase) }
@@ -72,7 +73,7 @@ impl<L: Link> Sftp<L> {
         self.offers(Extensions::COPY_DATA)
     }
 
-    /// The most bytes that one WRITE carries, from 1 to 1048275.
+    /// Returns the most bytes that one WRITE carries, from 1 to 1048275.
     pub fn max_write_len(&self) -> u32
         requires { IsSome (info_of self.now.core.phase) }
         ensures { result ≡ (facts_of self.now.core).write_len }
@@ -80,7 +81,7 @@ impl<L: Link> Sftp<L> {
         self.info().write_len
     }
 
-    /// The most bytes that one READ asks for, from 1 to 1048275.
+    /// Returns the most bytes that one READ asks for, from 1 to 1048275.
     pub fn max_read_len(&self) -> u32
         requires { IsSome (info_of self.now.core.phase) }
         ensures { result ≡ (facts_of self.now.core).read_len }
@@ -88,7 +89,11 @@ impl<L: Link> Sftp<L> {
         self.info().read_len
     }
 
-    /// Whether a further request may be submitted: `OutOfMemory`, where 2147483648 ids are in use.
+    /// Checks that another request may be submitted.
+    ///
+    /// # Errors
+    ///
+    /// `OutOfMemory` if 2147483648 ids are in use.
     pub fn ready(&self) -> Result<(), Error>
         requires { IsSome (info_of self.now.core.phase) }
         ensures { IsReadyOr self.now.core result }
@@ -100,7 +105,7 @@ impl<L: Link> Sftp<L> {
         }
     }
 
-    /// Whether the server offers an extension.
+    /// Returns true if the server offers an extension.
     fn offers(&self, extension: Extensions) -> bool
         requires { IsSome (info_of self.now.core.phase) }
         ensures { result ≡ offers (facts_of self.now.core) extension.0 }
@@ -108,7 +113,7 @@ impl<L: Link> Sftp<L> {
         self.info().extensions.bits() & extension.bits() != 0
     }
 
-    /// What is known of the server.
+    /// Returns the information that the server reported.
     fn info(&self) -> Info
         requires { IsSome (info_of self.now.core.phase) }
         ensures { info_of self.now.core.phase ≡ Some result }

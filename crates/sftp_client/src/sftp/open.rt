@@ -1,5 +1,5 @@
-// Files that a session opens.
-ghost use Rattle.call_state.specs.Asked.{IsReady};
+//! Files that a session opens.
+ghost use Rattle.plan_state.specs.Asked.{IsReady};
 ghost use Rattle.sftp_client.specs.Opening.{OpensFile, to_create, to_read};
 
 use super::Sftp;
@@ -8,11 +8,13 @@ use sftp_link::Link;
 use sftp_model::{Error, OpenOptions};
 
 impl<L: Link> Sftp<L> {
-    /// Opens a file to be written: it is made where it isn't there, and emptied where it is
-    /// (draft-ietf-secsh-filexfer-02, section 6.3). The path is sent as it is.
+    /// Opens a file for writing: it is created if it is missing, and truncated if it exists
+    /// (draft-ietf-secsh-filexfer-02, section 6.3). The path is sent unchanged.
     ///
-    /// A kept fault is answered before all else; then `IOError(PathTooLong)`, where the path has more than 1048558
-    /// bytes. `OutOfMemory` may come in place of any answer. Refused, the session is as before.
+    /// # Errors
+    ///
+    /// A recorded fault is reported first; then `IOError(PathTooLong)` if the path has more than 1048558 bytes.
+    /// `OutOfMemory` may come in place of any result. After an error the session is unchanged.
     pub fn start_create(&mut self, path: &[u8]) -> Result<OpenCall, Error>
         requires { IsReady self.old.core }
         ensures { OpensFile to_create path.now self.old self.new result }
@@ -22,10 +24,12 @@ impl<L: Link> Sftp<L> {
         self.open_by(&options, path)
     }
 
-    /// Opens a file to be read (draft-ietf-secsh-filexfer-02, section 6.3). The path is sent as it is.
+    /// Opens a file for reading (draft-ietf-secsh-filexfer-02, section 6.3). The path is sent unchanged.
     ///
-    /// A kept fault is answered before all else; then `IOError(PathTooLong)`, where the path has more than 1048558
-    /// bytes. `OutOfMemory` may come in place of any answer. Refused, the session is as before.
+    /// # Errors
+    ///
+    /// A recorded fault is reported first; then `IOError(PathTooLong)` if the path has more than 1048558 bytes.
+    /// `OutOfMemory` may come in place of any result. After an error the session is unchanged.
     pub fn start_open(&mut self, path: &[u8]) -> Result<OpenCall, Error>
         requires { IsReady self.old.core }
         ensures { OpensFile to_read path.now self.old self.new result }
@@ -35,7 +39,7 @@ impl<L: Link> Sftp<L> {
         self.open_by(&options, path)
     }
 
-    /// Opens a file, where no fault is kept.
+    /// Opens a file, if the core has recorded no fault.
     fn open_by(&mut self, options: &OpenOptions, path: &[u8]) -> Result<OpenCall, Error>
         requires { IsReady self.old.core }
         ensures { OpensFile options.now path.now self.old self.new result }

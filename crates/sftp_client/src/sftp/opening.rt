@@ -1,7 +1,7 @@
-// The opening of a session and its end.
+//! The opening of a session and its end.
 ghost use Rattle.std.specs.Prelude.{◌≡◌, ◌<◌, ◌-◌, ◌^◌, None, IsSome};
 ghost use Rattle.sftp_core.specs.Info.{info_of};
-ghost use Rattle.sftp_client.specs.Rounds.{ClosesSession, Drains, ExchangeEnds, OpenEnds, OpensSftp, starting};
+ghost use Rattle.sftp_client.specs.Rounds.{ClosesSession, DrainsReplies, ExchangeEnds, OpenEnds, OpensSftp, fresh_sftp};
 
 use super::Sftp;
 use crate::incoming::Incoming;
@@ -12,9 +12,13 @@ use sftp_model::{Error, SftpOptions};
 use std::alloc::Global;
 
 impl<L: Link> Sftp<L> {
-    /// Opens a session over a link: sends the hello and takes VERSION, and asks for the limits where the server offers
-    /// to tell them (draft-ietf-secsh-filexfer-02, section 4; OpenSSH's PROTOCOL, section 4.8). The core's `info` is
-    /// Some then. An error hands the link back, as far as it was used.
+    /// Opens a session over a link: sends the hello and takes VERSION, and asks for the limits if the server offers to
+    /// report them (draft-ietf-secsh-filexfer-02, section 4; OpenSSH's PROTOCOL, section 4.8). The core's `info` is
+    /// `Some` then.
+    ///
+    /// # Errors
+    ///
+    /// The error if an allocation, the link or a frame fails. It hands the link back, as far as it was used.
     pub fn new(alloc: Global, link: L, options: &SftpOptions) -> Result<Sftp<L>, (Error, L)>
         requires { (L.LinkState.state link).faults < 2 ^ 64 - 1 }
         ensures { OpensSftp L.LinkState.state link options.now result }
@@ -35,8 +39,11 @@ impl<L: Link> Sftp<L> {
         }
     }
 
-    /// Sends what is queued and takes frames until no request is unanswered, and hands the link back. A kept fault is
-    /// answered before all else; an error hands the link back too.
+    /// Sends what is queued and takes frames until no request is unanswered, and hands the link back.
+    ///
+    /// # Errors
+    ///
+    /// A recorded fault is reported first; then the errors of `flush` and `take`. Each of them hands the link back too.
     pub fn close(self) -> Result<L, (Error, L)>
         requires opened { IsSome (info_of self.core.phase) }
         requires count { (L.LinkState.state self.link).faults < 2 ^ 64 - 1 }
@@ -49,9 +56,9 @@ impl<L: Link> Sftp<L> {
         }
     }
 
-    /// Sends the hello and takes VERSION, and the limits where the server offers to tell them.
+    /// Sends the hello and takes VERSION, and also the limits if the server offers to report them.
     fn open(&mut self) -> Result<(), Error>
-        requires empty { self.old ≡ starting self.old.core.options self.old.link }
+        requires empty { self.old ≡ fresh_sftp self.old.core.options self.old.link }
         requires count { (L.LinkState.state self.old.link).faults < 2 ^ 64 - 1 }
         ensures { OpenEnds L.LinkState.state self.old self.new result }
     {
@@ -76,7 +83,7 @@ impl<L: Link> Sftp<L> {
     fn drain(&mut self) -> Result<(), Error>
         requires opened { IsSome (info_of self.old.core.phase) }
         requires count { (L.LinkState.state self.old.link).faults < 2 ^ 64 - 1 }
-        ensures { Drains L.LinkState.state self.old self.new result }
+        ensures { DrainsReplies L.LinkState.state self.old self.new result }
     {
         self.flush()?;
         while self.core.unanswered() > 0 {
@@ -86,7 +93,7 @@ impl<L: Link> Sftp<L> {
         Ok(())
     }
 
-    /// The link alone.
+    /// Returns the link alone.
     fn into_link(self) -> L
         ensures { result ≡ self.link }
     {

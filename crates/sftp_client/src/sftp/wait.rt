@@ -1,23 +1,25 @@
-// Calls that are run to their end.
+//! Calls that are run to their end.
 ghost use Rattle.std.specs.Prelude.{◌<◌, ◌-◌, ◌^◌, IsSome};
 ghost use Rattle.sftp_core.specs.Info.{info_of};
-ghost use Rattle.call_state.specs.Calls.{IsUnderWay};
+ghost use Rattle.plan_state.specs.Calls.{IsUnderWay};
 ghost use Rattle.sftp_client.specs.Waits.{HasFinished, HasFinishedOn, HasWaited, HasWaitedOn, MayWait, MayWaitOn, PolledIn, RoundEnds};
 
 use super::Sftp;
-use call_state::{Alone, PendingCall, PlanRunner, Poll};
+use plan_state::{Alone, PendingCall, PlanRunner, Poll};
 use sftp_core::MAX_IDS;
 use sftp_file::{File, OnFile};
 use sftp_link::Link;
 use sftp_model::Error;
 
 impl<L: Link> Sftp<L> {
-    /// Runs a call to its end, and gives its answer. While it awaits a reply, what is queued is sent and one frame at
-    /// a time is taken; other calls may be under way, and their replies are kept for them.
+    /// Runs a call to its end, and returns its result. While it awaits a reply, the queue is sent and one frame at a
+    /// time is taken. Other calls may be under way, and their replies are kept for them.
     ///
-    /// The errors of the call are its poll's, those of a round are `flush`'s and `take`'s; after one of a round the
-    /// call has not ended, and is to be given up. `OutOfMemory` comes also where 2147483648 ids are in use: the call
-    /// may be run on then.
+    /// # Errors
+    ///
+    /// The errors of the call are those of its poll; the errors of a round are those of `flush` and `take`. After an
+    /// error of a round the call has not ended, and must be given up. `OutOfMemory` comes also if 2147483648 ids are in
+    /// use: the call may be run further then.
     pub fn wait<M: Alone>(&mut self, call: &mut PendingCall<M>) -> Result<M::Value, Error>
         requires may { MayWait M.PlanRunner.meaning self.old.core call.old }
         requires count { (L.LinkState.state self.old.link).faults < 2 ^ 64 - 1 }
@@ -26,8 +28,13 @@ impl<L: Link> Sftp<L> {
         self.run(call)
     }
 
-    /// Runs a call that moves a file to its end, as `wait` does. The file is the one that the call was started on, and
-    /// stands where the start or the last poll left it; it stands where the call has come then, after an error too.
+    /// Runs a call that moves a file to its end, as `wait` does. The file must be the one that the call was started on,
+    /// at the offset that the start or the last poll left. Afterwards it is at the offset that the call has reached,
+    /// also after an error.
+    ///
+    /// # Errors
+    ///
+    /// Those of `wait`.
     pub fn wait_on<M: OnFile>(
         &mut self,
         call: &mut PendingCall<M>,
@@ -42,8 +49,12 @@ impl<L: Link> Sftp<L> {
         value
     }
 
-    /// Runs a call to its end, and gives its answer. After an error nothing is left of the call: a reply that still
-    /// comes is dropped, and a handle that comes is closed. To go on after `OutOfMemory`, use `wait`.
+    /// Runs a call to its end, and returns its result.
+    ///
+    /// # Errors
+    ///
+    /// Those of `wait`. After an error nothing is left of the call: a reply that still comes is dropped, and a handle
+    /// that comes is closed. To continue after `OutOfMemory`, use `wait`.
     pub fn finish<M: Alone>(&mut self, call: PendingCall<M>) -> Result<M::Value, Error>
         requires may { MayWait M.PlanRunner.meaning self.old.core call }
         requires count { (L.LinkState.state self.old.link).faults < 2 ^ 64 - 1 }
@@ -55,8 +66,12 @@ impl<L: Link> Sftp<L> {
         answer
     }
 
-    /// Runs a call that moves a file to its end, as `finish` does. The file is the one that the call was started on,
-    /// and stands where the call has come then, after an error too.
+    /// Runs a call that moves a file to its end, as `finish` does. The file must be the one that the call was started
+    /// on. Afterwards it is at the offset that the call has reached, also after an error.
+    ///
+    /// # Errors
+    ///
+    /// Those of `finish`.
     pub fn finish_on<M: OnFile>(
         &mut self,
         call: PendingCall<M>,
@@ -72,7 +87,7 @@ impl<L: Link> Sftp<L> {
         answer
     }
 
-    /// Polls a call, and does a round where it has no answer, until it answers or a round goes wrong.
+    /// Polls a call, and does a round if it has no answer, until it returns its result or a round fails.
     pub(super) fn run<M: PlanRunner>(
         &mut self,
         call: &mut PendingCall<M>,
@@ -90,7 +105,7 @@ impl<L: Link> Sftp<L> {
         Err(Error::OutOfMemory)
     }
 
-    /// Polls a call, where an id is left for a request of it.
+    /// Polls a call, if an id is left for a request of it.
     fn poll_call<M: PlanRunner>(
         &mut self,
         call: &mut PendingCall<M>,
@@ -105,7 +120,7 @@ impl<L: Link> Sftp<L> {
         call.step(&mut self.core)
     }
 
-    /// Sends what is queued, and takes a frame where one is awaited.
+    /// Sends what is queued, and takes a frame if one is awaited.
     pub(super) fn round(&mut self) -> Result<(), Error>
         requires { (L.LinkState.state self.old.link).faults < 2 ^ 64 - 1 }
         ensures { RoundEnds L.LinkState.state self.old self.new result }

@@ -1,20 +1,24 @@
-// Copies, reads of so many bytes and whole reads that are run to their end.
+//! Copies, reads of `n` bytes and whole reads that are run to their end.
 ghost use Rattle.std.specs.Prelude.{◌<◌, ◌-◌, ◌^◌};
 ghost use Rattle.sftp_file.specs.Gathers.{GivesBytes};
 ghost use Rattle.sftp_client.specs.WholeWaits.{HasCopied, HasFinishedRead, HasReadBytes, HasWaitedBytes, HasWaitedCopy, HasWaitedRead, MayWaitBytes, MayWaitCopy, MayRound, MayWaitRead, ReadIn};
 
 use super::Sftp;
 use bytes::BytesMut;
-use call_state::Poll;
+use plan_state::Poll;
 use sftp_core::MAX_IDS;
 use sftp_file::{CopyCall, File, ReadAllCall, ReadAllError, cancel_read_all, read_all_answer};
+use sftp_fs_read::FsReadCall;
 use sftp_link::Link;
 use sftp_model::Error;
-use sftp_whole::FsReadCall;
 
 impl<L: Link> Sftp<L> {
-    /// Runs a copy to its end, as `wait` does. The files are those that it was started on, and stand where the start or
-    /// the last poll left them; they stand where the copy has come then, after an error too.
+    /// Runs a copy to its end, as `wait` does. The files must be those that it was started on, at the offsets that the
+    /// start or the last poll left. Afterwards they are at the offsets that the copy has reached, also after an error.
+    ///
+    /// # Errors
+    ///
+    /// Those of `wait`.
     pub fn wait_copy(
         &mut self,
         call: &mut CopyCall,
@@ -33,6 +37,10 @@ impl<L: Link> Sftp<L> {
     }
 
     /// Runs a copy to its end, as `finish` does, on the files that it was started on.
+    ///
+    /// # Errors
+    ///
+    /// Those of `finish`.
     pub fn finish_copy(
         &mut self,
         call: CopyCall,
@@ -49,10 +57,13 @@ impl<L: Link> Sftp<L> {
         answer
     }
 
-    /// Runs a read of so many bytes to its end, as `wait` does. The file is the one that it was started on, and stands
-    /// where the start or the last poll left it; it stands behind the bytes that came then, after an error too. An error
-    /// of the read hands out the bytes that came before it; after one of a round, and after `OutOfMemory`, the call keeps
-    /// them.
+    /// Runs a read of `n` bytes to its end, as `wait` does. The file must be the one that it was started on, at the
+    /// offset that the start or the last poll left. Afterwards it is after the bytes that came, also after an error.
+    ///
+    /// # Errors
+    ///
+    /// Those of `wait`. An error of the read hands out the bytes that came before it; after an error of a round, and
+    /// after `OutOfMemory`, the call keeps them.
     pub fn wait_bytes(
         &mut self,
         call: &mut ReadAllCall,
@@ -67,7 +78,11 @@ impl<L: Link> Sftp<L> {
         read_all_answer(call, answer)
     }
 
-    /// Runs a read of so many bytes to its end, as `finish` does, and hands out the bytes that came, after each error too.
+    /// Runs a read of `n` bytes to its end, as `finish` does, and hands out the bytes that came, also after each error.
+    ///
+    /// # Errors
+    ///
+    /// Those of `finish`, with the bytes that came.
     pub fn finish_bytes(
         &mut self,
         call: ReadAllCall,
@@ -84,11 +99,14 @@ impl<L: Link> Sftp<L> {
         with_bytes(answer, got)
     }
 
-    /// Runs a whole read to its end, and gives its bytes. READs are asked for until as many are under way as the session
-    /// allows; then what is queued is sent and a frame taken, round after round.
+    /// Runs a whole read to its end, and returns its bytes. READs are asked for until the session's limit is under way;
+    /// then the queue is sent and a frame taken, round after round.
     ///
-    /// The errors of the read are its poll's, those of a round are `flush`'s and `take`'s; after one of a round the read
-    /// has not ended, and is to be given up. `OutOfMemory` comes also where 2147483648 ids are in use.
+    /// # Errors
+    ///
+    /// The errors of the read are those of its poll; the errors of a round are those of `flush` and `take`. After an
+    /// error of a round the read has not ended, and must be given up. `OutOfMemory` comes also if 2147483648 ids are in
+    /// use.
     pub fn wait_read(&mut self, call: &mut FsReadCall) -> Result<BytesMut, Error>
         requires may { MayWaitRead self.old.core call.old }
         requires count { (L.LinkState.state self.old.link).faults < 2 ^ 64 - 1 }
@@ -104,8 +122,12 @@ impl<L: Link> Sftp<L> {
         Err(Error::OutOfMemory)
     }
 
-    /// Runs a whole read to its end, and gives its bytes. After an error nothing is left of it: replies that still come
-    /// are dropped, and the file is closed.
+    /// Runs a whole read to its end, and returns its bytes.
+    ///
+    /// # Errors
+    ///
+    /// Those of `wait_read`. After an error nothing is left of the read: replies that still come are dropped, and the
+    /// file is closed.
     pub fn finish_read(&mut self, call: FsReadCall) -> Result<BytesMut, Error>
         requires may { MayWaitRead self.old.core call }
         requires count { (L.LinkState.state self.old.link).faults < 2 ^ 64 - 1 }
@@ -117,7 +139,7 @@ impl<L: Link> Sftp<L> {
         answer
     }
 
-    /// Polls a whole read, where an id is left for a request of it.
+    /// Polls a whole read, if an id is left for a request of it.
     fn poll_read(&mut self, call: &mut FsReadCall) -> Poll<Result<BytesMut, Error>>
         requires { MayWaitRead self.old.core call.old }
         ensures { ReadIn self.old self.new call.old call.new result }
@@ -128,7 +150,7 @@ impl<L: Link> Sftp<L> {
         call.poll(&mut self.core)
     }
 
-    /// A round, where so many ids are in use still: nothing was asked for then.
+    /// Does a round if `kept` ids are still in use, which means that nothing was asked for.
     fn round_where(&mut self, kept: u32) -> Result<(), Error>
         requires { (L.LinkState.state self.old.link).faults < 2 ^ 64 - 1 }
         ensures { MayRound L.LinkState.state kept self.old self.new result }
@@ -140,7 +162,7 @@ impl<L: Link> Sftp<L> {
     }
 }
 
-/// An answer with the bytes that came.
+/// Returns a result with the bytes that came.
 fn with_bytes(answer: Result<(), Error>, got: BytesMut) -> Result<BytesMut, ReadAllError>
     ensures { GivesBytes got.items answer result }
 {

@@ -1,21 +1,23 @@
-// Whole writes that are run to their end.
+//! Whole writes that are run to their end.
 ghost use Rattle.std.specs.Prelude.{◌<◌, ◌-◌, ◌^◌};
 ghost use Rattle.sftp_client.specs.WriteWaits.{HasFinishedWrite, HasWaitedWrite, MayWaitWrite, WriteIn};
 
 use super::Sftp;
-use call_state::Poll;
+use plan_state::Poll;
 use sftp_core::MAX_IDS;
 use sftp_fs::FsWriteCall;
 use sftp_link::Link;
 use sftp_model::Error;
 
 impl<L: Link> Sftp<L> {
-    /// Runs a whole write to its end: it is polled, and while it awaits a reply what is queued is sent and a frame taken.
+    /// Runs a whole write to its end: it is polled, and while it awaits a reply the queue is sent and a frame taken.
     /// The CLOSE is queued at the end, and not awaited.
     ///
-    /// The errors of the write are its poll's, those of a round are `flush`'s and `take`'s; after one of a round the
-    /// write has not ended, and is to be given up. `OutOfMemory` comes also where 2147483648 ids are in use: the write
-    /// may be run on then.
+    /// # Errors
+    ///
+    /// The errors of the write are those of its poll; the errors of a round are those of `flush` and `take`. After an
+    /// error of a round the write has not ended, and must be given up. `OutOfMemory` comes also if 2147483648 ids are
+    /// in use: the write may be run further then.
     pub fn wait_write(&mut self, call: &mut FsWriteCall) -> Result<(), Error>
         requires may { MayWaitWrite self.old.core call.old }
         requires count { (L.LinkState.state self.old.link).faults < 2 ^ 64 - 1 }
@@ -30,7 +32,11 @@ impl<L: Link> Sftp<L> {
         Err(Error::OutOfMemory)
     }
 
-    /// Runs a whole write to its end. After an error nothing is left of it: replies that still come are dropped, and the
+    /// Runs a whole write to its end.
+    ///
+    /// # Errors
+    ///
+    /// Those of `wait_write`. After an error nothing is left of the write: replies that still come are dropped, and the
     /// file is closed.
     pub fn finish_write(&mut self, call: FsWriteCall) -> Result<(), Error>
         requires may { MayWaitWrite self.old.core call }
@@ -43,7 +49,7 @@ impl<L: Link> Sftp<L> {
         answer
     }
 
-    /// Polls a whole write, where an id is left for a request of it.
+    /// Polls a whole write, if an id is left for a request of it.
     fn poll_write(&mut self, call: &mut FsWriteCall) -> Poll<Result<(), Error>>
         requires { MayWaitWrite self.old.core call.old }
         ensures { WriteIn self.old self.new call.old call.new result }

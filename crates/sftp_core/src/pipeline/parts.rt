@@ -1,4 +1,4 @@
-// WRITEs whose content is shared.
+//! WRITEs whose content is shared.
 ghost use Rattle.std.specs.Prelude.{◌≡◌, ◌<◌, ℕ, None, IsSome, IfOk, IfErr, OnOk, OnErr};
 ghost use Rattle.std.specs.FinMap as fin;
 ghost use Rattle.sftp_model.specs.Frames.{is_too_long};
@@ -16,9 +16,12 @@ use sftp_wire::request_len;
 use std::alloc::Global;
 
 impl Core {
-    /// Submits the WRITE of these parts, joined; they are shared and not copied. The queue's pieces of it are its head
-    /// and then the parts that are not empty, each by itself. As with `submit`, a kept fault is answered before
-    /// `TooLong` and `OutOfMemory`, and refused, the core is as before.
+    /// Submits the WRITE of these parts, joined. The parts are shared and not copied. The queue's pieces of it are its
+    /// head and then each part that is not empty, by itself.
+    ///
+    /// # Errors
+    ///
+    /// `Failed` with a kept fault comes before `TooLong` and `OutOfMemory`, as with `submit`. The core is unchanged.
     #[tactic(auto, using(crate::proofs::Refusals::no_fault))]
     pub fn submit_parts(
         &mut self,
@@ -32,7 +35,7 @@ impl Core {
             SubmittedParts self.old handle.now offset parts.now ticket self.new) }
         ensures refused { IfErr result (λ e.
             IsSubmitError e (submit_refusal self.old (write_of handle.now offset parts.now))) }
-        ensures err { OnErr result (self.new ≡ self.old) }
+        ensures unchanged { OnErr result (self.new ≡ self.old) }
     {
         if let Some(fault) = self.fault {
             return Err(SubmitError::Failed(fault));
@@ -44,7 +47,7 @@ impl Core {
     }
 }
 
-/// The WRITE of these parts, where its frame is within the limit.
+/// Returns the WRITE of these parts, if its frame is within the limit.
 #[tactic(auto, using(crate::proofs::Refusals::no_fault))]
 fn short_write(
     alloc: Global,

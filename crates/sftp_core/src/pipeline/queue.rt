@@ -1,8 +1,8 @@
-// What goes out: requests into the queue, and the frames of the queue.
+//! The queue: requests that are submitted, and frames that are handed out.
 ghost use Rattle.std.specs.Prelude.{◌≡◌, ◌<◌, map, IsTrue, IsSome, IfOk, IfErr, OnOk, OnErr};
 ghost use Rattle.std.specs.FinMap as fin;
-ghost use Rattle.sftp_model.specs.Pieces.{joined};
-ghost use Rattle.sftp_core.specs.Core.{is_call, submit_refusal, IsSubmitError, Submitted, handed_out};
+ghost use Rattle.sftp_model.specs.Pieces.{joined_pieces};
+ghost use Rattle.sftp_core.specs.Core.{is_call, submit_refusal, IsSubmitError, QueuesRequest, handed_out};
 ghost use Rattle.sftp_model.specs.Frames.{frames_of};
 ghost use Rattle.sftp_core.specs.Frames.{AreFilled};
 ghost use Rattle.sftp_core.specs.Info.{MAX_IDS, info_of};
@@ -21,17 +21,20 @@ use ssh_encoding::OutOfMemory;
 use std::mem;
 
 impl Core {
-    /// Puts a request last into the queue, under an id that nothing unanswered bears. An OPEN or OPENDIR takes the
-    /// memory for its CLOSE as well. A kept fault is answered before `TooLong` and `OutOfMemory`; refused, the core is
-    /// as before.
+    /// Puts a request last into the queue, under an id that no unanswered request has. An OPEN or OPENDIR also
+    /// allocates the memory for its CLOSE.
+    ///
+    /// # Errors
+    ///
+    /// `Failed` with a kept fault comes before `TooLong` and `OutOfMemory`. The core is unchanged.
     #[tactic(auto, using(crate::proofs::Refusals::no_fault))]
     pub fn submit(&mut self, request: &Request) -> Result<Ticket, SubmitError>
         requires ready { IsSome (info_of self.old.phase) }
         requires few { fin.len self.old.table < MAX_IDS }
         requires call { IsTrue (is_call request.now) }
-        ensures ok { IfOk result (λ ticket. Submitted self.old request.now ticket self.new) }
+        ensures ok { IfOk result (λ ticket. QueuesRequest self.old request.now ticket self.new) }
         ensures refused { IfErr result (λ e. IsSubmitError e (submit_refusal self.old request.now)) }
-        ensures err { OnErr result (self.new ≡ self.old) }
+        ensures unchanged { OnErr result (self.new ≡ self.old) }
     {
         if let Some(fault) = self.fault {
             return Err(SubmitError::Failed(fault));
@@ -45,15 +48,19 @@ impl Core {
         Ok(Ticket { id })
     }
 
-    /// The frames of all queued requests in order, as pieces of which none is empty: of each its head, and then the
-    /// pieces of its content as they were handed in. Nothing is queued then, and each request counts as sent. Refused
-    /// for want of memory, the core is as before.
+    /// Returns the frames of all queued requests in order, as pieces, none of them empty. The pieces of a frame are its
+    /// head, and then the pieces of its content as they were passed in. Then nothing is queued, and each request counts
+    /// as sent.
+    ///
+    /// # Errors
+    ///
+    /// `OutOfMemory` if an allocation fails; the core is unchanged.
     pub fn hand_out(&mut self) -> Result<Chunk, OutOfMemory>
-        ensures ok { IfOk result (λ chunk. joined chunk ≡ frames_of self.old.queue) }
+        ensures ok { IfOk result (λ chunk. joined_pieces chunk ≡ frames_of self.old.queue) }
         ensures pieces { IfOk result (λ chunk. chunk ≡ self.old.pieces) }
         ensures filled { IfOk result (λ chunk. AreFilled chunk) }
         ensures after { OnOk result (self.new ≡ handed_out self.old) }
-        ensures err { OnErr result (self.new ≡ self.old) }
+        ensures unchanged { OnErr result (self.new ≡ self.old) }
     {
         let list = mem::replace(&mut self.list, Vec::new(self.alloc));
         let chunk = Chunk::of_queue(self.alloc, self.queue.as_slice(), list)?;
@@ -63,7 +70,7 @@ impl Core {
         Ok(chunk)
     }
 
-    /// Takes a chunk back, and keeps its list for the next one. It changes nothing else.
+    /// Takes a chunk back, and keeps its list for the next one. Nothing else changes.
     pub fn give_back(&mut self, chunk: Chunk)
         ensures { self.new ≡ self.old }
     {
@@ -71,7 +78,7 @@ impl Core {
     }
 }
 
-/// Makes each request of a queue one that was handed out.
+/// Marks each request of a queue as handed out.
 fn mark_all(table: &mut Table, queue: &[Queued])
     ensures { table.new ≡ marked_all table.old (map asked_of queue.now) }
 {

@@ -1,4 +1,4 @@
-// The frames of a queue, in order, as bytes.
+//! Tests of the frames of a queue, in order, as bytes.
 use crate::tests::seats::*;
 use crate::*;
 use sftp_model::Request;

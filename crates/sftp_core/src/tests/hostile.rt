@@ -1,11 +1,11 @@
-// Replies that no honest server sends.
+//! Tests of replies that no honest server sends.
 use crate::tests::seats::*;
 use crate::*;
 use sftp_model::{FormatKind, Request, SftpOptions};
 use std::process::Abort;
 use std::test::Fail;
 
-/// What may not answer a READ of two bytes with the id 0.
+/// Checks replies that may not answer a READ of two bytes with the id 0.
 #[test]
 fn answers(rt: HostRuntime) -> Result<(), Fail> {
     let kind = Fault::Response { id: Some(0) };
@@ -41,7 +41,7 @@ fn refuse_answer(rt: &impl Abort, core: &mut Core, read: &Request, body: &[u8], 
     assert_eq!(rt; refusal(core, body), Some(fault));
 }
 
-/// Before VERSION nothing else may come, and its version is 3.
+/// Checks that before VERSION no other reply may come, and that its version is 3.
 #[test]
 fn greetings(rt: HostRuntime) -> Result<(), Fail> {
     let table: [(&[u8], Fault); 2] = [
@@ -55,7 +55,7 @@ fn greetings(rt: HostRuntime) -> Result<(), Fail> {
     Ok(())
 }
 
-/// Limits of 31 and of 33 bytes, and a STATUS in their place.
+/// Checks limits of 31 and of 33 bytes, and a STATUS in their place.
 #[test]
 fn limits(rt: HostRuntime) -> Result<(), Fail> {
     let table: [(&[u8], Fault); 3] = [
@@ -84,8 +84,8 @@ fn refuse_limits(rt: &impl Abort, core: &mut Core, body: &[u8], fault: Fault) {
     assert_eq!(rt; refusal(core, body), Some(fault));
 }
 
-/// A reply to a request that is queued and not handed out. The fault stays, and a reply that was taken before is
-/// still given.
+/// Checks a reply to a request that is queued and not handed out. The fault stays, and a reply that was taken before is
+/// still returned.
 #[test]
 fn too_early(rt: HostRuntime) -> Result<(), Fail> {
     let mut core = greeted(rt.alloc(), PLAIN)?;

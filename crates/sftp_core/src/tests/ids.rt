@@ -1,10 +1,10 @@
-// The ids of a core beside the plain rule: a map from each id to what is kept under it.
+//! Tests of the ids of a core against a simple model: a map from each id to its record.
 use crate::tests::seats::*;
 use crate::*;
 use sftp_model::Request;
 use std::test::Fail;
 
-/// What the map keeps under an id.
+/// The record that the map keeps under an id.
 #[derive(Clone, Copy, PartialEq, Eq)]
 enum Kept {
     Nothing,
@@ -20,7 +20,7 @@ enum Step {
     Abandon(u8),
 }
 
-/// The plain rule.
+/// Returns the record after a step, by the simple model.
 fn after(kept: Kept, step: Step) -> Kept {
     match (kept, step) {
         (Kept::Nothing, Step::Submit) => Kept::Waiting,
@@ -31,14 +31,14 @@ fn after(kept: Kept, step: Step) -> Kept {
     }
 }
 
-/// Makes the call, and tells of which id it was.
+/// Makes the call, and returns the id that it used.
 fn call(core: &mut Core, read: &Request, step: Step) -> Option<u8> {
     match step {
         Step::Submit => match submit(core, read) {
             Ok(id) if send(core) => u8::try_from(id).ok(),
             _ => None,
         },
-        // a STATUS of the end of the file
+        // A STATUS of the end of the file.
         Step::Take(id) => {
             let mut body = [0u8; 17];
             body[0] = 0x65;
@@ -53,7 +53,7 @@ fn call(core: &mut Core, read: &Request, step: Step) -> Option<u8> {
     }
 }
 
-/// Whether the same ids are in use in the core and in the map, after each call.
+/// Returns true if the same ids are in use in the core and in the map, after each call.
 fn agree(core: &mut Core, read: &Request, steps: &[Step]) -> bool {
     let mut map = [Kept::Nothing; 4];
     for step in steps {
@@ -83,7 +83,7 @@ fn are_used(core: &Core, map: &[Kept; 4]) -> bool {
     true
 }
 
-/// An abandoned request keeps its id until its reply was taken, and a freed id is used again.
+/// Checks that an abandoned request keeps its id until its reply was taken, and that a freed id is used again.
 #[test]
 fn ids(rt: HostRuntime) -> Result<(), Fail> {
     use Step::{Abandon, Submit, Take};

@@ -1,4 +1,4 @@
-// Calls of a core by ids alone, each under its condition. What they tell is copied freely.
+//! Calls of a core by ids alone, each under its condition. Their results can be copied freely.
 ghost use Rattle.std.specs.Prelude.{◌≡◌};
 ghost use Rattle.sftp_core.specs.Core.{is_call};
 
@@ -23,17 +23,17 @@ pub(crate) const HANDLE: &[u8] = b"\x66\0\0\0\0\0\0\0\x01a";
 
 pub(crate) const DONE: &[u8] = b"\x65\0\0\0\0\0\0\0\0\0\0\0\0\0\0\0\0";
 
-/// What a poll gave.
+/// The result of a poll.
 #[derive(Clone, Copy, Debug, PartialEq, Eq)]
 pub(crate) enum Seen {
-    /// No ticket of this id, or nothing yet.
+    /// No ticket of this id, or no reply yet.
     Nothing,
     Status(u32),
-    /// So many bytes.
+    /// This many bytes.
     Content(usize),
     /// Another reply.
     Other,
-    /// A handle of so many bytes.
+    /// A handle of this many bytes.
     Granted(usize),
     Failed(Fault),
 }
@@ -46,7 +46,7 @@ fn look(reply: &Reply) -> Seen {
     }
 }
 
-/// The queued, the awaited, the unanswered and the kept.
+/// Returns the numbers of queued, awaited and unanswered frames, and of ids in use.
 pub(crate) fn counts(core: &Core) -> (u32, u32, u32, u32) {
     (
         core.queued(),
@@ -56,21 +56,21 @@ pub(crate) fn counts(core: &Core) -> (u32, u32, u32, u32) {
     )
 }
 
-/// A core whose hello was handed out and that took this VERSION.
+/// Returns a core whose hello was handed out and that took this VERSION.
 pub(crate) fn greeted(alloc: Global, version: &[u8]) -> Result<Core, Fail> {
     let mut core = Core::new(alloc, &SftpOptions::new())?;
     let went = send(&mut core) && takes(&mut core, version);
     if went { Ok(core) } else { Err("no greeting")? }
 }
 
-/// Whether a request may be submitted.
+/// Returns true if a request may be submitted.
 fn is_call(request: &Request) -> bool
     ensures { result ≡ is_call request.now }
 {
     !matches!(request, Request::Init { .. } | Request::LimitsQuery)
 }
 
-/// The id of a submitted request.
+/// Submits a request and returns its id.
 pub(crate) fn submit(core: &mut Core, request: &Request) -> Result<u32, SubmitError> {
     if core.info().is_none() || core.kept() > 100 || !is_call(request) {
         return Err(SubmitError::OutOfMemory);
@@ -84,7 +84,7 @@ pub(crate) fn submit(core: &mut Core, request: &Request) -> Result<u32, SubmitEr
     }
 }
 
-/// The id of a submitted WRITE of these parts to the handle `a`, at the offset 0.
+/// Submits a WRITE of these parts to the handle `a`, at the offset 0, and returns its id.
 pub(crate) fn submit_parts(core: &mut Core, parts: &[Bytes]) -> Result<u32, SubmitError> {
     let Some(handle) = Handle::new(b"a") else {
         return Err(SubmitError::OutOfMemory);
@@ -101,7 +101,7 @@ pub(crate) fn submit_parts(core: &mut Core, parts: &[Bytes]) -> Result<u32, Subm
     }
 }
 
-/// OPEN of `open` to read, without attributes.
+/// Returns an OPEN of `open` to read, without attributes.
 pub(crate) fn open(alloc: Global) -> Result<Request, Fail> {
     Ok(Request::OpenFile {
         path: RemotePath::new(Vec::from_slice(alloc, b"open")?),
@@ -115,7 +115,7 @@ pub(crate) fn open(alloc: Global) -> Result<Request, Fail> {
     })
 }
 
-/// READ of the handle `a`.
+/// Returns a READ of the handle `a`.
 pub(crate) fn read(offset: u64, len: u32) -> Result<Request, Fail> {
     Ok(Request::Read {
         handle: Handle::new(b"a").ok_or("a handle of more than 256 bytes")?,
@@ -124,7 +124,7 @@ pub(crate) fn read(offset: u64, len: u32) -> Result<Request, Fail> {
     })
 }
 
-/// What a ticket is worth.
+/// Returns the result of a poll of a ticket.
 pub(crate) fn poll(core: &mut Core, id: u32) -> Seen {
     let Some(ticket) = core.ticket_of(id) else {
         return Seen::Nothing;
@@ -143,7 +143,7 @@ pub(crate) fn poll(core: &mut Core, id: u32) -> Seen {
     }
 }
 
-/// Whether the reply to a ticket is there to be looked at.
+/// Returns true if the reply to a ticket can be looked at.
 pub(crate) fn is_answered(core: &Core, id: u32) -> bool {
     let Some(ticket) = core.ticket_of(id) else {
         return false;
@@ -159,7 +159,7 @@ pub(crate) fn abandon(core: &mut Core, id: u32) {
     }
 }
 
-/// The users of a grant, after one more.
+/// Adds a user to a grant, and returns the number of users.
 pub(crate) fn retain(core: &mut Core, id: u32) -> u32 {
     let Some(grant) = core.grant_of(id) else {
         return 0;
@@ -178,14 +178,14 @@ pub(crate) fn retain(core: &mut Core, id: u32) -> u32 {
     }
 }
 
-/// The id of the CLOSE, after the last user.
+/// Removes a user, and returns the id of the CLOSE after the last one.
 pub(crate) fn release(core: &mut Core, id: u32) -> Option<u32> {
     let grant = core.grant_of(id)?;
     let Ticket { id } = core.release(grant)?;
     Some(id)
 }
 
-/// Hands out what is queued.
+/// Hands out the queue.
 pub(crate) fn send(core: &mut Core) -> bool {
     match core.hand_out() {
         Ok(chunk) => {
@@ -196,7 +196,7 @@ pub(crate) fn send(core: &mut Core) -> bool {
     }
 }
 
-/// Hands out what is queued: whether it is these bytes.
+/// Hands out the queue, and returns true if it is these bytes.
 pub(crate) fn sends(core: &mut Core, bytes: &[u8]) -> bool {
     match core.hand_out() {
         Ok(chunk) => {
@@ -208,7 +208,7 @@ pub(crate) fn sends(core: &mut Core, bytes: &[u8]) -> bool {
     }
 }
 
-/// Hands out what is queued: whether it is a head and these two pieces.
+/// Hands out the queue, and returns true if it is a head and these two pieces.
 pub(crate) fn sends_cut(core: &mut Core, head: &[u8], first: &[u8], second: &[u8]) -> bool {
     match core.hand_out() {
         Ok(chunk) => {
@@ -225,7 +225,7 @@ pub(crate) fn sends_cut(core: &mut Core, head: &[u8], first: &[u8], second: &[u8
     }
 }
 
-/// Whether the pieces are these bytes, joined.
+/// Returns true if the pieces are these bytes, joined.
 fn is_chunk(chunk: &Chunk, bytes: &[u8]) -> bool {
     let mut rest = bytes;
     for piece in chunk.pieces() {
@@ -241,12 +241,12 @@ fn is_chunk(chunk: &Chunk, bytes: &[u8]) -> bool {
     rest.is_empty()
 }
 
-/// Takes a body, where no fault is kept.
+/// Takes a body, if no fault is kept.
 pub(crate) fn takes(core: &mut Core, body: &[u8]) -> bool {
     core.fault().is_none() && core.take(body).is_ok()
 }
 
-/// The fault of a body's refusal, where it is the kept one then.
+/// Returns the fault of a body's refusal, if it is then the kept one.
 pub(crate) fn refusal(core: &mut Core, body: &[u8]) -> Option<Fault> {
     if core.fault().is_some() {
         return None;

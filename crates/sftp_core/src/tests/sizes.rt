@@ -1,4 +1,4 @@
-// Session lengths.
+//! Tests of session lengths.
 use crate::*;
 use sftp_model::SftpOptions;
 use std::test::Fail;

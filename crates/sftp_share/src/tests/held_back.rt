@@ -1,17 +1,19 @@
-//! Two lanes in threads over halves that hold the reply to the first request back until the second request was sent.
+//! A test of two lanes in threads over halves that hold back the reply to the first request until the second request
+//! was sent.
 ghost use Rattle.std.specs.Prelude.{◌≡◌, ◌<◌, ◌-◌, ◌^◌, false, IfOk};
-ghost use Rattle.sftp_script.specs.CanRun.{CanRun};
-ghost use Rattle.shared_map.specs.Halves.{untouched};
+ghost use Rattle.script_grammar.specs.CanRun.{CanRun};
+ghost use Rattle.machine_halves.specs.Halves.{fresh_half};
 
 use crate::share;
-use program_ends::new_server_of;
+use machine_halves::{MapIn, MapOut, MapServer, Pair, SharedMap};
+use program_shell::new_server_of;
+use script_grammar::{Script, read_script};
 use session_model::Event;
+use session_threads::run_shared;
 use sftp_link::{DeviceError, LinkIn, LinkOut, LinkState, MemorySink, MemorySource};
 use sftp_model::Outcome;
-use sftp_script::{Script, read_script};
 use sftp_tasks::{Entry, Error, Receipt, SharedReport};
 use sftp_values::Items;
-use shared_map::{MapIn, MapOut, MapServer, Pair, SharedMap};
 use ssh_encoding::OutOfMemory;
 use std::alloc::Global;
 use std::sync::{Arc, Mutex, Wait};
@@ -19,12 +21,12 @@ use std::test::Fail;
 use std::thread;
 use std::thread::Threads;
 use std::time::{Clock, Duration};
-use tasks_run::run_shared;
 
-/// A file of two bytes, a lane that asks for it, and a lane that asks for a name that isn't there.
+/// A file of two bytes, a lane that asks for it, and a lane that asks for a missing name.
 const SCRIPT: &[u8] = b"file 61 6869\nlane\nstat 61\nlane\nstat 62\n";
 
-/// What is written where the first lane's request was sent first: ATTRS with the size, and STATUS of SSH_FX_NO_SUCH_FILE without texts.
+/// The text that is written if the first lane's request was sent first: ATTRS with the size, and STATUS of
+/// SSH_FX_NO_SUCH_FILE without texts.
 const FIRST: &[u8] = b"> stat 0000000161
 > stat 0000000162
 < attrs 000000010000000000000002
@@ -34,7 +36,7 @@ lane 1 call 0 refused sftp 2
 file 61 6869
 ";
 
-/// And where it was sent second.
+/// The text that is written if it was sent second.
 const SECOND: &[u8] = b"> stat 0000000162
 > stat 0000000161
 < status 000000020000000000000000
@@ -44,16 +46,16 @@ lane 1 call 0 refused sftp 2
 file 61 6869
 ";
 
-/// The bytes of the hello; the server offers no limits, which would be asked for.
+/// The length of the hello in bytes. The server offers no limits, which would be asked for.
 const HELLO: u64 = 9;
 
-/// And those of the two requests behind it, 14 bytes each.
+/// The length of the hello and the two requests after it, 14 bytes each.
 const ALL: u64 = 37;
 
-/// How often a wait looks at the gate, a millisecond apart.
+/// The number of times that a wait checks the gate, a millisecond apart.
 const TURNS: u32 = 10000;
 
-/// How many bytes were sent.
+/// The number of bytes that were sent.
 #[derive(Drop)]
 struct Gate {
     sent: Mutex<u64>,
@@ -67,7 +69,7 @@ impl Gate {
         drop(sent);
     }
 
-    /// Whether a request was sent, and not both.
+    /// Returns true if a request was sent, and not both.
     fn is_shut<R: Wait>(&self, rt: &R) -> bool {
         let sent = self.sent.lock(rt);
         let shut = *sent > HELLO && *sent < ALL;
@@ -75,7 +77,7 @@ impl Gate {
         shut
     }
 
-    /// Waits while it is shut, and answers whether it opened in time.
+    /// Waits while the gate is shut, and returns true if it opened in time.
     fn pass<R: Wait + Clock>(&self, rt: &R) -> bool {
         for _ in 0..TURNS {
             if !self.is_shut(rt) {
@@ -95,7 +97,8 @@ struct CountedOut<L, R> {
     gate: Arc<Gate, Global>,
 }
 
-/// A half from which bytes come, which waits at the gate first. Where that doesn't open in time it answers the end. It tells no bytes.
+/// A half from which bytes come, which waits at the gate first. If the gate doesn't open in time, it reports the end.
+/// It records no bytes.
 #[derive(Drop)]
 struct HeldIn<L, R> {
     half: L,
@@ -144,13 +147,13 @@ impl<L: LinkIn, R: Wait + Clock> LinkIn for HeldIn<L, R> {
     }
 }
 
-/// The halves of a server in memory with a gate between them.
+/// Returns the halves of a server in memory with a gate between them.
 fn held_halves<R: Wait + Clone + Drop>(
     rt: &R,
     alloc: Global,
     server: MapServer,
 ) -> Result<(CountedOut<MapOut<R>, R>, HeldIn<MapIn<R>, R>), OutOfMemory>
-    ensures { IfOk result (λ halves. (halves.0.half ≡ untouched) × (halves.1.half ≡ untouched) × (halves.1.ended ≡ false)) }
+    ensures { IfOk result (λ halves. (halves.0.half ≡ fresh_half) × (halves.1.half ≡ fresh_half) × (halves.1.ended ≡ false)) }
 {
     let (out, input) = SharedMap::split(rt, alloc, server)?;
     let gate = Arc::new(
@@ -174,7 +177,7 @@ fn held_halves<R: Wait + Clone + Drop>(
     Ok((out, input))
 }
 
-/// A server in memory whose halves have a gate between them, and are kept once they are put back.
+/// A server in memory whose halves have a gate between them, and are kept after they are put back.
 #[derive(Drop)]
 struct HeldPair<R: Drop> {
     back: Option<(CountedOut<MapOut<R>, R>, HeldIn<MapIn<R>, R>)>,
@@ -210,7 +213,7 @@ impl<R: Wait + Clock + Clone + Drop + Send + Sync> Pair<R> for HeldPair<R> {
     }
 }
 
-/// Whether each request stands before the first reply.
+/// Returns true if each request comes before the first reply.
 fn requests_come_first(journal: &[Entry]) -> bool {
     let mut taken = false;
     for entry in journal {
@@ -227,7 +230,7 @@ fn requests_come_first(journal: &[Entry]) -> bool {
     true
 }
 
-/// Whether the one outcome is attributes with a size of two bytes.
+/// Returns true if the one outcome is attributes with a size of two bytes.
 fn is_two_bytes(outcomes: &[Outcome]) -> bool {
     match outcomes {
         [Outcome::Meta(attrs)] => attrs.size == Some(2),
@@ -235,7 +238,7 @@ fn is_two_bytes(outcomes: &[Outcome]) -> bool {
     }
 }
 
-/// Whether the one outcome is the refusal of a name that isn't there.
+/// Returns true if the one outcome is the refusal of a missing name.
 fn is_no_such_file(outcomes: &[Outcome]) -> bool {
     match outcomes {
         [Outcome::Refused(Error::SftpError { code, .. })] => *code == 2,
@@ -243,7 +246,7 @@ fn is_no_such_file(outcomes: &[Outcome]) -> bool {
     }
 }
 
-/// Whether the outcomes of the two lanes are those of the file, and of the name that isn't there.
+/// Returns true if the outcomes of the two lanes are those of the file, and of the missing name.
 fn outcomes_are_right(outcomes: &[Items<Outcome>]) -> bool {
     match outcomes {
         [first, second] => is_two_bytes(first.as_slice()) && is_no_such_file(second.as_slice()),
@@ -251,8 +254,8 @@ fn outcomes_are_right(outcomes: &[Items<Outcome>]) -> bool {
     }
 }
 
-/// Whether the lists of the lanes come first, each with a request, an end and the letting go; then those of the home seat, which has
-/// none, of the worker that sends and of the one that reads.
+/// Returns true if the lists of the lanes come first, each with a request, an end and the release of the lane. Then
+/// come those of the home seat, which has none, of the worker that sends and of the one that reads.
 fn lanes_come_first(lists: &[Vec<Receipt>]) -> bool {
     match lists {
         [first, second, home, _, _] => first.len() == 3 && second.len() == 3 && home.is_empty(),
@@ -260,7 +263,8 @@ fn lanes_come_first(lists: &[Vec<Receipt>]) -> bool {
     }
 }
 
-/// Whether a report has the requests first, the right outcomes, and the lists of the lanes first.
+/// Returns three flags: the report has the requests first, it has the right outcomes, and it has the lists of the lanes
+/// first.
 fn is_right(report: &SharedReport) -> (bool, bool, bool) {
     (
         requests_come_first(report.journal.as_slice()),
@@ -269,7 +273,7 @@ fn is_right(report: &SharedReport) -> (bool, bool, bool) {
     )
 }
 
-/// What is right of the report of a run of a script's lanes over two halves.
+/// Runs a script's lanes over two halves, and returns the checks of the report.
 fn run<O: LinkOut + Send + Drop, I: LinkIn + Send + Drop, R: Threads + Wait + Clock + Sync>(
     rt: &R,
     alloc: Global,
@@ -290,8 +294,8 @@ fn run<O: LinkOut + Send + Drop, I: LinkIn + Send + Drop, R: Threads + Wait + Cl
     }
 }
 
-/// The first reply is held back until the second request was sent, so that both requests stand before it, and the run ends with both
-/// outcomes.
+/// Checks that the first reply is held back until the second request was sent, so both requests come before it, and the
+/// run ends with both outcomes.
 #[test]
 fn first_reply_is_held_back(rt: HostRuntime) -> Result<(), Fail> {
     let Ok(script) = read_script(rt.alloc(), SCRIPT) else {
@@ -304,7 +308,7 @@ fn first_reply_is_held_back(rt: HostRuntime) -> Result<(), Fail> {
     Ok(())
 }
 
-/// The status, and whether the text is that of one of the two orders.
+/// Returns the status, and true if the text is that of one of the two orders.
 fn share_over<P: Pair<R>, R: Threads + Wait + Clock + Sync>(
     rt: &R,
     alloc: Global,
@@ -317,7 +321,7 @@ fn share_over<P: Pair<R>, R: Threads + Wait + Clock + Sync>(
     Ok((status, *sink.bytes() == *FIRST || *sink.bytes() == *SECOND))
 }
 
-/// The same through the program: both requests are written before both replies, in one order or the other.
+/// Checks the same through the program: both requests are written before both replies, in one order or the other.
 #[test]
 fn share_over_held_halves(rt: HostRuntime) -> Result<(), Fail> {
     let mut pair = HeldPair { back: None };

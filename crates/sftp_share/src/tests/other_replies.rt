@@ -1,10 +1,11 @@
-//! A pair whose halves give other replies than the machine. Frames are laid out by draft-ietf-secsh-filexfer-02, sections 3 to 7.
+//! Tests of a pair whose halves return other replies than the machine; frames are laid out by
+//! draft-ietf-secsh-filexfer-02, sections 3 to 7.
 ghost use Rattle.std.specs.Prelude.{◌≡◌, ◌<◌, ◌-◌, ◌^◌};
 
 use crate::share;
+use machine_halves::{MapServer, Pair};
 use sftp_link::{MemorySink, MemorySource, Scripted, ScriptedLink};
 use sftp_values::ByteText;
-use shared_map::{MapServer, Pair};
 use ssh_encoding::OutOfMemory;
 use std::alloc::Global;
 use std::sync::Wait;
@@ -17,30 +18,30 @@ const REPLIES: &[u8] = &[
     0, 0, 0, 5, 2, 0, 0, 0, 3, 0, 0, 0, 9, 105, 0, 0, 0, 0, 0, 0, 0, 0,
 ];
 
-/// What comes where VERSION and one reply are awaited, and the line that is written then.
+/// The bytes that come when VERSION and one reply are awaited, and the line that is written then.
 const ERRORS: &[(&[u8], &[u8])] = &[
-    // nothing
+    // No bytes.
     (&[], b"error LinkEnded\n"),
-    // a part of VERSION
+    // A part of VERSION.
     (&[0, 0, 0, 5, 2, 0], b"error LinkEnded\n"),
-    // VERSION 2
+    // VERSION 2.
     (
         &[0, 0, 0, 5, 2, 0, 0, 0, 2],
         b"error UnsupportedSftpProtocol\n",
     ),
-    // VERSION 3, and ATTRS that end within the flags
+    // VERSION 3, and ATTRS that end within the flags.
     (
         &[0, 0, 0, 5, 2, 0, 0, 0, 3, 0, 0, 0, 6, 105, 0, 0, 0, 0, 1],
         b"error FormatError\n",
     ),
-    // VERSION 3, and ATTRS to the id 7, which no request has
+    // VERSION 3, and ATTRS to the id 7, which no request has.
     (
         &[
             0, 0, 0, 5, 2, 0, 0, 0, 3, 0, 0, 0, 9, 105, 0, 0, 0, 7, 0, 0, 0, 0,
         ],
         b"error InvalidResponseId\n",
     ),
-    // VERSION 3, and a HANDLE to STAT
+    // VERSION 3, and a HANDLE to STAT.
     (
         &[
             0, 0, 0, 5, 2, 0, 0, 0, 3, 0, 0, 0, 10, 102, 0, 0, 0, 0, 0, 0, 0, 1, 97,
@@ -49,7 +50,7 @@ const ERRORS: &[(&[u8], &[u8])] = &[
     ),
 ];
 
-/// Two halves of which the one takes all that it is sent, and the other gives these bytes.
+/// Two halves: one takes everything that it is sent, and the other returns these bytes.
 #[derive(Drop)]
 struct OneReply {
     replies: Vec<u8>,
@@ -59,7 +60,7 @@ struct OneReply {
 impl<R: Wait> Pair<R> for OneReply {
     ghost use Rattle.std.specs.Option.{option_map};
     ghost use Rattle.sftp_link.specs.Views.{play_view};
-    ghost use Rattle.shared_map.specs.Halves.{halves_of};
+    ghost use Rattle.machine_halves.specs.Halves.{halves_of};
 
     type Out = ScriptedLink;
 
@@ -85,8 +86,8 @@ impl<R: Wait> Pair<R> for OneReply {
     }
 }
 
-/// A file that isn't there has attributes by the reply that was taken: the machine's STATUS of NO_SUCH_FILE stands in the last
-/// line, and the status is 7.
+/// Checks a missing file that has attributes by the reply that was taken: the machine's STATUS of NO_SUCH_FILE is in
+/// the last line, and the status is 7.
 #[test]
 fn a_reply_that_differs(rt: HostRuntime) -> Result<(), Fail> {
     let alloc = rt.alloc();
@@ -106,7 +107,7 @@ fn a_reply_that_differs(rt: HostRuntime) -> Result<(), Fail> {
     Ok(())
 }
 
-/// Whether a run over halves that give these bytes has the status 1, and just this line is written.
+/// Returns true if a run over halves that return these bytes has the status 1, and exactly this line is written.
 fn stops_by<R: Threads + Wait + Clock + Sync>(
     rt: &R,
     alloc: Global,
@@ -124,7 +125,7 @@ fn stops_by<R: Threads + Wait + Clock + Sync>(
     Ok(status == 1 && *sink.bytes() == *line)
 }
 
-/// An error of a worker stops the run, and its name is written.
+/// Checks that an error of a worker stops the run, and that its name is written.
 #[test]
 fn errors_stop_a_run(rt: HostRuntime) -> Result<(), Fail> {
     for (replies, line) in ERRORS {

@@ -1,13 +1,13 @@
-//! A pair of which one half has no memory to send.
+//! Tests of a pair of which one half has no memory for sending.
 use crate::share;
+use machine_halves::{MapServer, Pair};
 use sftp_link::{DeviceError, LinkOut, LinkState, MemorySink, MemorySource, ScriptedLink};
-use shared_map::{MapServer, Pair};
 use ssh_encoding::OutOfMemory;
 use std::alloc::Global;
 use std::sync::Wait;
 use std::test::Fail;
 
-/// A half that has no memory to send anything.
+/// A half that has no memory for sending anything.
 #[derive(Drop)]
 struct StarvedOut;
 
@@ -62,7 +62,7 @@ impl<R: Wait> Pair<R> for StarvedPair {
     }
 }
 
-/// Where memory is wanting in a run the status is 5, nothing is written, and the pair has its halves back.
+/// Checks that the status is 5, nothing is written, and the pair has its halves back if an allocation fails in a run.
 #[test]
 fn halves_are_put_back(rt: HostRuntime) -> Result<(), Fail> {
     let alloc = rt.alloc();

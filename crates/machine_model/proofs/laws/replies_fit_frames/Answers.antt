@@ -4,6 +4,8 @@ use Rattle.machine_model.proofs.laws.replies_fit_frames.Goals as goal
 
 pub returns : goal.returns
 returns c = record {
-  fits = λ tree config r choice handle fit le lt g. says_fit _ (tree_replies tree config r choice handle fit le lt g).said;
-  within = λ tree config r choice handle id fit le lt g. body_within _ id (tree_replies tree config r choice handle fit le lt g).said;
+  fits = λ tree config r choice handle fit le lt g. says_fit _
+      (tree_replies tree config r choice handle fit le lt g).said;
+  within = λ tree config r choice handle id fit le lt g. body_within _ id
+      (tree_replies tree config r choice handle fit le lt g).said;
 }

@@ -1,5 +1,5 @@
 use Rattle.std.proofs.Common.{◌≡◌, ◌++◌, length}
-use Rattle.sftp_wire.specs.Body.{Grows}
+use Rattle.sftp_wire.specs.Body.{AppendsBytes}
 use Rattle.mirror_jobs.specs.Verdicts.{verdict_lines}
 use Rattle.mirror_jobs.proofs.text.put_lines.Given as goal
 
@@ -8,7 +8,7 @@ abbrev pub invariant-loop-rest : goal.invariant-loop-rest
 invariant-loop-rest l =
     record {
       left : l.out.items ++ verdict_lines l.rest l.said ≡ l.initial.out.items ++ verdict_lines l.jobs l.verdicts;
-      grows : Grows l.initial.out.items l.out.items;
+      grows : AppendsBytes l.initial.out.items l.out.items;
     }
 
 abbrev pub decreases-loop-rest : goal.decreases-loop-rest

@@ -5,4 +5,5 @@ use Rattle.mirror_jobs.proofs.turns.push_takes.Given as goal
 
 -- the turns that are left complete all of them
 abbrev pub invariant-loop-k : goal.invariant-loop-k
-invariant-loop-k l = l.turns.items ++ replicate (l.width - l._k) turn.Take ≡ l.initial.turns.items ++ replicate l.width turn.Take
+invariant-loop-k l = l.turns.items ++ replicate (l.width - l._k) turn.Take ≡ l.initial.turns.items
+    ++ replicate l.width turn.Take

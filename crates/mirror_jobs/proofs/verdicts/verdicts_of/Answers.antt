@@ -20,10 +20,12 @@ overflow_add-place c =
 pub loop-i-preserved : goal.loop-i-preserved
 loop-i-preserved c =
     let lane : c.loop-i.i % c.args.width < c.args.width = mod-lt c.loop-i.i (omega (arith, c.requires)) in
-    so_far_on c.args.width c.args.jobs.now c.args.outcomes.now c.loop-i.i _ _ _ _ _ _ _ c.loop-i.invariant lane c.loop-i-test.true c.index-jobs-i.is
+    so_far_on c.args.width c.args.jobs.now c.args.outcomes.now c.loop-i.i _ _ _ _ _ _ _ c.loop-i.invariant lane
+    c.loop-i-test.true c.index-jobs-i.is
     c.index-place.ensures
     (c.in_ok-verdict.ensures ∙ ap (λ (own : List Outcome). verdict_of c.index-jobs-i.result own)
     (c.outcomes_at-own.ensures ∙ (λ k. take (c.count_of-count.ensures.value k)
     (drop c.index-place.result.now (c.outcomes_in.ensures k)))))
-    (λ k. slice_set c.loop-i.places.items (c.loop-i.i % c.args.width) (c.index-place.result.now + c.count_of-count.ensures.value k))
+    (λ k. slice_set c.loop-i.places.items (c.loop-i.i % c.args.width)
+    (c.index-place.result.now + c.count_of-count.ensures.value k))
     c.in_ok-push.ensures.items

@@ -9,7 +9,8 @@ pub returns-clause-goes : goal.returns-clause-goes
 returns-clause-goes c =
     let none : c.in-Buffered.buffer.reading ≡ None = search rules in
     let room : overflows c.in-Buffered.file.offset c.min-len.result ≡ false = search rules in
-    let is_len : c.min-len.result ≡ min (max c.args.n c.in-Buffered.buffer.len) c.args.facts.now.read_len = search rules in
+    let is_len : c.min-len.result ≡ min (max c.args.n c.in-Buffered.buffer.len) c.args.facts.now.read_len = search rules
+    in
     fill_asks c.args.slot c.args.n c.args.place c.in-Buffered.file.offset c.min-len.result c.in-Buffered.file
     c.in-Buffered.buffer c.args.site.now c.set_reading.new.site c.args.facts.now c.requires
     (sym c.slot_of.ensures ∙ c.in-Buffered.is)
@@ -17,7 +18,8 @@ returns-clause-goes c =
 
 pub returns-clause-pends : goal.returns-clause-pends
 returns-clause-pends c q =
-    more_at_most (slots_times q c.args.site.now.slots) (slots_times q c.set_reading.new.site.slots) (maybe c.in-Buffered.buffer.reading q) (one c.args.place q)
+    more_at_most (slots_times q c.args.site.now.slots) (slots_times q c.set_reading.new.site.slots)
+    (maybe c.in-Buffered.buffer.reading q) (one c.args.place q)
     (refilled_times q c.args.site.now c.set_reading.new.site c.args.slot c.in-Buffered.file c.in-Buffered.file
     c.in-Buffered.buffer c.in-Buffered.buffer.bytes (Some c.args.place) c.requires
     (sym c.slot_of.ensures ∙ c.in-Buffered.is)

@@ -1,7 +1,7 @@
 use Rattle.std.proofs.Common.{arith, ◌∙◌, ap, rules, sym, None}
 use Rattle.std.proofs.lemmas.Grind.{common_steps}
 use Rattle.sftp_model.specs.declared.slot.Slot.{Slot}
-use Rattle.plan_runner.specs.Seeks.{rebuffered}
+use Rattle.plan_runner.specs.Seeks.{with_buffer_at}
 use Rattle.plan_runner.proofs.Filling.{reading_gone, reading_over}
 use Rattle.plan_runner.proofs.buffer_read.filled_replied.Goals as goal
 
@@ -22,7 +22,7 @@ returns-in-Content c = record {
   sound = grind (arith, common_steps);
   fewer = reading_over c.args.site.now c.rebuffer.new.site c.args.slot c.in-Buffered.file c.stands_after-moved.result
       c.in-Buffered.field-1 c.in_ok-rest-in-Content.rest c.requires.slot (sym c.slot_of.ensures ∙ c.in-Buffered.is)
-      (c.rebuffer.ensures ∙ ap (λ (x : Slot). rebuffered c.args.slot c.args.site.now x c.stands_after-moved.result
+      (c.rebuffer.ensures ∙ ap (λ (x : Slot). with_buffer_at c.args.slot c.args.site.now x c.stands_after-moved.result
       c.in_ok-rest-in-Content.rest None) (sym c.slot_of.ensures ∙ c.in-Buffered.is));
 }
 

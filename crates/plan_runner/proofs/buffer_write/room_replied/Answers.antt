@@ -45,7 +45,8 @@ returns c = record {
       room_leaves c.args.slot c.args.done c.in-Buffered.file c.in-Buffered.buffer c.args.bytes.now c.args.place
       c.args.site.now c.take_oldest-2.new.site c.settle.new.site c.args.facts.now c.in_ok-deferral.deferral
       c.settle.result
-      c.requires.slot (sym c.slot_of.ensures ∙ c.in-Buffered.is) c.requires.full c.take_oldest-2.ensures.after sent c.settle.ensures.next c.settle.ensures.site;
+      c.requires.slot (sym c.slot_of.ensures ∙ c.in-Buffered.is) c.requires.full c.take_oldest-2.ensures.after sent
+      c.settle.ensures.next c.settle.ensures.site;
   sound = let sent : IsDeferral c.args.slot c.args.done c.in-Buffered.file
       (record c.in-Buffered.buffer { deferred = drop 1 c.in-Buffered.buffer.deferred }) c.args.bytes.now c.args.place
       c.args.facts.now c.in_ok-deferral.deferral
@@ -68,7 +69,8 @@ returns c = record {
       room_pends c.args.slot c.args.done c.in-Buffered.file c.in-Buffered.buffer c.args.bytes.now c.args.place
       c.args.site.now c.take_oldest-2.new.site c.settle.new.site c.args.facts.now c.args.reply
       c.in_ok-deferral.deferral c.settle.result
-      c.requires.slot (sym c.slot_of.ensures ∙ c.in-Buffered.is) c.take_oldest-2.ensures.after sent c.settle.ensures.next c.settle.ensures.site;
+      c.requires.slot (sym c.slot_of.ensures ∙ c.in-Buffered.is) c.take_oldest-2.ensures.after sent
+      c.settle.ensures.next c.settle.ensures.site;
   asks = let sent : IsDeferral c.args.slot c.args.done c.in-Buffered.file
       (record c.in-Buffered.buffer { deferred = drop 1 c.in-Buffered.buffer.deferred }) c.args.bytes.now c.args.place
       c.args.facts.now c.in_ok-deferral.deferral
@@ -79,7 +81,8 @@ returns c = record {
       settled_goes_on c.args.place c.args.slot c.args.done c.in-Buffered.file
       (record c.in-Buffered.buffer { deferred = drop 1 c.in-Buffered.buffer.deferred }) c.args.bytes.now
       c.args.site.now c.settle.new.site c.args.facts.now c.in_ok-deferral.deferral c.settle.result
-      (buffered_held c.args.site.now c.args.slot c.in-Buffered.file c.in-Buffered.buffer (sym c.slot_of.ensures ∙ c.in-Buffered.is)) sent c.settle.ensures.next;
+      (buffered_held c.args.site.now c.args.slot c.in-Buffered.file c.in-Buffered.buffer
+      (sym c.slot_of.ensures ∙ c.in-Buffered.is)) sent c.settle.ensures.next;
   by = search rules;
   err = search rules;
 }

@@ -11,7 +11,8 @@ use Rattle.plan_runner.proofs.buffer_write.send.Goals as goal
 
 pub returns : goal.returns
 returns c = record {
-  goes = let sent : IsDeferral c.args.slot c.args.done c.in-Buffered.file c.in-Buffered.buffer c.args.bytes.now c.args.place
+  goes = let sent : IsDeferral c.args.slot c.args.done c.in-Buffered.file c.in-Buffered.buffer c.args.bytes.now
+      c.args.place
       c.args.facts.now c.in_ok-deferral.deferral
       = subst (λ (w : List (ℕ × ℕ)). IsDeferral c.args.slot c.args.done c.in-Buffered.file
       (record c.in-Buffered.buffer { deferred = w }) c.args.bytes.now c.args.place c.args.facts.now
@@ -21,12 +22,14 @@ returns c = record {
       c.requires.slot (sym c.slot_of.ensures ∙ c.in-Buffered.is)
       (ap (must_wait c.args.facts.now.write_limit) (sym c.as_slice-writes.ensures)
       ∙ (sym c.must_wait.ensures ∙ c.if-must_wait.false)) sent c.settle.ensures.next c.settle.ensures.site;
-  left = let sent : IsDeferral c.args.slot c.args.done c.in-Buffered.file c.in-Buffered.buffer c.args.bytes.now c.args.place
+  left = let sent : IsDeferral c.args.slot c.args.done c.in-Buffered.file c.in-Buffered.buffer c.args.bytes.now
+      c.args.place
       c.args.facts.now c.in_ok-deferral.deferral
       = subst (λ (w : List (ℕ × ℕ)). IsDeferral c.args.slot c.args.done c.in-Buffered.file
       (record c.in-Buffered.buffer { deferred = w }) c.args.bytes.now c.args.place c.args.facts.now
       c.in_ok-deferral.deferral) c.as_slice-writes.ensures c.in_ok-deferral.ensures in
-      settled_leaves c.args.slot c.args.done c.in-Buffered.file c.in-Buffered.buffer c.in-Buffered.buffer c.args.bytes.now
+      settled_leaves c.args.slot c.args.done c.in-Buffered.file c.in-Buffered.buffer c.in-Buffered.buffer
+      c.args.bytes.now
       c.args.place c.args.site.now c.args.site.now c.settle.new.site c.args.facts.now c.in_ok-deferral.deferral
       c.settle.result
       c.requires.slot (sym c.slot_of.ensures ∙ c.in-Buffered.is)
@@ -34,7 +37,8 @@ returns c = record {
       (ap (must_wait c.args.facts.now.write_limit) (sym c.as_slice-writes.ensures)
       ∙ (sym c.must_wait.ensures ∙ c.if-must_wait.false)))
       (λ x. refl) sent c.settle.ensures.next c.settle.ensures.site;
-  sound = let sent : IsDeferral c.args.slot c.args.done c.in-Buffered.file c.in-Buffered.buffer c.args.bytes.now c.args.place
+  sound = let sent : IsDeferral c.args.slot c.args.done c.in-Buffered.file c.in-Buffered.buffer c.args.bytes.now
+      c.args.place
       c.args.facts.now c.in_ok-deferral.deferral
       = subst (λ (w : List (ℕ × ℕ)). IsDeferral c.args.slot c.args.done c.in-Buffered.file
       (record c.in-Buffered.buffer { deferred = w }) c.args.bytes.now c.args.place c.args.facts.now
@@ -44,7 +48,8 @@ returns c = record {
       c.requires.slot c.requires.done (subst (λ (x : Slot). IsWithin c.args.facts.now x)
       (sym c.slot_of.ensures ∙ c.in-Buffered.is) (c.requires.within c.args.slot)) sent c.settle.ensures.next
       c.settle.ensures.site;
-  pends = let sent : IsDeferral c.args.slot c.args.done c.in-Buffered.file c.in-Buffered.buffer c.args.bytes.now c.args.place
+  pends = let sent : IsDeferral c.args.slot c.args.done c.in-Buffered.file c.in-Buffered.buffer c.args.bytes.now
+      c.args.place
       c.args.facts.now c.in_ok-deferral.deferral
       = subst (λ (w : List (ℕ × ℕ)). IsDeferral c.args.slot c.args.done c.in-Buffered.file
       (record c.in-Buffered.buffer { deferred = w }) c.args.bytes.now c.args.place c.args.facts.now
@@ -52,24 +57,29 @@ returns c = record {
       settled_pends (pends_idle c.args.site.now) c.args.slot c.args.done c.in-Buffered.file c.in-Buffered.buffer
       c.args.bytes.now c.args.place c.args.site.now c.settle.new.site c.args.facts.now c.in_ok-deferral.deferral
       c.settle.result
-      c.requires.slot (sym c.slot_of.ensures ∙ c.in-Buffered.is) (λ q. at_most_self (slots_times q c.args.site.now.slots))
+      c.requires.slot (sym c.slot_of.ensures ∙ c.in-Buffered.is)
+      (λ q. at_most_self (slots_times q c.args.site.now.slots))
       sent c.settle.ensures.next c.settle.ensures.site;
-  asks = let sent : IsDeferral c.args.slot c.args.done c.in-Buffered.file c.in-Buffered.buffer c.args.bytes.now c.args.place
+  asks = let sent : IsDeferral c.args.slot c.args.done c.in-Buffered.file c.in-Buffered.buffer c.args.bytes.now
+      c.args.place
       c.args.facts.now c.in_ok-deferral.deferral
       = subst (λ (w : List (ℕ × ℕ)). IsDeferral c.args.slot c.args.done c.in-Buffered.file
       (record c.in-Buffered.buffer { deferred = w }) c.args.bytes.now c.args.place c.args.facts.now
       c.in_ok-deferral.deferral) c.as_slice-writes.ensures c.in_ok-deferral.ensures in
       settled_begins c.args.place c.args.slot c.args.done c.in-Buffered.file c.in-Buffered.buffer c.args.bytes.now
       c.args.site.now c.settle.new.site c.args.facts.now c.in_ok-deferral.deferral c.settle.result
-      (buffered_held c.args.site.now c.args.slot c.in-Buffered.file c.in-Buffered.buffer (sym c.slot_of.ensures ∙ c.in-Buffered.is)) sent c.settle.ensures.next;
-  goes_on = let sent : IsDeferral c.args.slot c.args.done c.in-Buffered.file c.in-Buffered.buffer c.args.bytes.now c.args.place
+      (buffered_held c.args.site.now c.args.slot c.in-Buffered.file c.in-Buffered.buffer
+      (sym c.slot_of.ensures ∙ c.in-Buffered.is)) sent c.settle.ensures.next;
+  goes_on = let sent : IsDeferral c.args.slot c.args.done c.in-Buffered.file c.in-Buffered.buffer c.args.bytes.now
+      c.args.place
       c.args.facts.now c.in_ok-deferral.deferral
       = subst (λ (w : List (ℕ × ℕ)). IsDeferral c.args.slot c.args.done c.in-Buffered.file
       (record c.in-Buffered.buffer { deferred = w }) c.args.bytes.now c.args.place c.args.facts.now
       c.in_ok-deferral.deferral) c.as_slice-writes.ensures c.in_ok-deferral.ensures in
       settled_goes_on c.args.place c.args.slot c.args.done c.in-Buffered.file c.in-Buffered.buffer c.args.bytes.now
       c.args.site.now c.settle.new.site c.args.facts.now c.in_ok-deferral.deferral c.settle.result
-      (buffered_held c.args.site.now c.args.slot c.in-Buffered.file c.in-Buffered.buffer (sym c.slot_of.ensures ∙ c.in-Buffered.is)) sent c.settle.ensures.next;
+      (buffered_held c.args.site.now c.args.slot c.in-Buffered.file c.in-Buffered.buffer
+      (sym c.slot_of.ensures ∙ c.in-Buffered.is)) sent c.settle.ensures.next;
   err = search rules;
 }
 
@@ -83,7 +93,8 @@ returns-then-must_wait c = record {
   goes_on = (
     room_looks c.args.slot c.args.facts.now.write_limit c.args.done c.in-Buffered.file c.in-Buffered.buffer
         c.args.site.now (sym c.slot_of.ensures ∙ c.in-Buffered.is)
-        (ap (must_wait c.args.facts.now.write_limit) (sym c.as_slice-writes.ensures) ∙ (sym c.must_wait.ensures ∙ c.if-must_wait.true)),
+        (ap (must_wait c.args.facts.now.write_limit) (sym c.as_slice-writes.ensures)
+        ∙ (sym c.must_wait.ensures ∙ c.if-must_wait.true)),
     inl (λ y. tt),
   );
   err = search rules;

@@ -12,7 +12,8 @@ returns c bytes = record {
       content_goes c.args.slot c.args.file c.args.got c.in_ok-all.all c.args.content c.len-count.result c.args.left
       c.saturating_sub-rest.result c.args.place bytes c.args.site.now c.set_slot.new.site c.args.facts.now
       c.read_rest-next.result
-      c.len-count.ensures.value (search rules) less c.set_slot.ensures (c.read_rest-next.ensures.goes c.set_slot.new.site bytes);
+      c.len-count.ensures.value (search rules) less c.set_slot.ensures
+      (c.read_rest-next.ensures.goes c.set_slot.new.site bytes);
   left = leaves_moved (Some c.args.slot) (c.args.file.offset + c.len-count.result) c.args.site.now c.set_slot.new.site
       c.args.facts.now c.args.file c.args.place bytes c.read_rest-next.result c.requires.kept c.set_slot.ensures
       c.read_rest-next.ensures.asks
@@ -20,14 +21,17 @@ returns c bytes = record {
       (c.args.file.offset + c.len-count.result) c.args.site.now c.set_slot.new.site c.requires.kept
       c.set_slot.ensures));
   sound = (
-    keeps_kept c.args.facts.now (Some c.args.slot) c.args.file (c.args.file.offset + c.len-count.result) c.args.site.now c.set_slot.new.site c.set_slot.ensures,
+    keeps_kept c.args.facts.now (Some c.args.slot) c.args.file (c.args.file.offset + c.len-count.result) c.args.site.now
+        c.set_slot.new.site c.set_slot.ensures,
     (c.read_rest-next.ensures.sound c.set_slot.new.site bytes (kept_there (Some c.args.slot) c.args.file
         (c.args.file.offset + c.len-count.result) c.args.site.now c.set_slot.new.site c.requires.kept
         c.set_slot.ensures)).1,
   );
-  pends = kept_pends (Some c.args.slot) c.args.awaited c.args.file (c.args.file.offset + c.len-count.result) c.args.place
+  pends = kept_pends (Some c.args.slot) c.args.awaited c.args.file (c.args.file.offset + c.len-count.result)
+      c.args.place
       c.args.site.now c.set_slot.new.site c.read_rest-next.result c.requires.kept c.set_slot.ensures
       (c.read_rest-next.ensures.pends c.set_slot.new.site);
-  asks = c.read_rest-next.ensures.grants c.args.site.now None (inl (file_held c.args.site.now c.args.slot c.args.file c.requires.kept.1));
+  asks = c.read_rest-next.ensures.grants c.args.site.now None
+      (inl (file_held c.args.site.now c.args.slot c.args.file c.requires.kept.1));
   err = search rules;
 }

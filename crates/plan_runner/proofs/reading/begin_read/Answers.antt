@@ -8,5 +8,6 @@ returns c = record {
   left = search rules;
   sound = search rules;
   pends = search rules;
-  asks = read_asks c.args.place c.args.slot c.min-len.result c.in-File.file c.args.site.now (sym c.slot_of.ensures ∙ c.in-File.is);
+  asks = read_asks c.args.place c.args.slot c.min-len.result c.in-File.file c.args.site.now
+      (sym c.slot_of.ensures ∙ c.in-File.is);
 }

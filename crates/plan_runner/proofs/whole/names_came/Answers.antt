@@ -24,7 +24,8 @@ pub returns-clause-pends : goal.returns-clause-pends
 returns-clause-pends c = pends_less (pends_idle c.args.site.now)
     (pends_after (running.Listing c.args.awaited c.args.grant c.args.got c.args.bound) c.args.site.now
     (Some (reply.Names c.args.names))) c.args.place c.args.site.now c.list_rest.result
-    (λ q. taken_off (one c.args.awaited q) (slots_times q c.args.site.now.slots)) (c.list_rest.ensures.pends c.args.site.now)
+    (λ q. taken_off (one c.args.awaited q) (slots_times q c.args.site.now.slots))
+    (c.list_rest.ensures.pends c.args.site.now)
 
 pub returns-clause-asks : goal.returns-clause-asks
 returns-clause-asks c = c.list_rest.ensures.asks c.args.site.now

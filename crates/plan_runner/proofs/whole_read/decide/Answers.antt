@@ -8,7 +8,8 @@ pub returns-in_ok-window-in-Ask : goal.returns-in_ok-window-in-Ask
 returns-in_ok-window-in-Ask c bytes site = record {
   goes = ask_widens c.args.grant c.args.bound c.args.window
       c.in_ok-window-in-Ask.window c.args.place c.in-Ask.offset c.in-Ask.len bytes site c.args.facts.now
-      (λ handle s. c.in_ok-offset.ensures.goes handle s ∙ ap (move_by handle s) c.in-Ask.is) c.in_ok-window-in-Ask.ensures.is;
+      (λ handle s. c.in_ok-offset.ensures.goes handle s ∙ ap (move_by handle s) c.in-Ask.is)
+      c.in_ok-window-in-Ask.ensures.is;
   left = search rules;
   sound = search rules;
   pends = ask_pends c.args.grant c.args.bound c.args.window

@@ -3,8 +3,7 @@ use Rattle.std.specs.Prelude.{◌||◌, IfOk}
 use Rattle.sftp_model.specs.declared.outcome.Outcome.{Outcome}
 use Rattle.sftp_model.specs.Answers.{is_end_of_file}
 use Rattle.plan_model.specs.WindowPlans.{brings_content}
-use Rattle.plan_window.specs.Windows.{Window}
-use Rattle.plan_window.specs.Windows.{first_of}
+use Rattle.plan_window.specs.Windows.{Window, first_of}
 use Rattle.plan_runner.specs.declared.next.Next.TheVariants as step
 use Rattle.plan_runner.specs.declared.next.Running.TheVariants as running
 use Rattle.plan_runner.specs.Runners.{RunsByPlan, after}

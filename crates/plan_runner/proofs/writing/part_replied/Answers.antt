@@ -23,14 +23,17 @@ returns c = record {
       (kept_there c.args.slot c.args.file (c.args.file.offset + c.min-len.result) c.args.site.now c.keep.new.site
       c.requires.kept c.keep.ensures));
   sound = (
-    keeps_kept c.args.facts.now c.args.slot c.args.file (c.args.file.offset + c.min-len.result) c.args.site.now c.keep.new.site c.keep.ensures,
+    keeps_kept c.args.facts.now c.args.slot c.args.file (c.args.file.offset + c.min-len.result) c.args.site.now
+        c.keep.new.site c.keep.ensures,
     (c.in_ok-next.ensures.sound c.keep.new.site (kept_there c.args.slot c.args.file
         (c.args.file.offset + c.min-len.result) c.args.site.now c.keep.new.site c.requires.kept c.keep.ensures)).1,
   );
   pends = kept_pends c.args.slot c.args.awaited c.args.file (c.args.file.offset + c.min-len.result)
       c.args.place c.args.site.now c.keep.new.site c.in_ok-next.next c.requires.kept c.keep.ensures
       (c.in_ok-next.ensures.pends c.keep.new.site);
-  asks = c.in_ok-next.ensures.asks.grants c.args.site.now (opened_by (running.Writing c.args.awaited c.args.slot c.args.file c.args.done))
-      (kept_has c.args.slot c.args.file (c.args.file.offset + c.min-len.result) c.args.site.now c.args.awaited c.args.done c.requires.kept);
+  asks = c.in_ok-next.ensures.asks.grants c.args.site.now (opened_by
+      (running.Writing c.args.awaited c.args.slot c.args.file c.args.done))
+      (kept_has c.args.slot c.args.file (c.args.file.offset + c.min-len.result) c.args.site.now c.args.awaited
+      c.args.done c.requires.kept);
   err = search rules;
 }

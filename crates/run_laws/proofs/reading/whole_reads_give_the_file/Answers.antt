@@ -6,7 +6,8 @@ use Rattle.run_laws.proofs.reading.whole_reads_give_the_file.Goals as goal
 
 pub returns : goal.returns
 returns c = record {
-  gives = λ config answers name path bytes bound site facts later ended tree first steps chosen well_formed has one denotes stands e.
+  gives = λ config answers name path bytes bound site facts later ended tree first steps chosen well_formed has one
+      denotes stands e.
       gives_all ended bytes (whole_reads RefusesNone config answers name path bytes bound site facts later ended tree
       first steps unrefused_feigns chosen well_formed has one denotes stands e);
   refused = λ config answers name path bound site facts later ended tree first steps chosen none one denotes served e.

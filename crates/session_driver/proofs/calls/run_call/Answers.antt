@@ -11,4 +11,7 @@ returns-in-Ok g c = record {
 }
 
 pub returns-in-Err : goal.returns-in-Err
-returns-in-Err g c = record { ongoing = no_memory (call_of c.args.lane c.args.call) _ _ _ (inl refl) (unmoved_self _ _ c.in-Err.ensures.left) }
+returns-in-Err g c = record {
+  ongoing = no_memory (call_of c.args.lane c.args.call) _ _ _ (inl refl)
+      (unmoved_self _ _ c.in-Err.ensures.unchanged);
+}

@@ -1,7 +1,7 @@
 use Rattle.std.proofs.Common.{◌∙◌, ap}
-use Rattle.sftp_model.specs.Pieces.{joined}
+use Rattle.sftp_model.specs.Pieces.{joined_pieces}
 use Rattle.session_driver.proofs.Greeting.{hello_fails, no_hello, version_fails, version_refused}
-use Rattle.session_exchange.proofs.Joining.{escaped}
+use Rattle.link_frames.proofs.Joining.{escaped}
 use Rattle.session_driver.proofs.opening.greet.Goals as goal
 
 pub returns-in-Err-clause-stops : goal.returns-in-Err-clause-stops
@@ -10,7 +10,8 @@ returns-in-Err-clause-stops g c = no_hello _ _ _ c.requires.fresh c.in-Err.ensur
 pub returns-in_err-send_pieces-clause-stops : goal.returns-in_err-send_pieces-clause-stops
 returns-in_err-send_pieces-clause-stops g c =
     rw (escaped c.from_residual.result c.in_err-send_pieces.field-0.0 c.from_residual.ensures.1)
-    (hello_fails _ _ _ _ _ _ c.requires.fresh c.in-Ok.ensures.now (ap joined c.pieces.ensures ∙ c.in-Ok.ensures.ok)
+    (hello_fails _ _ _ _ _ _ c.requires.fresh c.in-Ok.ensures.now
+    (ap joined_pieces c.pieces.ensures ∙ c.in-Ok.ensures.ok)
     c.in_err-send_pieces.ensures)
 
 pub returns-in_err-reader-clause-stops : goal.returns-in_err-reader-clause-stops
@@ -18,14 +19,15 @@ returns-in_err-reader-clause-stops g c =
     rw (escaped c.from_residual-in_err-reader.result c.in_err-reader.field-0.0 c.from_residual-in_err-reader.ensures.1)
     (rw c.give_back.ensures.same
     (version_fails _ (g.X.RunsLanes.seen c.greet.new.self) _ _ _ _ _ tt c.requires.fresh c.in-Ok.ensures.now
-    (ap joined c.pieces.ensures ∙ c.in-Ok.ensures.ok) c.in_ok-send_pieces.ensures c.in_err-reader.ensures.stops
+    (ap joined_pieces c.pieces.ensures ∙ c.in-Ok.ensures.ok) c.in_ok-send_pieces.ensures c.in_err-reader.ensures.stops
     c.in_err-reader.ensures.caused))
 
 pub returns-clause-stops : goal.returns-clause-stops
 returns-clause-stops g c =
     rw c.refused.ensures.error
     (version_refused _ (g.X.RunsLanes.seen c.greet.new.self) _ _ _ _ _ c.in-Some.body.now _ c.in-Err-take_version.e tt
-    c.requires.fresh c.in-Ok.ensures.now (ap joined c.pieces.ensures ∙ c.in-Ok.ensures.ok) c.in_ok-send_pieces.ensures
+    c.requires.fresh c.in-Ok.ensures.now (ap joined_pieces c.pieces.ensures ∙ c.in-Ok.ensures.ok)
+    c.in_ok-send_pieces.ensures
     c.in_ok-reader.ensures.whole.prefix c.in-Some.ensures.spelled.0 c.in-Some.ensures.spelled.1
     c.in-Err-take_version.ensures.refused (rw c.give_back.ensures.same at c.in-Err-take_version.ensures.left)
     c.in_ok-reader.ensures.log)

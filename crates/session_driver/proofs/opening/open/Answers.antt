@@ -1,11 +1,12 @@
 use Rattle.std.proofs.Common.{inl}
 use Rattle.session_driver.proofs.Asking.{asked_stops}
-use Rattle.session_exchange.proofs.Joining.{escaped}
+use Rattle.link_frames.proofs.Joining.{escaped}
 use Rattle.session_driver.proofs.opening.open.Goals as goal
 
 pub returns-in_err-greet-clause-stops : goal.returns-in_err-greet-clause-stops
 returns-in_err-greet-clause-stops g c =
-    rw (escaped c.from_residual.result c.in_err-greet.field-0.0 c.from_residual.ensures.1) (inl c.in_err-greet.ensures.stops)
+    rw (escaped c.from_residual.result c.in_err-greet.field-0.0 c.from_residual.ensures.1)
+    (inl c.in_err-greet.ensures.stops)
 
 pub returns-in-true-clause-stops : goal.returns-in-true-clause-stops
 returns-in-true-clause-stops g c =

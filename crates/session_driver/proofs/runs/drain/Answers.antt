@@ -1,5 +1,5 @@
 use Rattle.std.proofs.Common.{◌<◌, ℕ, subst, arith}
-use Rattle.session_exchange.proofs.Joining.{escaped}
+use Rattle.link_frames.proofs.Joining.{escaped}
 use Rattle.session_driver.proofs.Loops.{drains_begin, drains_next, drains_fail, drains_done}
 use Rattle.session_driver.proofs.runs.drain.Goals as goal
 
@@ -19,4 +19,7 @@ loop-alloc-preserved g c = drains_next (subst (λ (n : ℕ). 0 < n) c.unanswered
     c.loop-alloc.invariant c.in_ok-one_drain.ensures.ongoing
 
 pub returns : goal.returns
-returns g c = record { ongoing = drains_done (let f = c.loop-alloc-test.false in let e = c.unanswered.ensures in omega (arith, f, e)) c.loop-alloc.invariant }
+returns g c = record {
+  ongoing = drains_done (let f = c.loop-alloc-test.false in let e = c.unanswered.ensures in
+      omega (arith, f, e)) c.loop-alloc.invariant;
+}

@@ -1,4 +1,4 @@
-use Rattle.session_exchange.proofs.Joining.{escaped}
+use Rattle.link_frames.proofs.Joining.{escaped}
 use Rattle.session_driver.proofs.Rounds.{not_done}
 use Rattle.session_driver.proofs.Loops.{lane_begin, lane_next, lane_fail}
 use Rattle.session_driver.proofs.runs.end_lane.Goals as goal

@@ -1,5 +1,5 @@
 use Rattle.std.proofs.Common.{◌<◌, ℕ, subst, arith}
-use Rattle.session_exchange.proofs.Joining.{escaped}
+use Rattle.link_frames.proofs.Joining.{escaped}
 use Rattle.session_driver.proofs.Loops.{ends_begin, ends_next, ends_fail, ends_done}
 use Rattle.session_driver.proofs.runs.end_lanes.Goals as goal
 

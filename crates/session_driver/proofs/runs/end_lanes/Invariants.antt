@@ -1,8 +1,9 @@
 use Rattle.std.proofs.Common.{Ok}
-use Rattle.session_driver.specs.Ongoing.{Ongoing, at}
+use Rattle.session_driver.specs.Ongoing.{RunsPart, run_state}
 use Rattle.session_driver.proofs.Rounds.{first_ends}
 use Rattle.session_driver.proofs.runs.end_lanes.Given as goal
 
 abbrev pub invariant-loop-lane : goal.invariant-loop-lane
-invariant-loop-lane g l = Ongoing (first_ends l.lane) (at (g.X.RunsLanes.seen l.initial.session)
-    (g.L.LinkState.state l.initial.link)) (at (g.X.RunsLanes.seen l.session) (g.L.LinkState.state l.link)) (Ok tt)
+invariant-loop-lane g l = RunsPart (first_ends l.lane) (run_state (g.X.RunsLanes.seen l.initial.session)
+    (g.L.LinkState.state l.initial.link)) (run_state (g.X.RunsLanes.seen l.session) (g.L.LinkState.state l.link))
+    (Ok tt)

@@ -1,6 +1,6 @@
 use Rattle.session_model.specs.declared.turn.Turn.TheVariants as turn
 use Rattle.std.proofs.Common.{[], ◌∷◌}
-use Rattle.session_exchange.proofs.Joining.{escaped}
+use Rattle.link_frames.proofs.Joining.{escaped}
 use Rattle.session_driver.proofs.Loops.{first_fails, first_then, last_is}
 use Rattle.session_driver.proofs.runs.one_drain.Goals as goal
 
@@ -10,4 +10,5 @@ returns-in_err-flush_turn-clause-ongoing g c =
     (first_fails turn.Flush (turn.Take ∷ []) c.in_err-flush_turn.ensures.ongoing)
 
 pub returns-clause-ongoing : goal.returns-clause-ongoing
-returns-clause-ongoing g c = first_then turn.Flush (turn.Take ∷ []) c.in_ok-flush_turn.ensures.ongoing (last_is turn.Take c.take_turn.ensures.ongoing)
+returns-clause-ongoing g c = first_then turn.Flush (turn.Take ∷ []) c.in_ok-flush_turn.ensures.ongoing
+    (last_is turn.Take c.take_turn.ensures.ongoing)

@@ -1,6 +1,6 @@
 use Rattle.session_model.specs.declared.turn.Turn.TheVariants as turn
 use Rattle.std.proofs.Common.{[], ◌∷◌}
-use Rattle.session_exchange.proofs.Joining.{escaped}
+use Rattle.link_frames.proofs.Joining.{escaped}
 use Rattle.session_driver.proofs.Loops.{first_fails, first_then, last_is}
 use Rattle.session_driver.proofs.runs.one_round.Goals as goal
 
@@ -11,7 +11,8 @@ returns-in_err-step_turn-clause-ongoing g c =
 
 pub returns-in_err-flush_turn-clause-ongoing : goal.returns-in_err-flush_turn-clause-ongoing
 returns-in_err-flush_turn-clause-ongoing g c =
-    rw (escaped c.from_residual-in_err-flush_turn.result c.in_err-flush_turn.field-0.0 c.from_residual-in_err-flush_turn.ensures.1)
+    rw (escaped c.from_residual-in_err-flush_turn.result c.in_err-flush_turn.field-0.0
+    c.from_residual-in_err-flush_turn.ensures.1)
     (first_then (turn.Step c.args.lane) (turn.Flush ∷ turn.Take ∷ []) c.in_ok-step_turn.ensures.ongoing
     (first_fails turn.Flush (turn.Take ∷ []) c.in_err-flush_turn.ensures.ongoing))
 

@@ -1,5 +1,5 @@
 use Rattle.std.proofs.lemmas.List.{take_more}
-use Rattle.session_exchange.proofs.Joining.{escaped}
+use Rattle.link_frames.proofs.Joining.{escaped}
 use Rattle.session_driver.proofs.Loops.{turns_begin, turns_next, turns_fail}
 use Rattle.session_driver.proofs.runs.run_turns.Goals as goal
 

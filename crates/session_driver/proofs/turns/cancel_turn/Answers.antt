@@ -18,4 +18,7 @@ returns-in-Ok-false g c = record {
 }
 
 pub returns-in-Err : goal.returns-in-Err
-returns-in-Err g c = record { ongoing = no_memory (turn_of (turn.Cancel c.args.lane)) _ _ _ (inl refl) c.in-Err.ensures.left }
+returns-in-Err g c = record {
+  ongoing = no_memory (turn_of (turn.Cancel c.args.lane)) _ _ _ (inl refl)
+      c.in-Err.ensures.left;
+}

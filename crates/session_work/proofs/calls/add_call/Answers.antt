@@ -16,11 +16,11 @@ returns-clause-added c =
     c.set.ensures ∙ (λ i. slice_set (c.replace-was.ensures.after i) c.args.lane (record { calls = calls i }))
     ∙ with_call_set lanes c.args.lane c.args.call was _ c.replace-was.ensures.answer) c.push_last-added.ensures.last
 
-pub returns-clause-left : goal.returns-clause-left
-returns-clause-left c =
+pub returns-clause-unchanged : goal.returns-clause-unchanged
+returns-clause-unchanged c =
     let lanes : List Lane = c.args.lanes.now in
     let was : Lane = c.replace-was.result in
     on_err c.push_last-added.result _ (c.set.new.self ≡ lanes)
     (λ left. let calls : c.new-3.result ≡ was.calls = c.new-3.ensures ∙ left ∙ c.into_vec-calls.ensures in
     c.set.ensures ∙ (λ i. slice_set (c.replace-was.ensures.after i) c.args.lane (record { calls = calls i }))
-    ∙ set_back lanes c.args.lane _ was c.replace-was.ensures.answer) c.push_last-added.ensures.left
+    ∙ set_back lanes c.args.lane _ was c.replace-was.ensures.answer) c.push_last-added.ensures.unchanged

@@ -3,4 +3,5 @@ use Rattle.std.specs.Prelude.{replicate, vec_capacity, vec_len}
 use Rattle.session_work.proofs.reports.empty_lists.Given as goal
 
 abbrev pub invariant-loop : goal.invariant-loop
-invariant-loop l = (l.lists.items ≡ replicate l.counter []) × (vec_len l.lists ≡ l.counter) × (l.count ≤ vec_capacity l.lists)
+invariant-loop l = (l.lists.items ≡ replicate l.counter []) × (vec_len l.lists ≡ l.counter)
+    × (l.count ≤ vec_capacity l.lists)

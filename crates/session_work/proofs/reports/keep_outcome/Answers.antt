@@ -18,11 +18,11 @@ returns-clause-kept c =
     c.set.ensures ∙ (λ i. slice_set (emptied i) c.args.lane (list i))
     ∙ put_back lists c.args.lane was c.args.outcome c.replace.ensures.answer) c.push_last-kept.ensures.last
 
-pub returns-clause-left : goal.returns-clause-left
-returns-clause-left c =
+pub returns-clause-unchanged : goal.returns-clause-unchanged
+returns-clause-unchanged c =
     let lists : List (List Outcome) = c.args.lists.now in
     let was : List Outcome = c.replace.result in
     on_err c.push_last-kept.result _ (c.set.new.self ≡ lists)
     (λ left. let list : c.new-3.result ≡ was = c.new-3.ensures ∙ left ∙ c.into_vec-list.ensures in
     c.set.ensures ∙ (λ i. slice_set (c.replace.ensures.after i) c.args.lane (list i))
-    ∙ set_back lists c.args.lane _ was c.replace.ensures.answer) c.push_last-kept.ensures.left
+    ∙ set_back lists c.args.lane _ was c.replace.ensures.answer) c.push_last-kept.ensures.unchanged

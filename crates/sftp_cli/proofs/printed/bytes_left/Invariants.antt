@@ -1,7 +1,7 @@
 use Rattle.std.proofs.Common.{◌≡◌}
-use Rattle.sftp_bulk.specs.Summary.{limited}
+use Rattle.sftp_cli.specs.Summary.{capped_at_u64}
 use Rattle.sftp_cli.proofs.Files.{file_lens_below}
 use Rattle.sftp_cli.proofs.printed.bytes_left.Given as goal
 
 abbrev pub invariant-loop-k : goal.invariant-loop-k
-invariant-loop-k l = l.count ≡ limited (file_lens_below l.server.now.state.machine.tree l.k)
+invariant-loop-k l = l.count ≡ capped_at_u64 (file_lens_below l.server.now.state.machine.tree l.k)

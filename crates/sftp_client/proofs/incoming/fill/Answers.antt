@@ -10,9 +10,11 @@ pub returns-in-Ok-eq0 : goal.returns-in-Ok-eq0
 returns-in-Ok-eq0 g c = record {
   fills = subst (λ (n : ℕ). FillsPart {T = Unit {0}} n (take c.args.filled.now c.args.room.now)
       (take c.loop-filled.filled (put_from c.loop-filled.room c.loop-filled.filled c.recv.new.room))
-      (g.L.LinkState.state c.args.link.now) (g.L.LinkState.state c.recv.new.self) (Err error.LinkEnded)) c.loop-filled.invariant.same
+      (g.L.LinkState.state c.args.link.now) (g.L.LinkState.state c.recv.new.self) (Err error.LinkEnded))
+      c.loop-filled.invariant.same
       (filled_to_end _ c.loop-filled.room c.recv.new.room c.loop-filled.filled c.loop-filled.invariant.within
-      c.loop-filled-test.true c.loop-filled.invariant.so (rw (c.in-Ok-eq0.is, c.in-Ok-eq0.field-0-test) at c.recv.ensures));
+      c.loop-filled-test.true c.loop-filled.invariant.so (rw (c.in-Ok-eq0.is, c.in-Ok-eq0.field-0-test) at
+      c.recv.ensures));
   within = search rules;
 }
 

@@ -7,7 +7,8 @@ use Rattle.sftp_client.proofs.outgoing.send_from.Given as goal
 abbrev pub invariant-loop-piece : goal.invariant-loop-piece
 invariant-loop-piece g l = record {
   at : IsAt (Some l.pieces) l.piece l.offset;
-  so : SentSoFar (unsent_from (Some l.pieces) l.initial.piece l.initial.offset) (unsent_from (Some l.pieces) l.piece l.offset)
+  so : SentSoFar (unsent_from (Some l.pieces) l.initial.piece l.initial.offset)
+      (unsent_from (Some l.pieces) l.piece l.offset)
       (g.L.LinkState.state l.initial.link) (g.L.LinkState.state l.link);
 }
 

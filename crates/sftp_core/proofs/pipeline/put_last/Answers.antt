@@ -22,11 +22,23 @@ overflow_add-more-2 c =
 pub returns-clause-ok : goal.returns-clause-ok
 returns-clause-ok c =
     let free : fin.get c.args.table.now c.in_ok-id.id ≡ None = search rules in
-    let kept : c.insert.new.self ≡ fin.insert c.args.table.now c.in_ok-id.id (Waiting c.of.result false c.args.wanted) = search rules in
-    let reserved : vec_len c.reserve.new.self + (c.owing.result + c.owing-2.result + 1) ≤ vec_capacity c.reserve.new.self = search rules in
-    let more = count-insert_new is_owing c.args.table.now c.in_ok-id.id (Waiting c.of.result false c.args.wanted) free in
-    let capacity : vec_len c.push_reserved.new.queue + count is_owing c.insert.new.self ≤ vec_capacity c.push_reserved.new.queue = rw kept
-    (omega (arith, more, reserved, c.owing.ensures, c.owing-2.ensures, c.push_reserved.ensures.len, c.push_reserved.ensures.grows)) in
+    let kept : c.insert.new.self ≡ fin.insert c.args.table.now c.in_ok-id.id (Waiting c.of.result false c.args.wanted) =
+    search rules in
+    let reserved : vec_len c.reserve.new.self + (c.owing.result + c.owing-2.result + 1) ≤ vec_capacity
+    c.reserve.new.self = search rules in
+    let more = count-insert_new is_owing c.args.table.now c.in_ok-id.id (Waiting c.of.result false c.args.wanted) free
+    in
+    let capacity : vec_len c.push_reserved.new.queue + count is_owing c.insert.new.self ≤ vec_capacity
+    c.push_reserved.new.queue = rw kept
+    (omega (
+      arith,
+      more,
+      reserved,
+      c.owing.ensures,
+      c.owing-2.ensures,
+      c.push_reserved.ensures.len,
+      c.push_reserved.ensures.grows,
+    )) in
     record {
       free = free;
       first = search rules;

@@ -5,8 +5,10 @@ use Rattle.sftp_file.proofs.slices.take_io_slices.Goals as goal
 
 pub returns-then-left-len : goal.returns-then-left-len
 returns-then-left-len c =
-    subst (λ (n : ℕ). IsCutOff c.args.bufs.now c.args.limit (Some (c.args.limit, n, c.in_ok-slice.field-0))) (sym c.loop-piece.invariant.0)
-    (cut_off c.args.bufs.now c.loop-piece.piece-index c.piece-item.result c.in_ok-slice.field-0 c.loop-piece.left c.args.limit
+    subst (λ (n : ℕ). IsCutOff c.args.bufs.now c.args.limit (Some (c.args.limit, n, c.in_ok-slice.field-0)))
+    (sym c.loop-piece.invariant.0)
+    (cut_off c.args.bufs.now c.loop-piece.piece-index c.piece-item.result c.in_ok-slice.field-0 c.loop-piece.left
+    c.args.limit
     c.loop-piece-test.true c.piece-item.is c.loop-piece.invariant.1 (search rules) c.requires (search rules))
 
 pub loop-piece-preserved : goal.loop-piece-preserved

@@ -1,10 +1,10 @@
 use Rattle.std.proofs.Common.{refl}
 use Rattle.plan_model.specs.PathPlans.{path_told}
-use Rattle.sftp_file.specs.Tells.{telling}
+use Rattle.sftp_file.specs.Tells.{attrs_meaning}
 use Rattle.sftp_fs.proofs.PathLaws.{starts_from}
 use Rattle.sftp_fs.proofs.asks.ask_attrs.Goals as goal
 
 pub returns : goal.returns
 returns c cwd plan is =
-    starts_from telling path_told c.args.request _ cwd plan c.args.core.now c.ask.new.core c.ask.result
+    starts_from attrs_meaning path_told c.args.request _ cwd plan c.args.core.now c.ask.new.core c.ask.result
     (λ site answers. record { first = refl; rest = λ later. refl; knows = tt }) is c.ask.ensures

@@ -25,5 +25,6 @@ returns-in-Parts c =
     let held : IsWriteHeld c.args.core.now (writing.Parts c.in-Parts.grant c.in-Parts.call) =
     subst (λ (p : Writing). IsWriteHeld c.args.core.now p) is c.requires in
     subst (λ (p : Writing). CancelsWrite c.args.core.now c.close-in-Parts.new.core p) (sym is)
-    (drops_parts c.args.core.now c.cancel-in-Parts.new.core c.close-in-Parts.new.core c.in-Parts.grant c.in-Parts.call held.0 held.1
+    (drops_parts c.args.core.now c.cancel-in-Parts.new.core c.close-in-Parts.new.core c.in-Parts.grant c.in-Parts.call
+    held.0 held.1
     c.cancel-in-Parts.ensures c.close-in-Parts.ensures)

@@ -1,5 +1,5 @@
 use Rattle.std.proofs.Common.{rules, ◌≡◌, Some}
-use Rattle.call_state.proofs.Closing.{closing_ticket}
+use Rattle.plan_state.proofs.Closing.{closing_ticket}
 use Rattle.sftp_fs.proofs.fs_write.close.Goals as goal
 
 pub abandon-requires : goal.abandon-requires

@@ -7,7 +7,8 @@ use Rattle.sftp_fs.proofs.parts.next_part.Goals as goal
 
 pub returns : goal.returns
 returns c =
-    let left : length (drop c.args.done c.args.content.now) ≡ length c.args.content.now - c.args.done = length-drop c.args.done c.args.content.now in
+    let left : length (drop c.args.done c.args.content.now) ≡ length c.args.content.now - c.args.done =
+    length-drop c.args.done c.args.content.now in
     let len : c.min-len.result ≡ part_len c.args.facts.now (drop c.args.done c.args.content.now) = search rules in
     let some : 0 < c.min-len.result = grind (arith, nat_tests) in
     let piece : c.in_ok-slice.field-0 ≡ take c.min-len.result (drop c.args.done c.args.content.now) = search rules in
@@ -19,5 +20,6 @@ returns c =
       done = c.args.done;
       rest = drop c.args.done c.args.content.now;
     }) c.min-len.result c.in_ok-slice.field-0 c.new.result c.copied.result
-    (search rules) (search rules) (search rules) len some (omega (arith, left, c.requires.within, c.len.ensures.value, c.len.ensures.bound))
+    (search rules) (search rules) (search rules) len some (omega
+    (arith, left, c.requires.within, c.len.ensures.value, c.len.ensures.bound))
     piece one

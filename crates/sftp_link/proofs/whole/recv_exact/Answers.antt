@@ -7,7 +7,8 @@ pub returns-in_err-n-clause-log : goal.returns-in_err-n-clause-log
 returns-in_err-n-clause-log g c =
     let p = err_from_is_err_and c.from_residual.result c.from_residual.ensures.1 in
     let some : 0 < length c.recv.new.room = omega arith in
-    rw (p.1) (told_on _ _ _ _ _ _ c.loop-at.invariant.got c.in_err-n.ensures.log (got_less c.loop-at.room c.recv.new.room c.loop-at.at some))
+    rw (p.1) (told_on _ _ _ _ _ _ c.loop-at.invariant.got c.in_err-n.ensures.log
+    (got_less c.loop-at.room c.recv.new.room c.loop-at.at some))
 
 pub returns-then-n-eq0-clause-log : goal.returns-then-n-eq0-clause-log
 returns-then-n-eq0-clause-log g c =

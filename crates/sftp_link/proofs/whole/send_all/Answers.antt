@@ -6,7 +6,8 @@ use Rattle.sftp_link.proofs.whole.send_all.Goals as goal
 pub returns-in_err-at-clause-log : goal.returns-in_err-at-clause-log
 returns-in_err-at-clause-log g c =
     let p = err_from_is_err_and c.from_residual.result c.from_residual.ensures.1 in
-    rw (p.1) (told_on _ _ _ _ _ _ c.loop-at.invariant.sent c.in_err-at.ensures.log (sent_less_before c.args.bytes.now c.loop-at.at c.loop-at-test.true))
+    rw (p.1) (told_on _ _ _ _ _ _ c.loop-at.invariant.sent c.in_err-at.ensures.log
+    (sent_less_before c.args.bytes.now c.loop-at.at c.loop-at-test.true))
 
 pub loop-at-preserved : goal.loop-at-preserved
 loop-at-preserved g c = record {
@@ -14,5 +15,6 @@ loop-at-preserved g c = record {
   faults = search rules;
   service = search rules;
   ended = search rules;
-  sent = told_on _ _ _ _ _ _ c.loop-at.invariant.sent c.in_ok-at.ensures.log (sent_piece c.args.bytes.now c.loop-at.at c.in_ok-at.field-0);
+  sent = told_on _ _ _ _ _ _ c.loop-at.invariant.sent c.in_ok-at.ensures.log
+      (sent_piece c.args.bytes.now c.loop-at.at c.in_ok-at.field-0);
 }

@@ -6,7 +6,8 @@ use Rattle.sftp_link.proofs.whole.write_all.Goals as goal
 pub returns-in_err-at-clause-bytes : goal.returns-in_err-at-clause-bytes
 returns-in_err-at-clause-bytes g c =
     let p = err_from_is_err_and c.from_residual.result c.from_residual.ensures.1 in
-    rw (p.1) (told_on _ _ _ _ _ _ c.loop-at.invariant.2 c.in_err-at.ensures.bytes (went_less_before c.args.bytes.now c.loop-at.at c.loop-at-test.true))
+    rw (p.1) (told_on _ _ _ _ _ _ c.loop-at.invariant.2 c.in_err-at.ensures.bytes
+    (went_less_before c.args.bytes.now c.loop-at.at c.loop-at-test.true))
 
 pub loop-at-preserved : goal.loop-at-preserved
 loop-at-preserved g c = (

@@ -1,6 +1,6 @@
 use Rattle.std.proofs.Common.{◌≡◌, ◌≤◌, Ok, length, rules, subst, sym}
 use Rattle.script_words.specs.Lines.{lines_of, read_by}
-use Rattle.sftp_script.specs.Scripts.{MAX_SCRIPT_LEN}
+use Rattle.script_grammar.specs.Scripts.{MAX_SCRIPT_LEN}
 use Rattle.sftp_mirror.specs.CanCopy.{CanCopy}
 use Rattle.sftp_mirror.specs.Lists.{line_by, nothing_read}
 use Rattle.sftp_mirror.proofs.ListLaws.{draft_can_copy}

@@ -7,5 +7,6 @@ returns-in-Some-unix_schedule g c =
     record {
       end = c.answer_over_link.result;
       is = c.status_of-in-Some-unix_schedule.ensures;
-      so = rw (asked_unix _ _ _ c.in_default.ensures.value c.in-Some-unix_schedule.ensures.value c.path_of.ensures) (c.answer_over_link.ensures, refl);
+      so = rw (asked_unix _ _ _ c.in_default.ensures.value c.in-Some-unix_schedule.ensures.value c.path_of.ensures)
+          (c.answer_over_link.ensures, refl);
     }

@@ -1,5 +1,5 @@
 use Rattle.std.proofs.Common.{rules}
-use Rattle.sftp_link.specs.Told.{Told}
+use Rattle.sftp_link.specs.Told.{IfLogged}
 use Rattle.sftp_serve.specs.Serving.{HaltsAll}
 use Rattle.sftp_serve.specs.Stream.{first_state}
 use Rattle.sftp_serve.proofs.Ends.{serves_stream}
@@ -9,6 +9,7 @@ pub returns-clause-serves : goal.returns-clause-serves
 returns-clause-serves g c =
     let before = g.L.LinkState.state c.args.link.now in
     let now = g.L.LinkState.state c.serve_frames.new.link in
-    let halts : Told (HaltsAll (first_state c.args.machine) c.serve_frames.result now.ended) before.log now.log = search rules in
+    let halts : IfLogged (HaltsAll (first_state c.args.machine) c.serve_frames.result now.ended) before.log now.log =
+    search rules in
     serves_stream (first_state c.args.machine) c.serve_frames.result before now c.serve_frames.ensures.status c.requires
     halts c.serve_frames.ensures.ended c.serve_frames.ensures.fault

@@ -34,6 +34,7 @@ returns-in-Err-clause-took g c =
     c.loop-reader.invariant.good c.need.ensures.need (search rules) in
     record {
       whole = search rules;
-      log = told_stops c.in-Err.e c.loop-reader.reader c.take_some.new.reader _ _ _ _ part c.loop-reader.invariant.goes c.in-Err.ensures.log;
+      log = told_stops c.in-Err.e c.loop-reader.reader c.take_some.new.reader _ _ _ _ part c.loop-reader.invariant.goes
+          c.in-Err.ensures.log;
       cause = search rules;
     }

@@ -1,5 +1,5 @@
 use Rattle.std.proofs.Common.{◌≡◌, ◌++◌}
-use Rattle.program_ends.proofs.Files.{dir_lines_below}
+use Rattle.program_shell.proofs.Files.{dir_lines_below}
 use Rattle.sftp_share.proofs.left.write_dirs.Given as goal
 
 abbrev pub invariant-loop-k : goal.invariant-loop-k

@@ -12,5 +12,6 @@ returns-in_ok-differs-in-Ok-clause-right g c =
 
 pub returns-in_err-differs-in-Ok-clause-starved : goal.returns-in_err-differs-in-Ok-clause-starved
 returns-in_err-differs-in-Ok-clause-starved g c =
-    on_err _ _ (run_back (g.P.Pair.last c.args.pair.now) (g.P.Pair.last c.run_lanes.new.pair) c.args.script.now c.in-Ok.report
+    on_err _ _ (run_back (g.P.Pair.last c.args.pair.now) (g.P.Pair.last c.run_lanes.new.pair) c.args.script.now
+    c.in-Ok.report
     c.in-Ok.ensures.ok)

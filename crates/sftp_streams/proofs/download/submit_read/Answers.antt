@@ -6,4 +6,5 @@ use Rattle.sftp_streams.proofs.download.submit_read.Goals as goal
 pub unreachable-requires : goal.unreachable-requires
 unreachable-requires c =
     never_long c.args.core.now (request.Read c.args.handle c.args.offset c.args.len) c.in-Err-TooLong.field-0
-    (read_is_short c.args.handle c.args.offset c.args.len c.as_bytes-short.ensures.fits) c.in-Err-TooLong.field-0-is c.in-Err-TooLong.ensures.refused
+    (read_is_short c.args.handle c.args.offset c.args.len c.as_bytes-short.ensures.fits) c.in-Err-TooLong.field-0-is
+    c.in-Err-TooLong.ensures.refused

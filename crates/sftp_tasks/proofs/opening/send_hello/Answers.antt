@@ -1,11 +1,11 @@
 use Rattle.std.proofs.Common.{rules, ◌≡◌, ◌∙◌, ap, subst, refl, inl, inr, Ok, Err, List, ℕ, arith}
-use Rattle.session_exchange.specs.Causes.{SentBy}
+use Rattle.link_frames.specs.Causes.{SentBy}
 use Rattle.session_seats.specs.Holds.{no_allowance}
 use Rattle.session_seats.proofs.GrowLaws.{grew_applied}
 use Rattle.session_seats.proofs.HoldLaws.{hold_map}
-use Rattle.sftp_model.specs.Pieces.{joined}
+use Rattle.sftp_model.specs.Pieces.{joined_pieces}
 use Rattle.sftp_tasks.specs.Entries.{by_nothing}
-use Rattle.sftp_tasks.specs.LockedEvents.{tells}
+use Rattle.sftp_tasks.specs.LockedEvents.{tells_written}
 use Rattle.sftp_tasks.specs.Shows.{shown_of}
 use Rattle.sftp_tasks.proofs.OpeningLaws.{hello_handed, hello_none, hello_refused, hello_unwritten, opening_failing, opening_nothing, opening_on, share_kept_by}
 use Rattle.sftp_tasks.proofs.RoundLaws.{noted}
@@ -14,17 +14,21 @@ use Rattle.sftp_tasks.proofs.opening.send_hello.Goals as goal
 pub returns-in-Ok-None-clause-only : goal.returns-in-Ok-None-clause-only
 returns-in-Ok-None-clause-only g c =
     opening_nothing c.args.seat.now.lane _ _
-    (grew_applied shown_of by_nothing c.args.seat.now.lane no_allowance c.args.seat.now.inner.me c.apply-did.new.self.inner.me c.apply-did.ensures.held)
+    (grew_applied shown_of by_nothing c.args.seat.now.lane no_allowance c.args.seat.now.inner.me
+    c.apply-did.new.self.inner.me c.apply-did.ensures.held)
 
 pub returns-in-Ok-None-clause-sends : goal.returns-in-Ok-None-clause-sends
 returns-in-Ok-None-clause-sends g c =
-    let is = c.in-Ok-None.is ∙ ap (λ o. Ok o) c.in-Ok-None.field-0-is in
-    (hello_none c.args.seat.now.inner.me c.apply-did.new.self.inner.me c.apply-did.result.0 is c.apply-did.ensures.held, refl)
+    let is = c.in-Ok-None.is ∙ ap (λ o. Ok o) c.in-Ok-None.field-0-is in (
+      hello_none c.args.seat.now.inner.me c.apply-did.new.self.inner.me c.apply-did.result.0 is c.apply-did.ensures.held,
+      refl,
+    )
 
 pub returns-in-Err-clause-only : goal.returns-in-Err-clause-only
 returns-in-Err-clause-only g c =
     opening_nothing c.args.seat.now.lane _ _
-    (grew_applied shown_of by_nothing c.args.seat.now.lane no_allowance c.args.seat.now.inner.me c.apply-did.new.self.inner.me c.apply-did.ensures.held)
+    (grew_applied shown_of by_nothing c.args.seat.now.lane no_allowance c.args.seat.now.inner.me
+    c.apply-did.new.self.inner.me c.apply-did.ensures.held)
 
 pub returns-in-Err-clause-stops : goal.returns-in-Err-clause-stops
 returns-in-Err-clause-stops g c =
@@ -44,7 +48,8 @@ returns-in-Err-send_pieces-clause-only g c =
     let lane = c.args.seat.now.lane in
     let n = c.apply-did.new.self.inner.me in
     opening_on lane c.apply-did.new.self.lane _ _ _ c.apply-did.ensures.lane
-    (opening_nothing lane _ _ (grew_applied shown_of by_nothing lane no_allowance c.args.seat.now.inner.me n c.apply-did.ensures.held))
+    (opening_nothing lane _ _ (grew_applied shown_of by_nothing lane no_allowance c.args.seat.now.inner.me n
+    c.apply-did.ensures.held))
     (opening_failing c.apply-did.new.self.lane _ _ c.stop.ensures.only)
 
 pub returns-in-Err-send_pieces-clause-stops : goal.returns-in-Err-send_pieces-clause-stops
@@ -59,15 +64,17 @@ returns-in-Err-send_pieces-clause-stops g c =
       mid = n;
       why = c.in-Err-send_pieces.e;
       hands = hold_map shown_of m n h (r.0.hands, r.1);
-      sent = subst (λ (l : List ℕ). SentBy {T = Unit {0}} l (g.O.LinkState.state c.args.out.now) (g.O.LinkState.state c.send_pieces.new.link)
-          (Err c.in-Err-send_pieces.e)) (ap joined pieces ∙ r.0.hello) c.in-Err-send_pieces.ensures;
+      sent = subst (λ (l : List ℕ). SentBy {T = Unit {0}} l (g.O.LinkState.state c.args.out.now)
+          (g.O.LinkState.state c.send_pieces.new.link)
+          (Err c.in-Err-send_pieces.e)) (ap joined_pieces pieces ∙ r.0.hello) c.in-Err-send_pieces.ensures;
       stops = c.stop.ensures.stops;
     }
 
 pub returns-clause-own : goal.returns-clause-own
 returns-clause-own g c =
     let one = share_kept_by 0 c.args.seat.now.inner.me c.apply-did.new.self.inner.me c.apply-did.ensures.held in
-    let two = share_kept_by c.in-Ok-Some.handed.frames c.apply-did.new.self.inner.me c.apply.new.self.inner.me c.apply.ensures.held in (
+    let two = share_kept_by c.in-Ok-Some.handed.frames c.apply-did.new.self.inner.me c.apply.new.self.inner.me
+    c.apply.ensures.held in (
       c.apply.ensures.own ∙ c.apply-did.ensures.own,
       c.apply.ensures.lane ∙ c.apply-did.ensures.lane,
       omega (arith, one, two),
@@ -78,9 +85,11 @@ returns-clause-only g c =
     let lane = c.args.seat.now.lane in
     let n = c.apply-did.new.self.inner.me in
     opening_on lane c.apply-did.new.self.lane _ _ _ c.apply-did.ensures.lane
-    (opening_nothing lane _ _ (grew_applied shown_of by_nothing lane no_allowance c.args.seat.now.inner.me n c.apply-did.ensures.held))
+    (opening_nothing lane _ _ (grew_applied shown_of by_nothing lane no_allowance c.args.seat.now.inner.me n
+    c.apply-did.ensures.held))
     (opening_nothing c.apply-did.new.self.lane _ _
-    (grew_applied shown_of by_nothing c.apply-did.new.self.lane (tells c.in-Ok-Some.handed.frames) n c.apply.new.self.inner.me c.apply.ensures.held))
+    (grew_applied shown_of by_nothing c.apply-did.new.self.lane (tells_written c.in-Ok-Some.handed.frames) n
+    c.apply.new.self.inner.me c.apply.ensures.held))
 
 pub returns-clause-sends : goal.returns-clause-sends
 returns-clause-sends g c =
@@ -94,7 +103,8 @@ returns-clause-sends g c =
       mid = n;
       frames = c.in-Ok-Some.handed.frames;
       hands = hold_map shown_of m n h (r.0.hands, r.0.counts, r.1);
-      sent = subst (λ (l : List ℕ). SentBy {T = Unit {0}} l (g.O.LinkState.state c.args.out.now) (g.O.LinkState.state c.send_pieces.new.link) (Ok tt))
-          (ap joined pieces ∙ r.0.hello) c.in-Ok.ensures;
+      sent = subst (λ (l : List ℕ). SentBy {T = Unit {0}} l (g.O.LinkState.state c.args.out.now)
+          (g.O.LinkState.state c.send_pieces.new.link) (Ok tt))
+          (ap joined_pieces pieces ∙ r.0.hello) c.in-Ok.ensures;
       notes = noted c.apply-did.new.self.lane n c.apply.new.self.inner.me c.apply.ensures.held;
     }

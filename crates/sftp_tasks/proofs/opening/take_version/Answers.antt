@@ -20,12 +20,17 @@ returns-in-Err-clause-stops g c = inl record {
 }
 
 pub returns-clause-own : goal.returns-clause-own
-returns-clause-own g c =
-    (c.apply-did.ensures.own, c.apply-did.ensures.lane, if_ok c.settle.result _ (share_kept_by 0 c.args.seat.now.inner.me c.apply-did.new.self.inner.me c.apply-did.ensures.held))
+returns-clause-own g c = (
+  c.apply-did.ensures.own,
+  c.apply-did.ensures.lane,
+  if_ok c.settle.result _
+      (share_kept_by 0 c.args.seat.now.inner.me c.apply-did.new.self.inner.me c.apply-did.ensures.held),
+)
 
 pub returns-clause-only : goal.returns-clause-only
 returns-clause-only g c =
-    grew_applied shown_of by_opening c.args.seat.now.lane no_allowance c.args.seat.now.inner.me c.apply-did.new.self.inner.me c.apply-did.ensures.held
+    grew_applied shown_of by_opening c.args.seat.now.lane no_allowance c.args.seat.now.inner.me
+    c.apply-did.new.self.inner.me c.apply-did.ensures.held
 
 pub returns-clause-gets : goal.returns-clause-gets
 returns-clause-gets g c =
@@ -34,7 +39,8 @@ returns-clause-gets g c =
     let before = g.I.LinkState.state c.args.input.now in
     let after = g.I.LinkState.state c.read_frame.new.link in
     subst (λ (r : Result (Unit {0}) Error). OnOk r (GetsSomeVersion m n before after)) (sym c.settle.ensures)
-    (version_gets c.apply-did.result.1 m n c.in-Ok.frame before after c.apply-did.result.0 c.in-Ok.ensures.whole c.in-Ok.ensures.log c.in-Ok.ensures.caused
+    (version_gets c.apply-did.result.1 m n c.in-Ok.frame before after c.apply-did.result.0 c.in-Ok.ensures.whole
+    c.in-Ok.ensures.log c.in-Ok.ensures.caused
     c.apply-did.ensures.held).0
 
 pub returns-clause-stops : goal.returns-clause-stops
@@ -44,5 +50,6 @@ returns-clause-stops g c =
     let before = g.I.LinkState.state c.args.input.now in
     let after = g.I.LinkState.state c.read_frame.new.link in
     subst (λ (r : Result (Unit {0}) Error). IfErr r (λ e. VersionStops e m n before after)) (sym c.settle.ensures)
-    (version_gets c.apply-did.result.1 m n c.in-Ok.frame before after c.apply-did.result.0 c.in-Ok.ensures.whole c.in-Ok.ensures.log c.in-Ok.ensures.caused
+    (version_gets c.apply-did.result.1 m n c.in-Ok.frame before after c.apply-did.result.0 c.in-Ok.ensures.whole
+    c.in-Ok.ensures.log c.in-Ok.ensures.caused
     c.apply-did.ensures.held).1

@@ -1,6 +1,6 @@
 use Rattle.std.proofs.Common.{◌∙◌, ap, subst, sym, refl, inl, inr, Ok, true, false, IfOk, IfErr, ℕ, Option, Bool}
 use Rattle.std.specs.Prelude.{Result}
-use Rattle.session_seats.specs.Holds.{Grew, claim_of, no_allowance}
+use Rattle.session_seats.specs.Holds.{AddsEntries, claim_of, no_allowance}
 use Rattle.session_seats.proofs.GrowLaws.{grew_applied}
 use Rattle.sftp_model.specs.declared.error.Error.{Error}
 use Rattle.sftp_tasks.specs.Entries.{by_failing, by_nothing, by_read}
@@ -28,7 +28,8 @@ returns-in-Ok-false-clause-stops g c =
     let is = c.in-Ok-false.is ∙ ap (λ o. Ok o) c.in-Ok-false.field-0-test in
     let nothing = look_false m n before c.apply-may.result.0 is c.apply-may.ensures.held in
     subst (λ (r : Result Bool Error). IfErr r (λ e. ReadStops e m n before before)) (sym c.settle.ensures)
-    (settled_err false c.apply-may.result.1 (λ e. ReadStops e m n before before) (inr (inr (inr (refl, (false, nothing))))))
+    (settled_err false c.apply-may.result.1 (λ e. ReadStops e m n before before)
+    (inr (inr (inr (refl, (false, nothing))))))
 
 pub returns-in-Err-clause-stops : goal.returns-in-Err-clause-stops
 returns-in-Err-clause-stops g c =
@@ -41,7 +42,8 @@ returns-in-Err-read_frame-clause-only g c =
     let n = c.apply-may.new.self.inner.me in
     nothing_then_failing lane _ _ _
     (grew_applied shown_of by_nothing lane no_allowance c.args.seat.now.inner.me n c.apply-may.ensures.held)
-    (subst (λ (l : Option ℕ). Grew (by_failing l) (claim_of n) (claim_of c.stop.new.seat.inner.me)) c.apply-may.ensures.lane c.stop.ensures.only)
+    (subst (λ (l : Option ℕ). AddsEntries (by_failing l) (claim_of n) (claim_of c.stop.new.seat.inner.me))
+    c.apply-may.ensures.lane c.stop.ensures.only)
 
 pub returns-in-Err-read_frame-clause-stops : goal.returns-in-Err-read_frame-clause-stops
 returns-in-Err-read_frame-clause-stops g c =
@@ -67,7 +69,7 @@ returns-in-Err-did-clause-only g c =
     let end = c.apply-did.new.self.inner.me in
     nothing_then_read lane _ _ _
     (grew_applied shown_of by_nothing lane no_allowance c.args.seat.now.inner.me n c.apply-may.ensures.held)
-    (subst (λ (l : Option ℕ). Grew (by_read l) (claim_of n) (claim_of end)) c.apply-may.ensures.lane
+    (subst (λ (l : Option ℕ). AddsEntries (by_read l) (claim_of n) (claim_of end)) c.apply-may.ensures.lane
     (grew_applied shown_of by_read c.apply-may.new.self.lane no_allowance n end c.apply-did.ensures.held))
 
 pub returns-in-Err-did-clause-stops : goal.returns-in-Err-did-clause-stops
@@ -84,7 +86,8 @@ returns-in-Err-did-clause-stops g c =
       looks = looks;
       whole = c.in-Ok.ensures.whole;
       got = c.in-Ok.ensures.log;
-      refuses = refuses_frame n c.apply-did.new.self.inner.me c.in-Ok.frame c.apply-did.result.0 c.in-Err-did.e c.in-Err-did.is c.apply-did.ensures.held;
+      refuses = refuses_frame n c.apply-did.new.self.inner.me c.in-Ok.frame c.apply-did.result.0 c.in-Err-did.e
+          c.in-Err-did.is c.apply-did.ensures.held;
     }))
 
 pub returns-in-Ok-looked-clause-only : goal.returns-in-Ok-looked-clause-only
@@ -94,7 +97,7 @@ returns-in-Ok-looked-clause-only g c =
     let end = c.apply-did.new.self.inner.me in
     nothing_then_read lane _ _ _
     (grew_applied shown_of by_nothing lane no_allowance c.args.seat.now.inner.me n c.apply-may.ensures.held)
-    (subst (λ (l : Option ℕ). Grew (by_read l) (claim_of n) (claim_of end)) c.apply-may.ensures.lane
+    (subst (λ (l : Option ℕ). AddsEntries (by_read l) (claim_of n) (claim_of end)) c.apply-may.ensures.lane
     (grew_applied shown_of by_read c.apply-may.new.self.lane no_allowance n end c.apply-did.ensures.held))
 
 pub returns-in-Ok-looked-clause-reads : goal.returns-in-Ok-looked-clause-reads
@@ -115,7 +118,8 @@ returns-in-Ok-looked-clause-reads g c =
       caused = c.in-Ok.ensures.caused;
       takes = took n end c.in-Ok.frame c.apply-did.result.0 (Ok tt) c.in-Ok-did.is c.apply-did.ensures.held;
     } in
-    subst (λ (r : Result Bool Error). IfOk r (λ did. ReadsRound did m end before after)) (sym c.settle-in-Ok-looked.ensures)
+    subst (λ (r : Result Bool Error). IfOk r (λ did. ReadsRound did m end before after))
+    (sym c.settle-in-Ok-looked.ensures)
     (settled_ok true c.apply-did.result.1 (λ did. ReadsRound did m end before after) reads)
 
 pub returns-in-Ok-looked-clause-stops : goal.returns-in-Ok-looked-clause-stops
@@ -137,7 +141,8 @@ returns-in-Ok-looked-clause-stops g c =
       takes = took n end c.in-Ok.frame c.apply-did.result.0 (Ok tt) c.in-Ok-did.is c.apply-did.ensures.held;
     } in
     subst (λ (r : Result Bool Error). IfErr r (λ e. ReadStops e m end before after)) (sym c.settle-in-Ok-looked.ensures)
-    (settled_err true c.apply-did.result.1 (λ e. ReadStops e m end before after) (inr (inr (inr (refl, (true, reads))))))
+    (settled_err true c.apply-did.result.1 (λ e. ReadStops e m end before after)
+    (inr (inr (inr (refl, (true, reads))))))
 
 pub returns-in-Err-looked-clause-only : goal.returns-in-Err-looked-clause-only
 returns-in-Err-looked-clause-only g c =
@@ -146,7 +151,7 @@ returns-in-Err-looked-clause-only g c =
     let end = c.apply-did.new.self.inner.me in
     nothing_then_read lane _ _ _
     (grew_applied shown_of by_nothing lane no_allowance c.args.seat.now.inner.me n c.apply-may.ensures.held)
-    (subst (λ (l : Option ℕ). Grew (by_read l) (claim_of n) (claim_of end)) c.apply-may.ensures.lane
+    (subst (λ (l : Option ℕ). AddsEntries (by_read l) (claim_of n) (claim_of end)) c.apply-may.ensures.lane
     (grew_applied shown_of by_read c.apply-may.new.self.lane no_allowance n end c.apply-did.ensures.held))
 
 pub returns-in-Err-looked-clause-stops : goal.returns-in-Err-looked-clause-stops

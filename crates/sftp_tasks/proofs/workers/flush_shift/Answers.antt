@@ -1,6 +1,6 @@
 use Rattle.std.proofs.Common.{◌∙◌, ap, subst, refl, inl, inr, Ok, Bool, ℕ, Option}
 use Rattle.std.specs.Prelude.{Result, IfOk, IfErr}
-use Rattle.session_seats.specs.Holds.{Grew, claim_of}
+use Rattle.session_seats.specs.Holds.{AddsEntries, claim_of}
 use Rattle.session_seats.proofs.GrowLaws.{grew_on}
 use Rattle.sftp_model.specs.declared.error.Error.{Error}
 use Rattle.sftp_tasks.specs.Calls.{InOneHold}
@@ -18,7 +18,8 @@ returns-in-Ok-true-clause-shift g c =
     let is = c.in-Ok-true.is ∙ ap (λ o. Ok o) c.in-Ok-true.field-0-test in
     inl (
       refl,
-      subst (λ (r : Result Bool Error). IfOk r (λ did. FlushesRound did c.args.seat.now.inner.me c.flush_round.new.seat.inner.me before after)) is
+      subst (λ (r : Result Bool Error). IfOk r (λ did. FlushesRound did c.args.seat.now.inner.me
+          c.flush_round.new.seat.inner.me before after)) is
           c.flush_round.ensures.flushes,
     )
 
@@ -26,7 +27,8 @@ pub returns-in-Err-clause-shift : goal.returns-in-Err-clause-shift
 returns-in-Err-clause-shift g c =
     let before = g.O.LinkState.state c.args.out.now in
     let after = g.O.LinkState.state c.flush_round.new.out in
-    inl (subst (λ (r : Result Bool Error). IfErr r (λ e. FlushStops e c.args.seat.now.inner.me c.flush_round.new.seat.inner.me before after)) c.in-Err.is
+    inl (subst (λ (r : Result Bool Error). IfErr r (λ e. FlushStops e c.args.seat.now.inner.me
+    c.flush_round.new.seat.inner.me before after)) c.in-Err.is
     c.flush_round.ensures.stops)
 
 pub returns-in-Ok-clause-only : goal.returns-in-Ok-clause-only
@@ -35,7 +37,8 @@ returns-in-Ok-clause-only g c =
     let mid = c.flush_round.new.seat.inner.me in
     let n = c.stage.new.seat.inner.me in
     grew_on (by_flush lane) _ _ _ c.flush_round.ensures.only
-    (nothing_flushes_all lane _ _ (subst (λ (o : Option ℕ). Grew (by_nothing o) (claim_of mid) (claim_of n)) c.flush_round.ensures.own.1 c.stage.ensures.only))
+    (nothing_flushes_all lane _ _ (subst (λ (o : Option ℕ). AddsEntries (by_nothing o) (claim_of mid) (claim_of n))
+    c.flush_round.ensures.own.1 c.stage.ensures.only))
 
 pub returns-in-Err-stage-clause-only : goal.returns-in-Err-stage-clause-only
 returns-in-Err-stage-clause-only g c =
@@ -43,7 +46,8 @@ returns-in-Err-stage-clause-only g c =
     let mid = c.flush_round.new.seat.inner.me in
     let n = c.stage.new.seat.inner.me in
     grew_on (by_flush lane) _ _ _ c.flush_round.ensures.only
-    (nothing_flushes_all lane _ _ (subst (λ (o : Option ℕ). Grew (by_nothing o) (claim_of mid) (claim_of n)) c.flush_round.ensures.own.1 c.stage.ensures.only))
+    (nothing_flushes_all lane _ _ (subst (λ (o : Option ℕ). AddsEntries (by_nothing o) (claim_of mid) (claim_of n))
+    c.flush_round.ensures.own.1 c.stage.ensures.only))
 
 pub returns-in-Ok-clause-shift : goal.returns-in-Ok-clause-shift
 returns-in-Ok-clause-shift g c =
@@ -55,7 +59,8 @@ returns-in-Ok-clause-shift g c =
     let is = c.in-Ok-false.is ∙ ap (λ o. Ok o) c.in-Ok-false.field-0-test in
     let none : SentNone (Ok c.in-Ok.stage) (m, before) (n, after) = record {
       mid = mid;
-      none = subst (λ (r : Result Bool Error). IfOk r (λ did. FlushesRound did m mid before after)) is c.flush_round.ensures.flushes;
+      none = subst (λ (r : Result Bool Error). IfOk r (λ did. FlushesRound did m mid before after)) is
+          c.flush_round.ensures.flushes;
       looks = subst (λ (r : Result ℕ Error). InOneHold TellsStage r mid n) c.in-Ok.is c.stage.ensures.looks;
     } in
     inr (c.in-Ok.stage, (c.over_if.ensures, none))
@@ -70,6 +75,7 @@ returns-in-Err-stage-clause-shift g c =
     let is = c.in-Ok-false.is ∙ ap (λ o. Ok o) c.in-Ok-false.field-0-test in
     inr record {
       mid = mid;
-      none = subst (λ (r : Result Bool Error). IfOk r (λ did. FlushesRound did m mid before after)) is c.flush_round.ensures.flushes;
+      none = subst (λ (r : Result Bool Error). IfOk r (λ did. FlushesRound did m mid before after)) is
+          c.flush_round.ensures.flushes;
       looks = subst (λ (r : Result ℕ Error). InOneHold TellsStage r mid n) c.in-Err-stage.is c.stage.ensures.looks;
     }

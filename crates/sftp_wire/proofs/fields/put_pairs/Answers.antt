@@ -18,4 +18,5 @@ returns-clause-grows c =
     grows_trans _ _ _ c.put_pair.ensures.grows
     (grows_trans _ _ _ c.put_pair-2.ensures.grows
     (grows_trans _ _ _ c.put_pair-3.ensures.grows
-    (grows_trans _ _ _ c.put_pair-4.ensures.grows (grows_trans _ _ _ c.put_pair-5.ensures.grows c.put_pair-6.ensures.grows))))
+    (grows_trans _ _ _ c.put_pair-4.ensures.grows (grows_trans _ _ _ c.put_pair-5.ensures.grows
+    c.put_pair-6.ensures.grows))))

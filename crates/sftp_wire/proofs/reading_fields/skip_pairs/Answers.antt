@@ -22,7 +22,8 @@ returns-in_err-skip_text g c =
 
 pub returns-in_err-skip_text-2 : goal.returns-in_err-skip_text-2
 returns-in_err-skip_text-2 g c =
-    let p = err_from_is_err_and c.from_residual-in_err-skip_text-2.result c.from_residual-in_err-skip_text-2.ensures.1 in
+    let p = err_from_is_err_and c.from_residual-in_err-skip_text-2.result c.from_residual-in_err-skip_text-2.ensures.1
+    in
     rw (p.1, p.2) (elim c.in_err-skip_text-2.ensures [
       | inl m ↦ inl m
       | inr r ↦ inr (ap (λ (x : Result (List ℕ) FrameError). passed_to x)

@@ -5,4 +5,5 @@ use Rattle.sftp_wire.proofs.reading_replies.entries.Given as goal
 
 -- the entries so far and those that are left are all of them
 abbrev pub invariant-loop-i : goal.invariant-loop-i
-invariant-loop-i g l = with_prefix l.entries.items (entries_at (l.count - l.i) (g.R.Reader.left l.reader)) ≡ entries_at l.count (g.R.Reader.left l.fn.reader)
+invariant-loop-i g l = with_prefix l.entries.items (entries_at (l.count - l.i) (g.R.Reader.left l.reader))
+    ≡ entries_at l.count (g.R.Reader.left l.fn.reader)

@@ -6,7 +6,8 @@ use Rattle.ssh_encoding.proofs.decode.decode_exact.Goals as goal
 
 found_from : {T S E : Type 0} (seen : T → S) (memory : E → Type 0) (spells : S → List ℕ → Type 0)
     (reading : List ℕ → Result (S × List ℕ) E) (bytes rest : List ℕ) (r : Result T E)
-    → ((v : S) → IsExact spells reading bytes rest v) → DecodesAs seen memory rest r (reading bytes) → IfOk r (λ v. BeginsWithText (spells (seen v)) bytes rest)
+    → ((v : S) → IsExact spells reading bytes rest v) → DecodesAs seen memory rest r (reading bytes)
+    → IfOk r (λ v. BeginsWithText (spells (seen v)) bytes rest)
 found_from seen memory spells reading bytes rest (Ok v) exact h = (exact (seen v)).takes h
 found_from seen memory spells reading bytes rest (Err e) exact h = tt
 

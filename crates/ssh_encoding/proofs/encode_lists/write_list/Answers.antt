@@ -3,13 +3,15 @@ use Rattle.ssh_encoding.proofs.Parts.{too_long, stops, goes, prefixed_stops, pre
 use Rattle.ssh_encoding.proofs.encode_lists.write_list.Goals as goal
 
 pub returns-in_err-strings_len-clause-writes : goal.returns-in_err-strings_len-clause-writes
-returns-in_err-strings_len-clause-writes g c = too_long _ _ _ _ _ _ c.from_residual.ensures.1 c.in_err-strings_len.ensures
+returns-in_err-strings_len-clause-writes g c = too_long _ _ _ _ _ _ c.from_residual.ensures.1
+    c.in_err-strings_len.ensures
 
 pub returns-in_err-encode-clause-writes : goal.returns-in_err-encode-clause-writes
 unfolding string
 returns-in_err-encode-clause-writes g c =
     let len = c.in_ok-strings_len.ensures in
-    stops _ _ _ _ _ _ _ _ c.from_residual-in_err-encode.ensures.1 (rw len.0 at c.in_err-encode.ensures.writes) (prefixed_stops _ _ _ len.1)
+    stops _ _ _ _ _ _ _ _ c.from_residual-in_err-encode.ensures.1 (rw len.0 at c.in_err-encode.ensures.writes)
+    (prefixed_stops _ _ _ len.1)
 
 pub write_strings-requires : goal.write_strings-requires
 write_strings-requires g c = rw (← c.in_ok-strings_len.ensures.0) (len_fits _ c.in_ok-encode.ensures.writes.1)
@@ -19,4 +21,5 @@ unfolding string
 returns-clause-writes g c =
     let len = c.in_ok-strings_len.ensures in
     let first = rw len.0 at c.in_ok-encode.ensures.writes in
-    goes _ _ _ _ _ _ _ first.0 (rw (prefixed_goes _ _ len.1 first.1) (never_refused _ _ _ _ c.write_strings.ensures.ok c.write_strings.ensures.err))
+    goes _ _ _ _ _ _ _ first.0 (rw (prefixed_goes _ _ len.1 first.1)
+    (never_refused _ _ _ _ c.write_strings.ensures.ok c.write_strings.ensures.err))

@@ -6,7 +6,8 @@ use Rattle.ssh_encoding.proofs.encode_lists.write_strings.Goals as goal
 pub returns-in_err-encode-clause-err : goal.returns-in_err-encode-clause-err
 returns-in_err-encode-clause-err g c =
     let f = g.T.Encode.written in
-    let room = flat_map_room f c.args.items.now c.loop-item.item-index c.item-item.result c.loop-item-test.true c.item-item.is in
+    let room = flat_map_room f c.args.items.now c.loop-item.item-index c.item-item.result c.loop-item-test.true
+    c.item-item.is in
     let none = string_fits _ _ _ (g.met.T.Rfc4251String.is_string c.item-item.result)
     (g.met.T.Rfc4251String.is_refused c.item-item.result) (omega (arith, room, c.requires)) in
     stops_within _ _ _ _ _ _ _ _ _ _ (flat_map_around f c.args.items.now c.loop-item.item-index c.item-item.result

@@ -1,7 +1,7 @@
 use Rattle.std.proofs.Common.{subst, sym}
 use Rattle.std.specs.Prelude.{Result}
 use Rattle.sftp_model.specs.declared.error.Error.{Error}
-use Rattle.call_state.specs.Calls.{CallValue}
+use Rattle.plan_state.specs.Calls.{CallValue}
 use Rattle.transfer_remote.specs.Runs.{FinishesCall}
 use Rattle.transfer_remote.proofs.RunLaws.{finished}
 use Rattle.transfer_remote.proofs.asks.finish.Goals as goal

@@ -1,10 +1,10 @@
 use Rattle.std.proofs.Common.{rules, Ok, subst, sym}
 use Rattle.sftp_model.specs.declared.error.Error.{Error}
-use Rattle.call_state.specs.declared.poll.Poll.TheVariants.{Pending, Ready}
+use Rattle.plan_state.specs.declared.poll.Poll.TheVariants.{Pending, Ready}
 use Rattle.sftp_client.specs.Sessions.{SftpValue, with_core}
 use Rattle.sftp_fs.specs.Listings.{PollsEntries}
-use Rattle.transfer_copier.specs.Sessions.{TookTurn}
-use Rattle.transfer_remote.specs.declared.failure.Failure.{Failure}
+use Rattle.transfer_pool.specs.Sessions.{TookTurn}
+use Rattle.transfer_remote.specs.declared.remote_error.RemoteError.{RemoteError}
 use Rattle.transfer_remote.specs.Listed.{StepTold}
 use Rattle.transfer_remote.proofs.ListLaws.{grown_none, told_given, told_turns, turned_on}
 use Rattle.transfer_remote.proofs.listing.list_step.Goals as goal
@@ -16,7 +16,8 @@ pub returns-in-Ready-clause-told : goal.returns-in-Ready-clause-told
 returns-in-Ready-clause-told g c =
     let lists : PollsEntries c.args.sftp.now.core c.poll_next.new.core c.args.listing.now c.poll_next.new.self
     (Ready c.in-Ready.given) = search rules in
-    subst (λ (s : SftpValue _). StepTold g.L.LinkState.state (record { session = c.args.sftp.now; listing = c.args.listing.now })
+    subst (λ (s : SftpValue _). StepTold g.L.LinkState.state (record
+    { session = c.args.sftp.now; listing = c.args.listing.now })
     (record { session = with_core s c.poll_next.new.core; listing = c.poll_next.new.self }) c.args.walk.now
     c.take_given.new.walk c.take_given.result) (sym c.ready.ensures.same)
     (told_given g.L.LinkState.state c.args.sftp.now c.poll_next.new.core c.args.listing.now c.poll_next.new.self
@@ -24,22 +25,28 @@ returns-in-Ready-clause-told g c =
 
 pub returns-in-Ok-turn-clause-goes : goal.returns-in-Ok-turn-clause-goes
 returns-in-Ok-turn-clause-goes g c =
-    let lists : PollsEntries c.args.sftp.now.core c.poll_next.new.core c.args.listing.now c.poll_next.new.self Pending = search rules in
-    let turned : TookTurn g.L.LinkState.state (with_core c.args.sftp.now c.poll_next.new.core) c.turn.new.sftp c.turn.result = search rules in
+    let lists : PollsEntries c.args.sftp.now.core c.poll_next.new.core c.args.listing.now c.poll_next.new.self Pending =
+    search rules in
+    let turned : TookTurn g.L.LinkState.state (with_core c.args.sftp.now c.poll_next.new.core) c.turn.new.sftp
+    c.turn.result = search rules in
     turned_on g.L.LinkState.state c.args.sftp.now c.poll_next.new.core c.turn.new.sftp c.args.listing.now
     c.poll_next.new.self Pending c.turn.result lists turned
 
 pub returns-in-Ok-turn-clause-told : goal.returns-in-Ok-turn-clause-told
 returns-in-Ok-turn-clause-told g c =
-    let lists : PollsEntries c.args.sftp.now.core c.poll_next.new.core c.args.listing.now c.poll_next.new.self Pending = search rules in
-    let turned : TookTurn {E = Error} g.L.LinkState.state (with_core c.args.sftp.now c.poll_next.new.core) c.turn.new.sftp (Ok tt) = search rules in
-    told_turns Failure g.L.LinkState.state c.args.sftp.now c.poll_next.new.core c.turn.new.sftp c.args.listing.now
+    let lists : PollsEntries c.args.sftp.now.core c.poll_next.new.core c.args.listing.now c.poll_next.new.self Pending =
+    search rules in
+    let turned : TookTurn {E = Error} g.L.LinkState.state (with_core c.args.sftp.now c.poll_next.new.core)
+    c.turn.new.sftp (Ok tt) = search rules in
+    told_turns RemoteError g.L.LinkState.state c.args.sftp.now c.poll_next.new.core c.turn.new.sftp c.args.listing.now
     c.poll_next.new.self c.args.walk.now lists turned
 
 pub returns-in-Err-turn-clause-goes : goal.returns-in-Err-turn-clause-goes
 returns-in-Err-turn-clause-goes g c =
-    let lists : PollsEntries c.args.sftp.now.core c.poll_next.new.core c.args.listing.now c.poll_next.new.self Pending = search rules in
-    let turned : TookTurn g.L.LinkState.state (with_core c.args.sftp.now c.poll_next.new.core) c.turn.new.sftp c.turn.result = search rules in
+    let lists : PollsEntries c.args.sftp.now.core c.poll_next.new.core c.args.listing.now c.poll_next.new.self Pending =
+    search rules in
+    let turned : TookTurn g.L.LinkState.state (with_core c.args.sftp.now c.poll_next.new.core) c.turn.new.sftp
+    c.turn.result = search rules in
     turned_on g.L.LinkState.state c.args.sftp.now c.poll_next.new.core c.turn.new.sftp c.args.listing.now
     c.poll_next.new.self Pending c.turn.result lists turned
 

@@ -1,7 +1,7 @@
 use Rattle.std.proofs.Common.{rules, []}
 use Rattle.sftp_fs.specs.SettingPlans.{set_attrs_next}
 use Rattle.sftp_client.specs.Sessions.{with_core}
-use Rattle.sftp_file.specs.Settles.{settling}
+use Rattle.sftp_file.specs.Settles.{settle_meaning}
 use Rattle.sftp_fs.specs.PathStarts.{StartsFrom}
 use Rattle.transfer_remote.proofs.RunLaws.{ran}
 use Rattle.transfer_remote.specs.Runs.{FinishesCall}
@@ -9,9 +9,13 @@ use Rattle.transfer_remote.proofs.paths.set_remote_attrs.Goals as goal
 
 pub returns-in-Ok : goal.returns-in-Ok
 returns-in-Ok g c =
-    let starts : StartsFrom settling (set_attrs_next c.args.path.now c.args.attrs) [] c.args.sftp.now.core c.start_set_metadata-started.new.core
+    let starts : StartsFrom settle_meaning (set_attrs_next c.args.path.now c.args.attrs) [] c.args.sftp.now.core
+    c.start_set_metadata-started.new.core
     c.start_set_metadata-started.result = search rules in
-    let ends : FinishesCall g.L.LinkState.state settling c.start_set_metadata-started.result
-    (with_core c.args.sftp.now c.start_set_metadata-started.new.core) c.finish.new.sftp c.finish.result = search rules in
-    ran g.L.LinkState.state settling (StartsFrom settling (set_attrs_next c.args.path.now c.args.attrs) []) c.args.sftp.now
-    c.start_set_metadata-started.new.core c.finish.new.sftp c.start_set_metadata-started.result c.finish.result starts ends
+    let ends : FinishesCall g.L.LinkState.state settle_meaning c.start_set_metadata-started.result
+    (with_core c.args.sftp.now c.start_set_metadata-started.new.core) c.finish.new.sftp c.finish.result = search rules
+    in
+    ran g.L.LinkState.state settle_meaning (StartsFrom settle_meaning (set_attrs_next c.args.path.now c.args.attrs) [])
+    c.args.sftp.now
+    c.start_set_metadata-started.new.core c.finish.new.sftp c.start_set_metadata-started.result c.finish.result starts
+    ends

@@ -1,5 +1,5 @@
 use Rattle.std.proofs.Common.{◌≡◌, ◌++◌, length}
-use Rattle.sftp_wire.specs.Body.{Grows}
+use Rattle.sftp_wire.specs.Body.{AppendsBytes}
 use Rattle.view_model.specs.AnswerText.{answer_lines}
 use Rattle.view_model.proofs.text.put_answers.Given as goal
 
@@ -8,7 +8,7 @@ abbrev pub invariant-loop-rest : goal.invariant-loop-rest
 invariant-loop-rest l =
     record {
       left : l.out.items ++ answer_lines l.rest ≡ l.initial.out.items ++ answer_lines l.answers;
-      grows : Grows l.initial.out.items l.out.items;
+      grows : AppendsBytes l.initial.out.items l.out.items;
     }
 
 abbrev pub decreases-loop-rest : goal.decreases-loop-rest

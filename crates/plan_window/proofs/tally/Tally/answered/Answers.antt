@@ -21,5 +21,6 @@ returns c answered is =
     (if brings_content c.args.answer.now.reply then 1 else 0)) (2 ^ 32 - 1) = search rules in
     let reached : c.max.result ≡ max c.args.self.reached (reached_at c.args.answer.now) = search rules in
     let end : c.least_of.result ≡ least_of c.args.self.end (end_at c.args.answer.now) = search rules in
-    let free : c.in_ok-free.free ≡ c.args.self.free ++ free_end c.new.result c.args.waiting.now (data_end c.args.answer.now) = search rules in
+    let free : c.in_ok-free.free ≡ c.args.self.free ++ free_end c.new.result c.args.waiting.now
+    (data_end c.args.answer.now) = search rules in
     tally_more c.args.self new answered c.args.waiting.now c.args.answer.now is more end reached contents free

@@ -11,4 +11,11 @@ pub returns-in-Err : goal.returns-in-Err
 returns-in-Err c =
     let o = open_is _ _ _ _ _ c.self.invariant (rw (← c.self.view_is) at c.requires.open) in
     rw (← c.self.view_is)
-    (record { ok = tt; goes = tt; work = tt; refused = idle_first _ _ _ _ _ _ o c.in-Err.ensures.refused; left = record { holds = refl; past = inl refl } })
+    (record {
+      ok = tt;
+      goes = tt;
+      work = tt;
+      refused = idle_first _ _ _ _ _ _ o c.in-Err.ensures.refused;
+      left =
+          record { holds = refl; past = inl refl };
+    })

@@ -7,10 +7,10 @@ use Rattle.session_model.specs.declared.event.Event.TheVariants.{Take}
 use Rattle.session_model.specs.declared.entry.Entry.{Entry}
 use Rattle.session_model.specs.declared.entry.Entry.TheVariants as entry
 use Rattle.session_model.specs.Journals.{MayTake}
-use Rattle.session_model.specs.Runs.{queried}
+use Rattle.session_model.specs.Runs.{limits_query_sent}
 use Rattle.session_model.specs.Settings.{setting_of}
 use Rattle.session_driver.specs.declared.session.Phase.TheVariants.{Failed, Open}
-use Rattle.session_driver.specs.NoLanes.{offered, setting_in}
+use Rattle.session_driver.specs.NoLanes.{offered_extensions, setting_in}
 use Rattle.session_driver.proofs.Bare.{bare_refused, queried_is, queried_first, came, may_take, opened_later}
 use Rattle.session_driver.proofs.no_lanes.NoLanesRunsLanes.take_limits.Goals as goal
 
@@ -23,8 +23,18 @@ invariant_of-self-in-Ok-Limits c =
     let one : List Entry = entry.Event (Take c.in-Ok-Limits.id c.in-Ok-Limits.reply) ∷ [] in
     let pushed : c.push.new.self.items ≡ c.self.inside.journal.items ++ one = search rules in
     let past : reverse c.push.new.self.items ≡ entry.Event (Take c.in-Ok-Limits.id c.in-Ok-Limits.reply) ∷ reverse
-    c.self.inside.journal.items = ap reverse pushed ∙ reverse-append c.self.inside.journal.items one in
-    (q.0, (q.1.0, record { info = t.info; calm = t.calm; idle = inr (t.reply, past ∙ (λ i. entry.Event (Take (zero i) (same i)) ∷ q.1.3 i)) }))
+    c.self.inside.journal.items = ap reverse pushed ∙ reverse-append c.self.inside.journal.items one in (
+      q.0,
+      (
+        q.1.0,
+        record {
+          info = t.info;
+          calm = t.calm;
+          idle =
+              inr (t.reply, past ∙ (λ i. entry.Event (Take (zero i) (same i)) ∷ q.1.3 i));
+        },
+      ),
+    )
 
 pub returns-in-Ok-Limits-clause-ok : goal.returns-in-Ok-Limits-clause-ok
 returns-in-Ok-Limits-clause-ok c =
@@ -59,16 +69,24 @@ returns-in-Ok-Limits-clause-ok c =
             phase = Open;
             version =
                 c.self.inside.version;
-            past = entry.Event (Take 0 t.reply) ∷ queried 0;
+            past = entry.Event (Take 0 t.reply) ∷ limits_query_sent 0;
           })) t.reply
-          (ap (λ (v : Option Reply). offers_limits (offered v)) q.1.0 ∙ q.1.1) t.goes);
-      fixed = (q.0, (q.1.0, ap (λ (v : Option Reply). setting_of [] c.self.inside.options (offered v) (reverse c.push.new.self.items)) q.1.0));
+          (ap (λ (v : Option Reply). offers_limits (offered_extensions v)) q.1.0 ∙ q.1.1) t.goes);
+      fixed = (
+        q.0,
+        (
+          q.1.0,
+          ap (λ (v : Option Reply). setting_of [] c.self.inside.options (offered_extensions v)
+              (reverse c.push.new.self.items)) q.1.0,
+        ),
+      );
     })
 
 pub returns-in-Err : goal.returns-in-Err
 returns-in-Err c =
     let q = queried_is _ _ _ _ _ c.self.invariant (rw (← c.self.view_is) at c.requires.queried) in
-    let kept : reverse c.reserve.new.self.items ≡ reverse c.self.inside.journal.items = ap reverse c.reserve.ensures.items in
+    let kept : reverse c.reserve.new.self.items ≡ reverse c.self.inside.journal.items =
+    ap reverse c.reserve.ensures.items in
     rw (← c.self.view_is)
     (record {
       ok = tt;
@@ -76,7 +94,18 @@ returns-in-Err c =
       given = refl;
       version = refl;
       left = bare_refused c.in-Err.e
-          (record { options = c.self.inside.options; phase = c.self.inside.phase; version = c.self.inside.version; past = reverse c.self.inside.journal.items })
-          (record { options = c.self.inside.options; phase = Failed; version = c.self.inside.version; past = reverse c.reserve.new.self.items })
+          (record {
+            options = c.self.inside.options;
+            phase = c.self.inside.phase;
+            version = c.self.inside.version;
+            past = reverse c.self.inside.journal.items;
+          })
+          (record {
+            options = c.self.inside.options;
+            phase = Failed;
+            version = c.self.inside.version;
+            past =
+                reverse c.reserve.new.self.items;
+          })
           refl refl kept;
     })

@@ -21,10 +21,12 @@ invariant_of-self-else-is_err g c =
     let m = c.args.self.now.inner.me in
     let n = c.hold-did.new.seat.me in
     let h = c.hold-did.ensures.held in
-    let copied : c.hold-did.new.receipts.items ≡ c.args.self.now.receipts.items ++ made_on (length (g.S.Held.shown h.before).past) h.more = search rules in
+    let copied : c.hold-did.new.receipts.items ≡ c.args.self.now.receipts.items
+    ++ made_on (length (g.S.Held.shown h.before).past) h.more = search rules in
     record {
       free = seat_after g.S.Held.shown m n h;
       named = names_after g.S.Held.shown m n h c.args.self.now.lane c.args.self.now.named;
       shares = c.hold-did.ensures.share;
-      told = λ whole. told_after g.S.Held.shown m n h c.args.self.now.receipts.items c.hold-did.new.receipts.items (c.args.self.now.told whole) copied;
+      told = λ whole. told_after g.S.Held.shown m n h c.args.self.now.receipts.items c.hold-did.new.receipts.items
+          (c.args.self.now.told whole) copied;
     }

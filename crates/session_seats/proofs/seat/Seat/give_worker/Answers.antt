@@ -6,7 +6,8 @@ pub invariant_of-self : goal.invariant_of-self
 invariant_of-self g c =
     let m = c.args.self.now.inner.me in
     let n = c.give_worker.new.from.me in
-    let k = gives_keeps g.S.Held.shown false m n c.give_worker.result.me c.args.self.now.lane c.args.self.now.receipts.items c.give_worker.ensures.given in
+    let k = gives_keeps g.S.Held.shown false m n c.give_worker.result.me c.args.self.now.lane
+    c.args.self.now.receipts.items c.give_worker.ensures.given in
     record {
       free = c.give_worker.ensures.free.0;
       shares = c.args.self.now.shares

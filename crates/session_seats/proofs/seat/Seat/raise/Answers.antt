@@ -6,7 +6,8 @@ pub invariant_of-self : goal.invariant_of-self
 invariant_of-self g c =
     let m = c.args.self.now.inner.me in
     let n = c.raise_with.new.seat.me in
-    let k = raises_keeps g.S.Held.shown c.args.stage m n c.args.self.now.lane c.args.self.now.receipts.items c.raise_with.ensures.raised in
+    let k = raises_keeps g.S.Held.shown c.args.stage m n c.args.self.now.lane c.args.self.now.receipts.items
+    c.raise_with.ensures.raised in
     record {
       free = c.raise_with.ensures.free;
       shares = c.args.self.now.shares ∙ sym c.raise_with.ensures.raised.share;

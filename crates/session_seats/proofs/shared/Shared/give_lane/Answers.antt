@@ -37,8 +37,11 @@ returns-in-Some-clause-own g c =
     let z = c.seat_lane.new.self in
     let s = c.in-Some.ensures.given in
     let is = s.1 ∙ ap (λ y. with_seat true (sh y)) (sym held) in
-    let q-is = c.split_seat-new.ensures.2 in
-    (search rules, is_seat _ _ (gave_seat sh m p h true c.requires.share z is q c.release.new.seat.me q-is c.release.ensures.gave))
+    let q-is = c.split_seat-new.ensures.2 in (
+      search rules,
+      is_seat _ _ (gave_seat sh m p h true c.requires.share z is q c.release.new.seat.me q-is
+          c.release.ensures.gave),
+    )
 
 pub returns-in-Some-clause-given : goal.returns-in-Some-clause-given
 returns-in-Some-clause-given g c =
@@ -56,8 +59,11 @@ returns-in-Some-clause-given g c =
     let w-is = fresh_seat sh m p h true c.requires.share z is w c.split_seat-new.ensures.4 in
     let lane = s.0 ∙ ap (λ y. (sh y).seated) (sym held) in
     let there = subst (λ y. c.in-Some.lane < length (sh y).lanes) (sym held) c.in-Some.ensures.some in
-    let n-is = gave_seat sh m p h true c.requires.share z is q c.release.new.seat.me q-is c.release.ensures.gave in
-    (gives_lane sh m p h z c.requires.share is c.release.new.seat.me w n-is w-is c.in-Some.lane lane there, search rules, is_seat _ _ w-is)
+    let n-is = gave_seat sh m p h true c.requires.share z is q c.release.new.seat.me q-is c.release.ensures.gave in (
+      gives_lane sh m p h z c.requires.share is c.release.new.seat.me w n-is w-is c.in-Some.lane lane there,
+      search rules,
+      is_seat _ _ w-is,
+    )
 
 pub returns-in-None-clause-own : goal.returns-in-None-clause-own
 returns-in-None-clause-own g c =

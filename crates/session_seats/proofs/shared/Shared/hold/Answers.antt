@@ -9,7 +9,8 @@ use Rattle.session_seats.proofs.shared.Shared.hold.Goals as goal
 pub act-did-requires : goal.act-did-requires
 act-did-requires g c =
     let h = c.acquire.ensures.taken in
-    let held = tie g.S.Held.shown c.args.seat.now.me c.acquire.new.seat.me h c.slot_mut-held.result.now c.slot_mut-held.ensures.value in
+    let held = tie g.S.Held.shown c.args.seat.now.me c.acquire.new.seat.me h c.slot_mut-held.result.now
+    c.slot_mut-held.ensures.value in
     subst (λ y. HasUsers (g.E.Event.needs c.args.event) (g.S.Held.shown y)) held
     (has_users g.S.Held.shown c.args.seat.now.me c.acquire.new.seat.me h (g.E.Event.needs c.args.event)
     c.requires.may.1)
@@ -38,11 +39,13 @@ returns-clause-held g c =
     let goes = subst (λ y. GoesByEntries (passes (g.E.Event.only c.args.event) c.args.lane)
     (g.E.Event.needs c.args.event) more (g.S.Held.shown y) (g.S.Held.shown z)) (sym held) c.act-did.ensures.goes.1
     in
-    let does = subst (λ y. g.E.Event.does c.args.event c.args.lane y z c.act-did.result) (sym held) c.act-did.ensures.does in
+    let does = subst (λ y. g.E.Event.does c.args.event c.args.lane y z c.act-did.result) (sym held)
+    c.act-did.ensures.does in
     let past = (g.S.Held.shown h.value).past in
     let from : length c.entries-from.result.now ≡ length past = sym (length-reverse c.entries-from.result.now)
     ∙ ap (λ (l : List Entry). length l) (c.entries-from.ensures ∙ ap (λ y. (g.S.Held.shown y).past) (sym held)) in
-    let is = receipts_on c.entries.result.now more past (length c.entries-from.result.now) (c.entries.ensures ∙ goes.past) from in
+    let is = receipts_on c.entries.result.now more past (length c.entries-from.result.now)
+    (c.entries.ensures ∙ goes.past) from in
     holds g.S.Held.shown c.args.seat.now.me c.acquire.new.seat.me h z c.args.lane
     (g.E.Event.only c.args.event c.args.lane) (g.E.Event.needs c.args.event) more goes
     c.release.new.seat.me _ c.release.ensures.gave
@@ -65,6 +68,8 @@ returns-clause-share g c =
     in
     shares_after g.S.Held.shown c.args.seat.now.me c.acquire.new.seat.me h z
     (passes (g.E.Event.only c.args.event) c.args.lane)
-    (g.E.Event.needs c.args.event) more goes c.requires.may.1 c.release.new.seat.me c.release.ensures.gave c.args.share.now
-    c.users.result c.users-2.result c.requires.is.shares (c.users.ensures ∙ ap (λ y. (g.S.Held.shown y).users) (sym held))
+    (g.E.Event.needs c.args.event) more goes c.requires.may.1 c.release.new.seat.me c.release.ensures.gave
+    c.args.share.now
+    c.users.result c.users-2.result c.requires.is.shares (c.users.ensures
+    ∙ ap (λ y. (g.S.Held.shown y).users) (sym held))
     c.users-2.ensures

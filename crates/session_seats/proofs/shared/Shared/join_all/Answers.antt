@@ -26,7 +26,8 @@ pub join_seat-requires : goal.join_seat-requires
 join_seat-requires g c =
     let i = c.loop-seat.invariant in
     let s = c.in-Some.seat in
-    let steps : into_iter_items c.loop-seat.seat-iterator ≡ s ∷ into_iter_items c.next.new.self = c.in-Some.ensures.steps.0 in
+    let steps : into_iter_items c.loop-seat.seat-iterator ≡ s ∷ into_iter_items c.next.new.self =
+    c.in-Some.ensures.steps.0 in
     let can = c.requires.may.0 in
     let of = subst (AllOf c.args.base.now.table_id) steps i.6 in (
       i.2 ∙ c.requires.own,
@@ -42,14 +43,16 @@ loop-seat-preserved g c =
     let i = c.loop-seat.invariant in
     let s = c.in-Some.seat in
     let at = c.loop-seat in
-    let steps : into_iter_items c.loop-seat.seat-iterator ≡ s ∷ into_iter_items c.next.new.self = c.in-Some.ensures.steps.0 in
+    let steps : into_iter_items c.loop-seat.seat-iterator ≡ s ∷ into_iter_items c.next.new.self =
+    c.in-Some.ensures.steps.0 in
     let gone = c.in-Some.ensures.steps.1 in
     let short = ap (λ l. length l) steps in
     let of = subst (AllOf c.args.base.now.table_id) steps i.6 in (
       append_assoc at.yielded (s ∷ []) _ ∙ rw (← steps) i.0,
       (let was = i.1 in omega arith),
       c.join_seat.ensures.0 ∙ i.2,
-      (λ users claim y is. one_more g.S.Held.shown at.base.me c.join_seat.new.seat.me s users claim y at.yielded (i.3 users claim y is) c.join_seat.ensures.2),
+      (λ users claim y is. one_more g.S.Held.shown at.base.me c.join_seat.new.seat.me s users claim y at.yielded
+          (i.3 users claim y is) c.join_seat.ensures.2),
       c.push_reserved.ensures.items
           ∙ ap (λ (r : List (Vec Receipt Global)). r ++ s.receipts ∷ []) i.4
           ∙ append_assoc c.args.lists.now.items (receipts_of at.yielded) (s.receipts ∷ [])

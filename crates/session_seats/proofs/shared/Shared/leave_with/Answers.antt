@@ -9,8 +9,10 @@ pub leave-last-requires : goal.leave-last-requires
 leave-last-requires g c =
     let sh = g.S.Held.shown in
     let h = c.acquire.ensures.taken in
-    let held = tie sh c.args.seat.now.me c.acquire.new.seat.me h c.slot_mut-held.result.now c.slot_mut-held.ensures.value in
-    subst (λ y. (0 < (sh y).users) × ((sh y).counts.stage ≡ 0)) held (can_leave sh c.args.seat.now.me c.acquire.new.seat.me h c.requires.share)
+    let held = tie sh c.args.seat.now.me c.acquire.new.seat.me h c.slot_mut-held.result.now
+    c.slot_mut-held.ensures.value in
+    subst (λ y. (0 < (sh y).users) × ((sh y).counts.stage ≡ 0)) held
+    (can_leave sh c.args.seat.now.me c.acquire.new.seat.me h c.requires.share)
 
 pub release-requires-clause-held : goal.release-requires-clause-held
 release-requires-clause-held g c =

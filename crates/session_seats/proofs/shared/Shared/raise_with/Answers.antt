@@ -9,8 +9,11 @@ pub raise-requires : goal.raise-requires
 raise-requires g c =
     let sh = g.S.Held.shown in
     let h = c.acquire.ensures.taken in
-    let held = tie sh c.args.seat.now.me c.acquire.new.seat.me h c.slot_mut-held.result.now c.slot_mut-held.ensures.value in
-    (subst (λ y. (sh y).users ≡ 0) held (can_raise sh c.args.seat.now.me c.acquire.new.seat.me h c.requires.may.begun), c.requires.may.low)
+    let held = tie sh c.args.seat.now.me c.acquire.new.seat.me h c.slot_mut-held.result.now
+    c.slot_mut-held.ensures.value in (
+      subst (λ y. (sh y).users ≡ 0) held (can_raise sh c.args.seat.now.me c.acquire.new.seat.me h c.requires.may.begun),
+      c.requires.may.low,
+    )
 
 pub release-requires-clause-held : goal.release-requires-clause-held
 release-requires-clause-held g c =
@@ -20,7 +23,8 @@ release-requires-clause-held g c =
     let h = c.acquire.ensures.taken in
     let z = c.raise.new.self in
     let held = tie sh m p h c.slot_mut-held.result.now c.slot_mut-held.ensures.value in
-    let did = subst (λ y. sh z ≡ with_users (sh y).users (max (sh y).counts.stage c.args.stage) (sh y)) (sym held) c.raise.ensures.raised in
+    let did = subst (λ y. sh z ≡ with_users (sh y).users (max (sh y).counts.stage c.args.stage) (sh y)) (sym held)
+    c.raise.ensures.raised in
     raise_can sh m p h c.requires.may.begun z c.args.stage c.requires.may.low did
 
 pub returns-clause-free : goal.returns-clause-free
@@ -31,7 +35,8 @@ returns-clause-free g c =
     let h = c.acquire.ensures.taken in
     let z = c.raise.new.self in
     let held = tie sh m p h c.slot_mut-held.result.now c.slot_mut-held.ensures.value in
-    let did = subst (λ y. sh z ≡ with_users (sh y).users (max (sh y).counts.stage c.args.stage) (sh y)) (sym held) c.raise.ensures.raised in
+    let did = subst (λ y. sh z ≡ with_users (sh y).users (max (sh y).counts.stage c.args.stage) (sh y)) (sym held)
+    c.raise.ensures.raised in
     is_seat _ _ (turned sh m p h z _ _ did c.release.new.seat.me c.release.ensures.gave)
 
 pub returns-clause-raised : goal.returns-clause-raised
@@ -42,5 +47,7 @@ returns-clause-raised g c =
     let h = c.acquire.ensures.taken in
     let z = c.raise.new.self in
     let held = tie sh m p h c.slot_mut-held.result.now c.slot_mut-held.ensures.value in
-    let did = subst (λ y. sh z ≡ with_users (sh y).users (max (sh y).counts.stage c.args.stage) (sh y)) (sym held) c.raise.ensures.raised in
-    raises sh m p h c.requires.may.begun z c.args.stage c.requires.may.low did c.release.new.seat.me c.release.ensures.gave
+    let did = subst (λ y. sh z ≡ with_users (sh y).users (max (sh y).counts.stage c.args.stage) (sh y)) (sym held)
+    c.raise.ensures.raised in
+    raises sh m p h c.requires.may.begun z c.args.stage c.requires.may.low did c.release.new.seat.me
+    c.release.ensures.gave

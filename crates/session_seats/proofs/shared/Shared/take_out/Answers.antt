@@ -23,8 +23,10 @@ returns-in-Ok-clause-taken g c =
 pub release-requires-clause-held : goal.release-requires-clause-held
 release-requires-clause-held g c =
     let h = c.acquire.ensures.taken in
-    let held = tie g.S.Held.shown c.args.seat.inner.me c.acquire.new.seat.me h c.slot_mut-held.result.now c.slot_mut-held.ensures.value in
-    look_can g.S.Held.shown c.args.seat.inner.me c.acquire.new.seat.me h c.slot_mut-held.result.now (ap g.S.Held.shown (sym held))
+    let held = tie g.S.Held.shown c.args.seat.inner.me c.acquire.new.seat.me h c.slot_mut-held.result.now
+    c.slot_mut-held.ensures.value in
+    look_can g.S.Held.shown c.args.seat.inner.me c.acquire.new.seat.me h c.slot_mut-held.result.now
+    (ap g.S.Held.shown (sym held))
 
 pub invariant_of-seat-in-Err : goal.invariant_of-seat-in-Err
 invariant_of-seat-in-Err g c =
@@ -36,7 +38,13 @@ invariant_of-seat-in-Err g c =
     let held = tie g.S.Held.shown m p h z c.slot_mut-held.ensures.value in
     let l = looked g.S.Held.shown m p n h z (ap g.S.Held.shown (sym held)) c.release.ensures.gave in
     let k = looks_keeps g.S.Held.shown m n c.args.seat.lane c.args.seat.receipts.items l.1 in
-    record { free = is_seat _ _ l.0; named = k.0 c.args.seat.named; shares = c.args.seat.shares ∙ sym l.1.share; told = λ whole. k.1 (c.args.seat.told whole) }
+    record {
+      free = is_seat _ _ l.0;
+      named = k.0 c.args.seat.named;
+      shares = c.args.seat.shares ∙ sym l.1.share;
+      told =
+          λ whole. k.1 (c.args.seat.told whole);
+    }
 
 pub returns-in-Err-clause-kept : goal.returns-in-Err-clause-kept
 returns-in-Err-clause-kept g c =

@@ -4,13 +4,13 @@ use Rattle.sftp_model.specs.declared.outcome.Outcome.TheVariants as outcome
 use Rattle.session_model.specs.declared.event.Event.TheVariants.{Cancel, End}
 use Rattle.session_model.specs.declared.entry.Entry.{Entry}
 use Rattle.session_model.specs.declared.entry.Entry.TheVariants as entry
-use Rattle.session_model.specs.Readings.{ended}
+use Rattle.session_model.specs.Readings.{count_ended}
 use Rattle.session_model.specs.Turns.{begun_but}
 use Rattle.session_laws.specs.Lanes.{LaneValue}
 use Rattle.session_laws.specs.Ends.{GivesUp, cancelled_past}
 use Rattle.session_laws.specs.Rest.{begun_of}
-use Rattle.session_lane.specs.Turning.{LeavesBehind}
-use Rattle.session_work.specs.Closing.{Closing, IsClosed}
+use Rattle.session_work.specs.Turning.{LeavesBehind}
+use Rattle.session_work.specs.Closing.{IsClosingLane, IsClosed}
 use Rattle.session_work.specs.Reports.{with_outcome}
 use Rattle.session_work.specs.Working.{LanesValue, contents_of, lane_in, past_of}
 use Rattle.session_work.proofs.BegunLaws.{begun_at, begun_less}
@@ -26,7 +26,8 @@ returns-then-lane-len-clause-cancels c =
     elim c.then-lane-len.branch [
       | then-lane-len-via-then-lane-len w ↦ (λ s works. cancels_nothing s c.args.lane (contents_of c.args.self.now)
           works (inl (let out : length c.args.self.now.states.items ≤ c.args.lane = search rules in out)))
-      | then-lane-len-via-else-lane-len+then-not-runs w ↦ (λ s works. cancels_nothing s c.args.lane (contents_of c.args.self.now) works
+      | then-lane-len-via-else-lane-len+then-not-runs w ↦ (λ s works. cancels_nothing s c.args.lane
+          (contents_of c.args.self.now) works
           (inr (let there : c.args.lane < length c.args.self.now.states.items = search rules in
           let idle : is_some w.index.result.now.running ≡ false = search rules in
           begun_at c.args.self.now.states.items c.args.lane w.index.result.now false there w.index.ensures idle)))
@@ -39,7 +40,8 @@ give_up-requires-clause-safe c =
     let begun : begun_of (lane_in c.args.self.now.states.items) c.args.lane ≡ true =
     begun_at c.args.self.now.states.items c.args.lane c.index.result.now true there c.index.ensures runs in
     let o = c.requires.opened in
-    (may_cancel o.0 c.args.lane (contents_of c.args.self.now) c.index_mut-state.result.now o.1 there begun c.index_mut-state.ensures.value).safe
+    (may_cancel o.0 c.args.lane (contents_of c.args.self.now) c.index_mut-state.result.now o.1 there begun
+    c.index_mut-state.ensures.value).safe
 
 pub give_up-requires-clause-may : goal.give_up-requires-clause-may
 give_up-requires-clause-may c =
@@ -48,7 +50,8 @@ give_up-requires-clause-may c =
     let begun : begun_of (lane_in c.args.self.now.states.items) c.args.lane ≡ true =
     begun_at c.args.self.now.states.items c.args.lane c.index.result.now true there c.index.ensures runs in
     let o = c.requires.opened in
-    let m = (may_cancel o.0 c.args.lane (contents_of c.args.self.now) c.index_mut-state.result.now o.1 there begun c.index_mut-state.ensures.value) in
+    let m = (may_cancel o.0 c.args.lane (contents_of c.args.self.now) c.index_mut-state.result.now o.1 there begun
+    c.index_mut-state.ensures.value) in
     record {
       begun = (
           let there : c.args.lane < length c.args.self.now.states.items = search rules in
@@ -85,7 +88,7 @@ close_unheld-requires-clause-closing c =
     subst (λ (y : LaneValue). LeavesBehind old.core y c.give_up.new.self) is c.in_ok-give_up.ensures.leaves in
     let within = there_of o.0 old c.args.lane o.1 there in
     let x = cancelling o.0 c.args.lane old c.give_up.new.core c.give_up.new.self o.1 within begun begun gives behind in
-    let number : c.ended-call.result ≡ ended old.past c.args.lane = c.ended-call.ensures
+    let number : c.ended-call.result ≡ count_ended old.past c.args.lane = c.ended-call.ensures
     ∙ ap (λ (y : LaneValue). y.ended) is ∙ ends_at o.0 c.args.lane old o.1 within in
     let started : Entry = entry.Event (Cancel c.args.lane) in
     let over : Entry = entry.Event (End c.args.lane c.ended-call.result outcome.Cancelled) in
@@ -95,14 +98,15 @@ close_unheld-requires-clause-closing c =
     ∙ ap (λ (es : List Entry). over ∷ es) (pushed c.reserve.new.self.items started
     ∙ ap (λ (es : List Entry). started ∷ reverse es) kept)
     ∙ ap (λ (n : ℕ). entry.Event (End c.args.lane n outcome.Cancelled) ∷ started ∷ old.past) number in
-    let left : begun_but old.begun c.args.lane ≡ begun_of (lane_in (slice_set old.states c.args.lane c.give_up.new.self)) =
+    let left : begun_but old.begun c.args.lane ≡ begun_of (lane_in
+    (slice_set old.states c.args.lane c.give_up.new.self)) =
     begun_less old.states c.args.lane c.give_up.new.self there
     (ap is_some (gives_idle old.core c.give_up.new.core (lane_in old.states c.args.lane) c.give_up.new.self gives))
     in (
       o.0,
       (
         cancelled_past old.past c.args.lane,
-        subst (λ (y : LanesValue). Closing o.0 (cancelled_past old.past c.args.lane) c.args.lane y)
+        subst (λ (y : LanesValue). IsClosingLane o.0 (cancelled_past old.past c.args.lane) c.args.lane y)
             (λ i. record {
               calls = old.calls;
               core = c.give_up.new.core;
@@ -134,7 +138,7 @@ returns-clause-cancels c =
     subst (λ (y : LaneValue). LeavesBehind old.core y c.give_up.new.self) is c.in_ok-give_up.ensures.leaves in
     let within = there_of s old c.args.lane w there in
     let x = cancelling s c.args.lane old c.give_up.new.core c.give_up.new.self w within begun begun gives behind in
-    let number : c.ended-call.result ≡ ended old.past c.args.lane = c.ended-call.ensures
+    let number : c.ended-call.result ≡ count_ended old.past c.args.lane = c.ended-call.ensures
     ∙ ap (λ (y : LaneValue). y.ended) is ∙ ends_at s c.args.lane old w within in
     let started : Entry = entry.Event (Cancel c.args.lane) in
     let over : Entry = entry.Event (End c.args.lane c.ended-call.result outcome.Cancelled) in
@@ -144,7 +148,8 @@ returns-clause-cancels c =
     ∙ ap (λ (es : List Entry). over ∷ es) (pushed c.reserve.new.self.items started
     ∙ ap (λ (es : List Entry). started ∷ reverse es) kept)
     ∙ ap (λ (n : ℕ). entry.Event (End c.args.lane n outcome.Cancelled) ∷ started ∷ old.past) number in
-    let left : begun_but old.begun c.args.lane ≡ begun_of (lane_in (slice_set old.states c.args.lane c.give_up.new.self)) =
+    let left : begun_but old.begun c.args.lane ≡ begun_of (lane_in
+    (slice_set old.states c.args.lane c.give_up.new.self)) =
     begun_less old.states c.args.lane c.give_up.new.self there
     (ap is_some (gives_idle old.core c.give_up.new.core (lane_in old.states c.args.lane) c.give_up.new.self gives))
     in
@@ -171,9 +176,10 @@ returns-clause-cancels c =
       begun = left i;
     } in
     cancels_call s c.args.lane old (contents_of c.close_unheld.new.self) c.give_up.new.core c.give_up.new.self begun x
-    (subst (λ (y : LanesValue). IsClosed s (cancelled_past old.past c.args.lane) y (contents_of c.close_unheld.new.self)) (sym same)
+    (subst (λ (y : LanesValue). IsClosed s (cancelled_past old.past c.args.lane) y
+    (contents_of c.close_unheld.new.self)) (sym same)
     (c.close_unheld.ensures.closed s (cancelled_past old.past c.args.lane)
-    (subst (λ (y : LanesValue). Closing s (cancelled_past old.past c.args.lane) c.args.lane y) same x.closing)))
+    (subst (λ (y : LanesValue). IsClosingLane s (cancelled_past old.past c.args.lane) c.args.lane y) same x.closing)))
 
 pub keep_outcome-requires : goal.keep_outcome-requires
 keep_outcome-requires c =
@@ -200,8 +206,9 @@ returns-in_err-keep_outcome-clause-left c =
     c.in_ok-give_up.ensures.ok in
     let behind : LeavesBehind old.core (lane_in old.states c.args.lane) c.give_up.new.self =
     subst (λ (y : LaneValue). LeavesBehind old.core y c.give_up.new.self) is c.in_ok-give_up.ensures.leaves in
-    let x = cancelling o.0 c.args.lane old c.give_up.new.core c.give_up.new.self o.1 (there_of o.0 old c.args.lane o.1 there) begun begun gives behind in
-    let same : c.keep_outcome.new.lists ≡ c.args.self.now.outcomes = c.in_err-keep_outcome.ensures.left in
+    let x = cancelling o.0 c.args.lane old c.give_up.new.core c.give_up.new.self o.1
+    (there_of o.0 old c.args.lane o.1 there) begun begun gives behind in
+    let same : c.keep_outcome.new.lists ≡ c.args.self.now.outcomes = c.in_err-keep_outcome.ensures.unchanged in
     left_err _ c.args.self.now _ (ap reverse kept) (x.closing.between.tied.work.unfailed
     ∙ sym o.1.rest.between.tied.work.unfailed) (λ i. record { outcomes = same i; let_go = c.args.self.now.gone }) refl
 
@@ -220,7 +227,8 @@ returns-clause-intact c =
     ∙ ap (λ (es : List Entry). over ∷ reverse es) c.add_entry.ensures.items
     ∙ ap (λ (es : List Entry). over ∷ es) (pushed c.reserve.new.self.items started
     ∙ ap (λ (es : List Entry). started ∷ reverse es) kept) in
-    let told : c.keep_outcome.new.lists ≡ with_outcome c.args.self.now.outcomes c.args.lane outcome.Cancelled = search rules in
+    let told : c.keep_outcome.new.lists ≡ with_outcome c.args.self.now.outcomes c.args.lane outcome.Cancelled =
+    search rules in
     cancelled_intact (length c.args.self.now.calls) c.args.lane c.ended-call.result c.args.self.now _
     c.close_unheld.new.self c.requires.intact lt told refl past c.close_unheld.ensures.reports
     (λ none. c.close_unheld.ensures.room)

@@ -18,11 +18,13 @@ pub returns-clause-closed : goal.returns-clause-closed
 returns-clause-closed c = λ g here.
     let states : List LaneValue = c.args.self.now.states.items in
     let v : LaneValue = c.index_mut.result.now in
-    let is : v ≡ lane_in states c.args.lane = state_at states c.args.lane v c.requires.there c.index_mut.ensures.value in
+    let is : v ≡ lane_in states c.args.lane = state_at states c.args.lane v c.requires.there c.index_mut.ensures.value
+    in
     let x = c.release-id.ensures.released g (ap (λ (y : LaneValue). slice_get y.grants c.args.k) is ∙ here) in
     let journal : List Entry = c.args.self.now.journal.items in
     let close : Entry = entry.Event (Submit owner.Close c.release-id.result.0 (request.Close c.release-id.result.1)) in
-    let closes : close ≡ close_entry g.grant = λ i. entry.Event (Submit owner.Close (x.0 i) (request.Close (x.1.0 i))) in
+    let closes : close ≡ close_entry g.grant = λ i. entry.Event (Submit owner.Close (x.0 i) (request.Close (x.1.0 i)))
+    in
     let past : reverse c.add_entry.new.journal.items ≡ close_entry g.grant ∷ reverse journal =
     ap reverse c.add_entry.ensures.items ∙ pushed journal close ∙ ap (λ (e : Entry). e ∷ reverse journal) closes in
     let lane : c.release-id.new.self ≡ closed_lane (lane_in states c.args.lane) c.args.k = c.release-id.ensures.lane

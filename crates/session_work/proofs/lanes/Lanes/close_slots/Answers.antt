@@ -18,7 +18,8 @@ pub forget_unawaited-requires : goal.forget_unawaited-requires
 forget_unawaited-requires c =
     let o = c.requires.letting in
     let rest : List Slot = c.loop-rest.rest.now in
-    let h : LettingLane o.0 o.1.0 c.args.lane (contents_of c.loop-rest.self) rest = c.loop-rest.invariant.1 o.0 o.1.0 o.1.1 in
+    let h : LettingLane o.0 o.1.0 c.args.lane (contents_of c.loop-rest.self) rest =
+    c.loop-rest.invariant.1 o.0 o.1.0 o.1.1 in
     record {
       opened = (
         o.0,
@@ -33,7 +34,8 @@ forget_unawaited-requires c =
 pub returns-in-empty-clause-let_go : goal.returns-in-empty-clause-let_go
 returns-in-empty-clause-let_go c = λ s before base.
     let rest : List Slot = c.loop-rest.rest.now in
-    let h : LettingLane s before c.args.lane (contents_of c.loop-rest.self) rest = c.loop-rest.invariant.1 s before base in
+    let h : LettingLane s before c.args.lane (contents_of c.loop-rest.self) rest = c.loop-rest.invariant.1 s before base
+    in
     let gone : IsLetGo s before (contents_of c.args.self.now) (contents_of c.loop-rest.self) =
     letting_over s before c.args.lane (contents_of c.args.self.now) (contents_of c.loop-rest.self)
     (subst (λ (xs : List Slot). LettingLane s before c.args.lane (contents_of c.loop-rest.self) xs)
@@ -44,7 +46,8 @@ returns-in-empty-clause-let_go c = λ s before base.
 pub index-requires : goal.index-requires
 index-requires c =
     let o = c.requires.letting in
-    let lt = letting_there o.0 o.1.0 c.args.lane (contents_of c.loop-rest.self) c.loop-rest.rest.now (c.loop-rest.invariant.1 o.0 o.1.0 o.1.1) in
+    let lt = letting_there o.0 o.1.0 c.args.lane (contents_of c.loop-rest.self) c.loop-rest.rest.now
+    (c.loop-rest.invariant.1 o.0 o.1.0 o.1.1) in
     let len = c.loop-rest.self.states.ok.0 in
     omega (arith, lt, len)
 
@@ -63,7 +66,8 @@ close-requires c =
     record {
       there = there;
       held = letting_grants o.0 o.1.0 c.args.lane (contents_of c.loop-rest.self) c.loop-rest.rest.now going;
-      within = subst (λ (y : LaneValue). c.in-Some.k < length y.grants) is (slice_get_within v.grants c.in-Some.k f.0 f.1.0);
+      within = subst (λ (y : LaneValue). c.in-Some.k < length y.grants) is
+          (slice_get_within v.grants c.in-Some.k f.0 f.1.0);
       counted = omega (arith, few, len);
       room = omega (arith, room);
     }
@@ -78,12 +82,16 @@ loop-rest-preserved-in-Some c =
     let split : rest ≡ slot ∷ later = first_is rest slot c.in-len1-up.len_at_least c.slot-item.is in
     let v : LaneValue = c.index.result.now in
     let k : ℕ = c.in-Some.k in
-    let lt = letting_there o.0 o.1.0 c.args.lane (contents_of c.loop-rest.self) rest (c.loop-rest.invariant.1 o.0 o.1.0 o.1.1) in
+    let lt = letting_there o.0 o.1.0 c.args.lane (contents_of c.loop-rest.self) rest
+    (c.loop-rest.invariant.1 o.0 o.1.0 o.1.1) in
     let is : v ≡ lane_in states c.args.lane = state_at states c.args.lane v lt c.index.ensures in
     let f = c.closing.ensures.some k c.in-Some.is in
-    let here : slice_get (lane_in states c.args.lane).grants k ≡ Some f.0 = ap (λ (y : LaneValue). slice_get y.grants k) (sym is) ∙ f.1.0 in
-    let closed : HasClosed (contents_of c.loop-rest.self) (contents_of c.close.new.self) c.args.lane k f.0 = c.close.ensures.closed f.0 here in
-    let less = grants_left (contents_of c.loop-rest.self) c.args.lane k f.0 lt (slice_get_within (lane_in states c.args.lane).grants k f.0 here) in
+    let here : slice_get (lane_in states c.args.lane).grants k ≡ Some f.0 =
+    ap (λ (y : LaneValue). slice_get y.grants k) (sym is) ∙ f.1.0 in
+    let closed : HasClosed (contents_of c.loop-rest.self) (contents_of c.close.new.self) c.args.lane k f.0 =
+    c.close.ensures.closed f.0 here in
+    let less = grants_left (contents_of c.loop-rest.self) c.args.lane k f.0 lt
+    (slice_get_within (lane_in states c.args.lane).grants k f.0 here) in
     let same : length (lane_in c.close.new.self.states.items c.args.lane).grants
     ≡ length (lane_in (closed_in (contents_of c.loop-rest.self) c.args.lane k f.0).states c.args.lane).grants =
     ap (λ (x : LanesValue). length (lane_in x.states c.args.lane).grants) closed.is in
@@ -99,7 +107,8 @@ loop-rest-preserved-in-Some c =
           (letting_closes s before c.args.lane k (contents_of c.loop-rest.self) f.0 slot later h f.1.1 f.1.2 here
           closed.small)),
       ap (λ (x : LanesValue). x.begun) closed.is ∙ c.loop-rest.invariant.2,
-      leaves_on (past_of c.args.self.now) c.args.self.now c.loop-rest.self c.close.new.self c.loop-rest.invariant.3 c.close.ensures.reports,
+      leaves_on (past_of c.args.self.now) c.args.self.now c.loop-rest.self c.close.new.self c.loop-rest.invariant.3
+          c.close.ensures.reports,
     )
 
 pub loop-rest-preserved : goal.loop-rest-preserved

@@ -11,7 +11,8 @@ use Rattle.session_work.proofs.lanes.Lanes.close_slots.Given as goal
 abbrev pub invariant-loop-rest : goal.invariant-loop-rest
 invariant-loop-rest l =
     (vec_len l.self.journal + length (lane_in l.self.states.items l.lane).grants < vec_capacity l.self.journal)
-    × ((s : Setting) (before : List Entry) → LettingLane s before l.lane (contents_of l.fn.self) l.fn.slots → LettingLane s before l.lane (contents_of l.self) l.rest)
+    × ((s : Setting) (before : List Entry) → LettingLane s before l.lane (contents_of l.fn.self) l.fn.slots
+    → LettingLane s before l.lane (contents_of l.self) l.rest)
     × (begun_of (lane_in l.self.states.items) ≡ begun_of (lane_in l.fn.self.states.items))
     × LeavesReports l.fn.self l.self
 

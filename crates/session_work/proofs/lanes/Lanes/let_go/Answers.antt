@@ -15,7 +15,8 @@ use Rattle.session_work.proofs.ReportLaws.{let_go_intact}
 use Rattle.session_work.proofs.lanes.Lanes.let_go.Goals as goal
 
 pub returns-then-lane-len-clause-lets_go : goal.returns-then-lane-len-clause-lets_go
-returns-then-lane-len-clause-lets_go c = λ s w done holds. lets_none_go s c.args.lane (contents_of c.args.self.now) w (search rules)
+returns-then-lane-len-clause-lets_go c = λ s w done holds. lets_none_go s c.args.lane (contents_of c.args.self.now) w
+    (search rules)
 
 pub close_slots-requires-clause-letting : goal.close_slots-requires-clause-letting
 close_slots-requires-clause-letting c =
@@ -24,13 +25,16 @@ close_slots-requires-clause-letting c =
     let o = c.requires.done in
     let old : LanesValue = contents_of c.args.self.now in
     let v : LaneValue = c.index_mut-state.result.now in
-    let is : v ≡ lane_in old.states c.args.lane = state_at old.states c.args.lane v there c.index_mut-state.ensures.value in
+    let is : v ≡ lane_in old.states c.args.lane = state_at old.states c.args.lane v there
+    c.index_mut-state.ensures.value in
     let slots : c.as_slice.result.now ≡ v.site.slots = search rules in
-    let all : (lane_in old.states c.args.lane).site.slots ≡ c.as_slice.result.now = ap (λ (y : LaneValue). y.site.slots) (sym is) ∙ sym slots in
+    let all : (lane_in old.states c.args.lane).site.slots ≡ c.as_slice.result.now =
+    ap (λ (y : LaneValue). y.site.slots) (sym is) ∙ sym slots in
     let past : reverse c.add_entry.new.journal.items ≡ entry.LetGo c.args.lane ∷ old.past =
     ap reverse c.add_entry.ensures.items ∙ pushed c.reserve.new.self.items (entry.LetGo c.args.lane)
     ∙ ap (λ (es : List Entry). entry.LetGo c.args.lane ∷ reverse es) kept in
-    let lane : let_go_lane (lane_in old.states c.args.lane) ≡ c.empty-slots.new.self = ap let_go_lane (sym is) ∙ sym c.empty-slots.ensures.lane in
+    let lane : let_go_lane (lane_in old.states c.args.lane) ≡ c.empty-slots.new.self = ap let_go_lane (sym is)
+    ∙ sym c.empty-slots.ensures.lane in
     let begun : begun_of (lane_in old.states) ≡ begun_of (lane_in
     (slice_set old.states c.args.lane c.empty-slots.new.self)) =
     let_go_begun o.0 c.args.lane old c.empty-slots.new.self o.1.0 there o.1.1.0 lane in
@@ -51,7 +55,8 @@ close_slots-requires-clause-letting c =
               begun =
                   begun_of (lane_in (slice_set old.states c.args.lane c.empty-slots.new.self));
             }) xs) all
-            (subst (λ (y : LanesValue). LettingLane o.0 (entry.LetGo c.args.lane ∷ old.past) c.args.lane y (lane_in old.states c.args.lane).site.slots)
+            (subst (λ (y : LanesValue). LettingLane o.0 (entry.LetGo c.args.lane ∷ old.past) c.args.lane y
+            (lane_in old.states c.args.lane).site.slots)
             (λ i. record {
               calls = old.calls;
               core = old.core;
@@ -70,13 +75,16 @@ returns-clause-lets_go c =
     let kept : c.reserve.new.self.items ≡ c.args.self.now.journal.items = search rules in
     let old : LanesValue = contents_of c.args.self.now in
     let v : LaneValue = c.index_mut-state.result.now in
-    let is : v ≡ lane_in old.states c.args.lane = state_at old.states c.args.lane v there c.index_mut-state.ensures.value in
+    let is : v ≡ lane_in old.states c.args.lane = state_at old.states c.args.lane v there
+    c.index_mut-state.ensures.value in
     let slots : c.as_slice.result.now ≡ v.site.slots = search rules in
-    let all : (lane_in old.states c.args.lane).site.slots ≡ c.as_slice.result.now = ap (λ (y : LaneValue). y.site.slots) (sym is) ∙ sym slots in
+    let all : (lane_in old.states c.args.lane).site.slots ≡ c.as_slice.result.now =
+    ap (λ (y : LaneValue). y.site.slots) (sym is) ∙ sym slots in
     let past : reverse c.add_entry.new.journal.items ≡ entry.LetGo c.args.lane ∷ old.past =
     ap reverse c.add_entry.ensures.items ∙ pushed c.reserve.new.self.items (entry.LetGo c.args.lane)
     ∙ ap (λ (es : List Entry). entry.LetGo c.args.lane ∷ reverse es) kept in
-    let lane : let_go_lane (lane_in old.states c.args.lane) ≡ c.empty-slots.new.self = ap let_go_lane (sym is) ∙ sym c.empty-slots.ensures.lane in
+    let lane : let_go_lane (lane_in old.states c.args.lane) ≡ c.empty-slots.new.self = ap let_go_lane (sym is)
+    ∙ sym c.empty-slots.ensures.lane in
     let mid : LanesValue = record {
       calls = old.calls;
       core = old.core;

@@ -24,5 +24,6 @@ returns-clause-intact c =
     ap reverse c.add_entry.ensures.items ∙ pushed c.reserve.new.self.items (entry.LetGo c.args.lane)
     ∙ ap (λ (es : List Entry). entry.LetGo c.args.lane ∷ reverse es) kept in
     let now : Lanes = record c.args.self.now { journal = c.add_entry.new.journal; gone = c.set.new.self } in
-    let_go_intact (length c.args.self.now.calls) c.args.lane c.args.self.now now now c.requires.intact c.requires.there refl
+    let_go_intact (length c.args.self.now.calls) c.args.lane c.args.self.now now now c.requires.intact c.requires.there
+    refl
     c.set.ensures past (record { kept = refl; past = λ lane. refl }) (λ none. search rules)

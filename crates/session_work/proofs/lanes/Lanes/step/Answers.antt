@@ -1,11 +1,11 @@
 use Rattle.std.proofs.Common.{rules, ◌≡◌, ◌<◌, ◌∙◌, ℕ, Bool, true, length, ap, subst, arith}
 use Rattle.session_laws.specs.Rest.{begun_of}
-use Rattle.session_lane.specs.declared.lane.Moved.{Moved}
-use Rattle.session_lane.specs.declared.lane.Moved.TheVariants as moved
-use Rattle.session_work.specs.Noting.{Turning, with_begun, is_went}
+use Rattle.session_work.specs.declared.lane.Moved.{Moved}
+use Rattle.session_work.specs.declared.lane.Moved.TheVariants as moved
+use Rattle.session_work.specs.Noting.{HasTurnToNote, with_begun, is_went}
 use Rattle.session_work.specs.Reports.{LaneReports}
 use Rattle.session_work.specs.SoFar.{IsLeft}
-use Rattle.session_work.specs.Working.{LanesValue, Unnoted, contents_of, lane_in}
+use Rattle.session_work.specs.Working.{LanesValue, NotesNothing, contents_of, lane_in}
 use Rattle.session_work.proofs.NotingLaws.{has_call, went_unnoted}
 use Rattle.session_work.proofs.ReportLaws.{left_on, noted_intact}
 use Rattle.session_work.proofs.TurningLaws.{is_moved_went}
@@ -27,11 +27,18 @@ note-requires c =
     let o = c.requires.opened in
     let begun : ℕ → Bool = begun_of (lane_in c.args.self.now.states.items) in
     let mid : LanesValue = with_begun begun (contents_of c.loop-moved.self) in
-    let u : Unnoted o.0 (contents_of c.args.self.now) mid = c.loop-moved.invariant.0 o.0 o.1 in
+    let u : NotesNothing o.0 (contents_of c.args.self.now) mid = c.loop-moved.invariant.0 o.0 o.1 in
     record {
       turning = (
         o.0,
-        (mid, (c.in_ok-moved.ensures.turned o.0 begun u.works, c.in_ok-moved.ensures.leaves.others begun c.loop-moved.invariant.3)),
+        (
+          mid,
+          (
+            c.in_ok-moved.ensures.turned o.0 begun u.works,
+            c.in_ok-moved.ensures.leaves.others begun
+                c.loop-moved.invariant.3,
+          ),
+        ),
       );
       ends = search rules;
       number = c.in_ok-moved.ensures.leaves.number ∙ c.loop-moved.invariant.2;
@@ -45,12 +52,12 @@ loop-moved-preserved c =
     let mid : LanesValue = with_begun begun (contents_of c.loop-moved.self) in
     let now : LanesValue = with_begun begun (contents_of c.turn.new.self) in
     let o = c.requires.opened in
-    let first : Unnoted o.0 old mid = c.loop-moved.invariant.0 o.0 o.1 in
+    let first : NotesNothing o.0 old mid = c.loop-moved.invariant.0 o.0 o.1 in
     let went : is_went c.in_ok-moved.moved ≡ true = search rules in
     let is : c.in_ok-moved.moved ≡ moved.Went = is_moved_went c.in_ok-moved.moved went in (
-      λ s w. (let u : Unnoted s old mid = c.loop-moved.invariant.0 s w in
+      λ s w. (let u : NotesNothing s old mid = c.loop-moved.invariant.0 s w in
           unnoted_on s old mid now u (went_unnoted s c.args.lane mid now
-          (subst (λ (m : Moved). Turning s c.args.lane mid now m) is
+          (subst (λ (m : Moved). HasTurnToNote s c.args.lane mid now m) is
           (c.in_ok-moved.ensures.turned s begun u.works)))),
       has_call o.0 c.args.lane mid now c.in_ok-moved.moved (c.in_ok-moved.ensures.turned o.0 begun first.works),
       c.in_ok-moved.ensures.leaves.number ∙ c.loop-moved.invariant.2,
@@ -64,22 +71,24 @@ returns-then-not-is_went-clause-steps c = λ s w.
     let begun : ℕ → Bool = begun_of (lane_in c.args.self.now.states.items) in
     let old : LanesValue = contents_of c.args.self.now in
     let mid : LanesValue = with_begun begun (contents_of c.loop-moved.self) in
-    let u : Unnoted s old mid = c.loop-moved.invariant.0 s w in
+    let u : NotesNothing s old mid = c.loop-moved.invariant.0 s w in
     steps_from s c.args.lane old mid (contents_of c.note.new.self) c.note.result u
-    (c.note.ensures.noted s mid (c.in_ok-moved.ensures.turned s begun u.works) (c.in_ok-moved.ensures.leaves.others begun c.loop-moved.invariant.3))
+    (c.note.ensures.noted s mid (c.in_ok-moved.ensures.turned s begun u.works)
+    (c.in_ok-moved.ensures.leaves.others begun c.loop-moved.invariant.3))
 
 pub keep_moved-requires : goal.keep_moved-requires
 keep_moved-requires c =
     let o = c.requires.opened in
     let begun : ℕ → Bool = begun_of (lane_in c.args.self.now.states.items) in
     let mid : LanesValue = with_begun begun (contents_of c.loop-moved.self) in
-    let u : Unnoted o.0 (contents_of c.args.self.now) mid = c.loop-moved.invariant.0 o.0 o.1 in
+    let u : NotesNothing o.0 (contents_of c.args.self.now) mid = c.loop-moved.invariant.0 o.0 o.1 in
     let left : IsLeft c.args.self.now c.turn.new.self = left_on c.args.self.now c.loop-moved.self c.turn.new.self
     c.loop-moved.invariant.5 c.turn.ensures.left in
     let t = c.in_ok-moved.ensures.turned o.0 begun u.works in
     let there : c.args.lane < length o.0.lanes = t.there in
     let lanes = o.1.stands.lanes in
-    let same : length c.turn.new.self.outcomes ≡ length c.args.self.now.outcomes = ap (λ (k : LaneReports). length k.outcomes) left.reports in
+    let same : length c.turn.new.self.outcomes ≡ length c.args.self.now.outcomes =
+    ap (λ (k : LaneReports). length k.outcomes) left.reports in
     let count = c.requires.intact.lists in
     omega (arith, there, lanes, same, count)
 
@@ -88,7 +97,7 @@ returns-then-not-is_went-clause-intact c =
     let o = c.requires.opened in
     let begun : ℕ → Bool = begun_of (lane_in c.args.self.now.states.items) in
     let mid : LanesValue = with_begun begun (contents_of c.loop-moved.self) in
-    let u : Unnoted o.0 (contents_of c.args.self.now) mid = c.loop-moved.invariant.0 o.0 o.1 in
+    let u : NotesNothing o.0 (contents_of c.args.self.now) mid = c.loop-moved.invariant.0 o.0 o.1 in
     let left : IsLeft c.args.self.now c.turn.new.self = left_on c.args.self.now c.loop-moved.self c.turn.new.self
     c.loop-moved.invariant.5 c.turn.ensures.left in
     let t = c.in_ok-moved.ensures.turned o.0 begun u.works in

@@ -18,9 +18,11 @@ pub returns-in-Err-clause-refused : goal.returns-in-Err-clause-refused
 returns-in-Err-clause-refused c =
     let o = c.requires.opened in
     record {
-      first = first_is o.0 (contents_of c.args.self.now) (reply_at c.args.body.now) c.in-Err.e c.take_frame.new.self.core
+      first = first_is o.0 (contents_of c.args.self.now) (reply_at c.args.body.now) c.in-Err.e
+          c.take_frame.new.self.core
           o.1 c.in-Err.ensures.refused.error;
-      stays = λ s k. refused_so_far s c.in-Err.e _ _ _ _ _ o.1.rest.between.tied.work.unfailed c.in-Err.ensures.refused.error
+      stays = λ s k. refused_so_far s c.in-Err.e _ _ _ _ _ o.1.rest.between.tied.work.unfailed
+          c.in-Err.ensures.refused.error
           c.in-Err.ensures.refused.noted k;
       noted = c.in-Err.ensures.refused.noted;
       calls = ap (λ (x : Lanes). x.calls) c.take_frame.ensures.rest;
@@ -28,16 +30,20 @@ returns-in-Err-clause-refused c =
 
 pub overflow_add-self : goal.overflow_add-self
 overflow_add-self c =
-    let few : c.args.self.now.asked ≤ length c.args.self.now.journal.items = asked_within c.args.self.now c.requires.opened in
-    let same : c.take_frame.new.self.asked ≡ c.args.self.now.asked = ap (λ (x : Lanes). x.asked) c.take_frame.ensures.rest in
+    let few : c.args.self.now.asked ≤ length c.args.self.now.journal.items =
+    asked_within c.args.self.now c.requires.opened in
+    let same : c.take_frame.new.self.asked ≡ c.args.self.now.asked =
+    ap (λ (x : Lanes). x.asked) c.take_frame.ensures.rest in
     search rules
 
 pub returns-after-note_close-clause-takes : goal.returns-after-note_close-clause-takes
 returns-after-note_close-clause-takes c = λ s w.
     let told = subst (λ (t : Taken). TakenFrom (reply_at c.args.body.now) t c.args.self.now.core
     c.take_frame.new.self.core) c.in-Ok-Answer.field-0-is c.in-Ok-Answer.ensures.takes.taken in
-    let entered : c.add_entry.new.journal.items ≡ c.args.self.now.journal.items ++ entry.Event (Take c.in-Ok-Answer.id c.in-Ok-Answer.reply) ∷ [] =
-    c.add_entry.ensures.items ∙ ap (λ xs. xs ++ entry.Event (Take c.in-Ok-Answer.id c.in-Ok-Answer.reply) ∷ []) c.in-Ok-Answer.ensures.takes.journal in
+    let entered : c.add_entry.new.journal.items ≡ c.args.self.now.journal.items
+    ++ entry.Event (Take c.in-Ok-Answer.id c.in-Ok-Answer.reply) ∷ [] =
+    c.add_entry.ensures.items ∙ ap (λ xs. xs ++ entry.Event (Take c.in-Ok-Answer.id c.in-Ok-Answer.reply) ∷ [])
+    c.in-Ok-Answer.ensures.takes.journal in
     let takes = take_told s (contents_of c.args.self.now) (reply_at c.args.body.now) c.in-Ok-Answer.id
     c.in-Ok-Answer.reply c.take_frame.new.self.core c.queued-before.result c.args.self.now.journal.items
     c.add_entry.new.journal.items c.note_close.new.journal.items

@@ -12,7 +12,8 @@ abandon_all-requires c =
     let core : c.abandon_read.new.core ≡ read_dropped c.args.core.now c.args.self.reading = search rules in
     let here : AreHeld (read_dropped c.args.core.now c.args.self.reading) c.args.self.deferred =
     held_dropped c.args.core.now c.args.self.reading c.args.self.deferred c.requires.held.read c.requires.held.writes in
-    let there : AreHeld c.abandon_read.new.core c.args.self.deferred = subst (λ (x : Core). AreHeld x c.args.self.deferred) (sym core) here in
+    let there : AreHeld c.abandon_read.new.core c.args.self.deferred =
+    subst (λ (x : Core). AreHeld x c.args.self.deferred) (sym core) here in
     search rules
 
 pub returns-clause-abandons : goal.returns-clause-abandons

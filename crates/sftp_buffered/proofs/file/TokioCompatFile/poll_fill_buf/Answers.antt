@@ -11,7 +11,8 @@ returns c =
     let none : (length c.args.self.now.buffered == 0) ≡ true = search rules in
     let fills : FillsBuffer (min c.args.self.now.buffer_len (facts_of c.args.core.now).read_len) c.args.core.now
     c.fill.new.core c.args.self.now c.fill.new.self c.fill.result = search rules in
-    ready_reads c.args.core.now c.fill.new.core c.args.self.now c.fill.new.self c.fill.result may none c.requires.sound fills
+    ready_reads c.args.core.now c.fill.new.core c.args.self.now c.fill.new.self c.fill.result may none c.requires.sound
+    fills
 
 pub returns-then-not-is_empty : goal.returns-then-not-is_empty
 returns-then-not-is_empty c =

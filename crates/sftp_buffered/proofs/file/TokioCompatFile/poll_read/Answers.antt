@@ -1,6 +1,6 @@
 use Rattle.std.proofs.Common.{rules, ◌≡◌, ◌==◌, refl, true, false, length, Ok, Err}
 use Rattle.std.specs.Prelude.{min, max}
-use Rattle.call_state.specs.declared.poll.Poll.TheVariants as poll
+use Rattle.plan_state.specs.declared.poll.Poll.TheVariants as poll
 use Rattle.sftp_file.specs.Files.{facts_of}
 use Rattle.sftp_buffered.specs.Reads.{FillsBuffer}
 use Rattle.sftp_buffered.proofs.Reading.{IsPut, MayRead, buffered_reads, empty_reads, filled_reads, pending_reads, refused_reads, unreadable_reads}
@@ -22,7 +22,8 @@ returns-in-Pending-clause-reads c =
     let fills : FillsBuffer (min (max (length c.args.room.now) c.args.self.now.buffer_len)
     (facts_of c.args.core.now).read_len) c.args.core.now c.fill.new.core c.args.self.now c.fill.new.self
     poll.Pending = search rules in
-    pending_reads (length c.args.room.now) c.args.core.now c.fill.new.core c.args.self.now c.fill.new.self c.args.room.now m none c.requires.sound fills
+    pending_reads (length c.args.room.now) c.args.core.now c.fill.new.core c.args.self.now c.fill.new.self
+    c.args.room.now m none c.requires.sound fills
 
 pub returns-in-Ready-Err-clause-reads : goal.returns-in-Ready-Err-clause-reads
 returns-in-Ready-Err-clause-reads c =

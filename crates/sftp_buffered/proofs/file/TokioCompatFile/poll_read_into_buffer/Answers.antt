@@ -5,7 +5,8 @@ use Rattle.sftp_buffered.proofs.file.TokioCompatFile.poll_read_into_buffer.Goals
 pub returns : goal.returns
 returns c =
     let may : c.args.self.now.file.readable ≡ true = search rules in
-    fill_reads c.args.amt c.args.core.now c.fill.new.core c.args.self.now c.fill.new.self c.fill.result may c.requires.sound c.fill.ensures
+    fill_reads c.args.amt c.args.core.now c.fill.new.core c.args.self.now c.fill.new.self c.fill.result may
+    c.requires.sound c.fill.ensures
 
 pub returns-then-not-is_readable : goal.returns-then-not-is_readable
 returns-then-not-is_readable c =

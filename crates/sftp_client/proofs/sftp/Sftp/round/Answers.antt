@@ -1,5 +1,5 @@
 use Rattle.std.proofs.Common.{inr}
-use Rattle.session_exchange.proofs.Joining.{escaped}
+use Rattle.link_frames.proofs.Joining.{escaped}
 use Rattle.sftp_client.proofs.sftp.Sftp.round.Goals as goal
 
 pub returns-in_err-take : goal.returns-in_err-take

@@ -1,5 +1,5 @@
 use Rattle.std.proofs.Common.{◌<◌, rules}
-use Rattle.session_exchange.proofs.Joining.{escaped}
+use Rattle.link_frames.proofs.Joining.{escaped}
 use Rattle.sftp_core.specs.Core.{awaited_of}
 use Rattle.sftp_client.proofs.Taking.{none_after, took_after}
 use Rattle.sftp_client.proofs.sftp.Sftp.take_unfailed.Goals as goal
@@ -7,8 +7,10 @@ use Rattle.sftp_client.proofs.sftp.Sftp.take_unfailed.Goals as goal
 pub returns-in_err-take_frame : goal.returns-in_err-take_frame
 returns-in_err-take_frame g c =
     let due : 0 < awaited_of c.send_rest.new.self.core = search rules in
-    rw (escaped c.from_residual-in_err-take_frame.result c.in_err-take_frame.field-0.0 c.from_residual-in_err-take_frame.ensures.1)
-    (none_after g.L.LinkState.state c.args.self.now c.send_rest.new.self c.take_frame.new.self c.in_err-take_frame.field-0.0
+    rw (escaped c.from_residual-in_err-take_frame.result c.in_err-take_frame.field-0.0
+    c.from_residual-in_err-take_frame.ensures.1)
+    (none_after g.L.LinkState.state c.args.self.now c.send_rest.new.self c.take_frame.new.self
+    c.in_err-take_frame.field-0.0
     c.in_ok-send_rest.ensures due c.in_err-take_frame.ensures)
 
 pub returns : goal.returns

@@ -1,5 +1,5 @@
 use Rattle.std.proofs.Common.{◌≡◌, ◌-◌, ◌^◌, rules}
-use Rattle.session_exchange.proofs.Joining.{escaped}
+use Rattle.link_frames.proofs.Joining.{escaped}
 use Rattle.sftp_client.proofs.WriteWaiting.{writes_end, writes_next, writes_out, writes_stop}
 use Rattle.sftp_client.proofs.sftp.Sftp.wait_write.Goals as goal
 
@@ -12,15 +12,18 @@ pub returns-in_err-round-in-Pending : goal.returns-in_err-round-in-Pending
 returns-in_err-round-in-Pending g c =
     rw (escaped c.from_residual.result c.in_err-round-in-Pending.field-0.0 c.from_residual.ensures.1)
     (writes_stop g.L.LinkState.state c.loop.counter c.args.self.now c.loop.self c.poll_write.new.self c.round.new.self
-    c.args.call.now c.loop.call c.poll_write.new.call c.in_err-round-in-Pending.field-0.0 c.loop.invariant c.in-Pending.ensures
+    c.args.call.now c.loop.call c.poll_write.new.call c.in_err-round-in-Pending.field-0.0 c.loop.invariant
+    c.in-Pending.ensures
     c.in_err-round-in-Pending.ensures)
 
 pub loop-preserved : goal.loop-preserved
 loop-preserved g c =
     writes_next g.L.LinkState.state c.loop.counter c.args.self.now c.loop.self c.poll_write.new.self c.round.new.self
-    c.args.call.now c.loop.call c.poll_write.new.call c.loop.invariant c.in-Pending.ensures c.in_ok-round-in-Pending.ensures
+    c.args.call.now c.loop.call c.poll_write.new.call c.loop.invariant c.in-Pending.ensures
+    c.in_ok-round-in-Pending.ensures
 
 pub returns : goal.returns
 returns g c =
     let all : c.loop.counter ≡ 2 ^ 64 - 1 = search rules in
-    writes_out g.L.LinkState.state c.loop.counter c.args.self.now c.loop.self c.args.call.now c.loop.call c.loop.invariant all
+    writes_out g.L.LinkState.state c.loop.counter c.args.self.now c.loop.self c.args.call.now c.loop.call
+    c.loop.invariant all

@@ -10,7 +10,8 @@ pub invariant_of-result : goal.invariant_of-result
 invariant_of-result c =
     let hello : map asked_of c.push_reserved.new.queue.items ≡ (0, request.Init 3) ∷ [] = search rules in
     let one : vec_len c.push_reserved.new.queue ≡ 1 = search rules in
-    let room : 1 ≤ vec_capacity c.push_reserved.new.queue = omega (arith, c.push_reserved.ensures.grows, c.in_ok-queue.ensures.capacity, c.max.ensures) in
+    let room : 1 ≤ vec_capacity c.push_reserved.new.queue = omega
+    (arith, c.push_reserved.ensures.grows, c.in_ok-queue.ensures.capacity, c.max.ensures) in
     sound-fresh _ _ _ _ c.new-2.ensures hello one room
 
 pub push_reserved-requires-clause-cut : goal.push_reserved-requires-clause-cut

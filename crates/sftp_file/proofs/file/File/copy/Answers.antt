@@ -17,5 +17,7 @@ returns c =
     let reads : c.args.self.now.readable ≡ true = search rules in
     let below : overflows c.args.self.now.offset c.args.n ≡ false = search rules in
     let behind : overflows c.args.to.now.offset c.args.n ≡ false = search rules in
-    copy_starts c.args.self.now c.args.to.now _ _ c.args.n c.copy_request.result c.args.core.now c.ask.new.core c.ask.result (search rules) (search rules)
-    offered may reads below behind c.copy_request.ensures.is c.ask.ensures.started c.ask.ensures.begins c.ask.ensures.keeps
+    copy_starts c.args.self.now c.args.to.now _ _ c.args.n c.copy_request.result c.args.core.now c.ask.new.core
+    c.ask.result (search rules) (search rules)
+    offered may reads below behind c.copy_request.ensures.is c.ask.ensures.started c.ask.ensures.begins
+    c.ask.ensures.keeps

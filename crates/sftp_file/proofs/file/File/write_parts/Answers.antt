@@ -1,12 +1,13 @@
 use Rattle.std.proofs.Common.{rules, ◌<◌, arith, Ok, subst, sym}
-use Rattle.call_state.specs.Calls.{CallValue}
+use Rattle.plan_state.specs.Calls.{CallValue}
 use Rattle.sftp_file.specs.Writes.{WriteValue, WritesParts}
 use Rattle.sftp_file.proofs.WriteLaws.{write_asked, write_none}
 use Rattle.sftp_file.proofs.file.File.write_parts.Goals as goal
 
 pub returns-then-len-eq0 : goal.returns-then-len-eq0
 returns-then-len-eq0 c =
-    subst (λ (x : CallValue WriteValue). WritesParts c.args.self.now c.args.parts.items c.args.core.now c.args.core.now (Ok x)) (sym c.ready.ensures)
+    subst (λ (x : CallValue WriteValue). WritesParts c.args.self.now c.args.parts.items c.args.core.now c.args.core.now
+    (Ok x)) (sym c.ready.ensures)
     (write_none c.args.self.now c.at-file.result c.args.parts.items c.args.core.now c.args.len c.at-file.ensures
     c.requires.len (search rules) c.requires.most.1)
 

@@ -13,5 +13,9 @@ pub returns : goal.returns
 returns c =
     let short : nat_lt 1048558 (length c.args.path.now) ≡ false = search rules in
     open_starts (flags_of c.args.self.now) c.args.path.now _ _ c.args.core.now c.ask.new.core c.ask.result short
-    (record { reads = c.may_read.ensures ∙ sym (reads_by_flags c.args.self.now); writes = c.may_write.ensures ∙ sym (writes_by_flags c.args.self.now) })
+    (record {
+      reads = c.may_read.ensures ∙ sym (reads_by_flags c.args.self.now);
+      writes = c.may_write.ensures
+          ∙ sym (writes_by_flags c.args.self.now);
+    })
     (search rules) c.ask.ensures.started c.ask.ensures.begins c.ask.ensures.keeps

@@ -4,5 +4,6 @@ use Rattle.sftp_fs.proofs.directory.Dir.start_close.Goals as goal
 
 pub returns : goal.returns
 returns c =
-    closes_by c.args.self c.args.core.now c.release.new.self c.close_call.result c.release.result (search rules) (search rules)
+    closes_by c.args.self c.args.core.now c.release.new.self c.close_call.result c.release.result (search rules)
+    (search rules)
     c.close_call.ensures

@@ -17,10 +17,12 @@ invariant_of-self c =
     c.self.inside.info in
     went c.self.inside.lanes c.self.inside.options c.self.inside.version
     c.self.inside.info c.self.inside.work c.hand_out-chunk.new.self
-    c.self.inside.phase c.keep.new.phase c.hand_out-chunk.result c.self.invariant (rw (← c.self.view_is) at c.requires.open)
+    c.self.inside.phase c.keep.new.phase c.hand_out-chunk.result c.self.invariant
+    (rw (← c.self.view_is) at c.requires.open)
     c.hand_out-chunk.ensures.intact c.keep.ensures.ok c.keep.ensures.err
     (λ working. on_if c.hand_out-chunk.result _ _ (λ chunk g. record {
       working = g.working;
       later = hands_later s (contents_of c.self.inside.work) (contents_of c.hand_out-chunk.new.self) _ g;
     }) (c.hand_out-chunk.ensures.hands_out s working))
-    (on_err c.hand_out-chunk.result _ _ (left_fails c.self.inside.work c.hand_out-chunk.new.self) c.hand_out-chunk.ensures.left)
+    (on_err c.hand_out-chunk.result _ _ (left_fails c.self.inside.work c.hand_out-chunk.new.self)
+    c.hand_out-chunk.ensures.left)

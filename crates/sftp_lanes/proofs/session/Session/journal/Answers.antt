@@ -11,6 +11,7 @@ pub returns-clause-fixed : goal.returns-clause-fixed
 returns-clause-fixed c = rw (← c.self.view_is) c.self.invariant.fixed
 
 pub returns-clause-settled : goal.returns-clause-settled
-returns-clause-settled c = rw (← c.self.view_is) (λ is. open_settled c.self.inside.lanes c.self.inside.options c.self.inside.version
+returns-clause-settled c = rw (← c.self.view_is) (λ is. open_settled c.self.inside.lanes c.self.inside.options
+    c.self.inside.version
     c.self.inside.info
     c.self.inside.work c.self.inside.phase c.self.invariant is)

@@ -13,5 +13,6 @@ invariant_of-self c =
     c.self.inside.phase c.keep.new.phase c.let_go-gone.result c.self.invariant c.in-Open.is c.let_go-gone.ensures.intact
     c.keep.ensures.ok c.keep.ensures.err
     (λ working. on_ok c.let_go-gone.result _ _ (λ g. record { working = g.working; later = g.later })
-    (c.let_go-gone.ensures.lets_go s working (rw (← c.self.view_is) at c.requires.done) (rw (← c.self.view_is) at c.requires.held)))
+    (c.let_go-gone.ensures.lets_go s working (rw (← c.self.view_is) at c.requires.done)
+    (rw (← c.self.view_is) at c.requires.held)))
     (on_err c.let_go-gone.result _ _ (left_fails c.self.inside.work c.let_go-gone.new.self) c.let_go-gone.ensures.left)

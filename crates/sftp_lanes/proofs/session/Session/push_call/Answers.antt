@@ -22,7 +22,8 @@ invariant_of-self c =
     let on : c.self.inside.phase ≢ Failed = search rules in
     pushed_session c.self.inside.lanes c.self.inside.options c.self.inside.version
     c.self.inside.info c.self.inside.work c.push_call.new.self c.self.inside.phase c.args.lane c.args.call
-    c.push_call.result c.self.invariant on may c.push_call.ensures.intact c.push_call.ensures.adds c.push_call.ensures.left
+    c.push_call.result c.self.invariant on may c.push_call.ensures.intact c.push_call.ensures.adds
+    c.push_call.ensures.unchanged
 
 pub returns-in_default : goal.returns-in_default
 returns-in_default c =
@@ -38,5 +39,5 @@ returns-in_default c =
           c.args.lane c.args.call c.self.invariant on may) c.push_call.ensures.adds;
       left = on_err c.push_call.result _ _ (same_session c.self.inside.lanes c.self.inside.options c.self.inside.version
           c.self.inside.info c.self.inside.work c.push_call.new.self
-          c.self.inside.phase) c.push_call.ensures.left;
+          c.self.inside.phase) c.push_call.ensures.unchanged;
     })

@@ -26,7 +26,8 @@ invariant_of-self c =
     refused_by c.self.inside.lanes c.self.inside.options c.self.inside.version c.self.inside.info c.self.inside.work
     c.take_frame.new.self c.self.inside.phase (fault_of c.in-Err.e) c.self.invariant c.take_frame.ensures.rest
     c.in-Err.ensures.refused.noted c.take_frame.ensures.room
-    (λ s. refused_so_far s c.in-Err.e _ _ _ _ _ (ap (λ (k : Core). k.fault) q.1.2) c.in-Err.ensures.refused.error c.in-Err.ensures.refused.noted)
+    (λ s. refused_so_far s c.in-Err.e _ _ _ _ _ (ap (λ (k : Core). k.fault) q.1.2) c.in-Err.ensures.refused.error
+    c.in-Err.ensures.refused.noted)
 
 pub returns : goal.returns
 returns c =
@@ -35,7 +36,8 @@ returns c =
     in
     rw (← c.self.view_is)
     (record {
-      refused = asking_first c.self.inside.options q.0 _ _ (past_of c.self.inside.work) (reply_at c.args.body.now) c.in-Err.e q.1.2 q.1.3
+      refused = asking_first c.self.inside.options q.0 _ _ (past_of c.self.inside.work) (reply_at c.args.body.now)
+          c.in-Err.e q.1.2 q.1.3
           c.in-Err.ensures.refused.error;
       kept = record {
         rest = refl;

@@ -19,6 +19,8 @@ invariant_of-self c =
     c.self.inside.info c.self.inside.work c.take-taken.new.self
     c.self.inside.phase c.keep.new.phase c.take-taken.result c.self.invariant (rw (← c.self.view_is) at c.requires.open)
     c.take-taken.ensures.intact c.keep.ensures.ok c.keep.ensures.err
-    (λ working. on_ok c.take-taken.result _ _ (λ g. record { working = g.working; later = g.later }) (c.take-taken.ensures.takes s working))
-    (err_if c.take-taken.result _ _ (λ e r. refused_fails (reply_at c.args.body.now) e c.self.inside.work c.take-taken.new.self r)
+    (λ working. on_ok c.take-taken.result _ _ (λ g. record { working = g.working; later = g.later })
+    (c.take-taken.ensures.takes s working))
+    (err_if c.take-taken.result _ _ (λ e r. refused_fails (reply_at c.args.body.now) e c.self.inside.work
+    c.take-taken.new.self r)
     c.take-taken.ensures.refused)

@@ -6,7 +6,8 @@ pub returns-clause-ok : goal.returns-clause-ok
 returns-clause-ok c = IfOk-weaker c.take_reply.result _ _ (λ event g. g.did.takes) c.take_reply.ensures.takes
 
 pub returns-clause-goes : goal.returns-clause-goes
-returns-clause-goes c = IfOk-weaker c.take_reply.result _ _ (λ event g. record { stays = stays _ _ _ g; later = g.did.later }) c.take_reply.ensures.takes
+returns-clause-goes c = IfOk-weaker c.take_reply.result _ _ (λ event g. record
+    { stays = stays _ _ _ g; later = g.did.later }) c.take_reply.ensures.takes
 
 pub returns-clause-work : goal.returns-clause-work
 returns-clause-work c = IfOk-weaker c.take_reply.result _ _ (λ event g. g.did.less) c.take_reply.ensures.takes

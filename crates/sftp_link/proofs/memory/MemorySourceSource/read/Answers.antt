@@ -6,7 +6,8 @@ pub returns-clause-reads : goal.returns-clause-reads
 returns-clause-reads c =
     let items : c.deref.result.now ≡ c.self.inside.bytes.items = c.deref.ensures.value in
     let n : (c.self.inside.at + c.min-n.result) - c.self.inside.at ≡ c.min-n.result = omega arith in
-    let copied : c.copy_from_slice.new.self ≡ take c.min-n.result (drop c.self.inside.at c.self.inside.bytes.items) = cc (c.copy_from_slice.ensures.after) in
+    let copied : c.copy_from_slice.new.self ≡ take c.min-n.result (drop c.self.inside.at c.self.inside.bytes.items) =
+    cc (c.copy_from_slice.ensures.after) in
     record {
       within = search rules;
       bytes = rw (← c.self.view_is) (came c.self.inside.bytes.items c.copy_from_slice.new.self

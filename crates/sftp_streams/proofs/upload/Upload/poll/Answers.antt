@@ -24,6 +24,8 @@ pub returns-in-Failed : goal.returns-in-Failed
 returns-in-Failed c =
     let is : c.args.self.now.parts ≡ c.in-Some.part ∷ c.pop_front.new.self.items =
     ap (λ (x : UploadValue). x.parts) (sym c.self.view_is) ∙ c.in-Some.ensures.items in
-    let now_is = ap (λ (x : UploadValue). record x { parts = c.pop_front.new.self.items; ended = true }) c.self.view_is in
-    writes_fault c.args.core.now c.take_reply.new.core c.args.self.now _ c.in-Some.part c.pop_front.new.self.items c.in-Failed.fault
+    let now_is = ap (λ (x : UploadValue). record x { parts = c.pop_front.new.self.items; ended = true }) c.self.view_is
+    in
+    writes_fault c.args.core.now c.take_reply.new.core c.args.self.now _ c.in-Some.part c.pop_front.new.self.items
+    c.in-Failed.fault
     c.requires is now_is c.in-Failed.ensures.0 c.in-Failed.ensures.1 c.in-Failed.ensures.2

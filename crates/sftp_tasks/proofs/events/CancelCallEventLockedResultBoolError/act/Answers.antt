@@ -7,6 +7,7 @@ use Rattle.sftp_tasks.proofs.events.CancelCallEventLockedResultBoolError.act.Goa
 
 pub returns-clause-goes : goal.returns-clause-goes
 returns-clause-goes c =
-    subst (λ (o : Option ℕ). GoesBy (passes by_cancel o) no_allowance (shown_of c.args.value.now) (shown_of c.cancel.new.self)) (sym c.in-Some.is)
+    subst (λ (o : Option ℕ). GoesBy (passes by_cancel o) no_allowance (shown_of c.args.value.now)
+    (shown_of c.cancel.new.self)) (sym c.in-Some.is)
     (session_goes _ _ _ c.cancel.ensures.rest (result_extended _ _ _ c.cancel.result _
     (λ event h. cancels_extended _ c.in-Some.lane _ _ event h) c.cancel.ensures.cancels c.cancel.ensures.refused))

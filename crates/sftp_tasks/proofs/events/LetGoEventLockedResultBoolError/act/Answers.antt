@@ -7,6 +7,7 @@ use Rattle.sftp_tasks.proofs.events.LetGoEventLockedResultBoolError.act.Goals as
 
 pub returns-clause-goes : goal.returns-clause-goes
 returns-clause-goes c =
-    subst (λ (o : Option ℕ). GoesBy (passes by_let_go o) no_allowance (shown_of c.args.value.now) (shown_of c.let_go.new.self)) (sym c.in-Some.is)
+    subst (λ (o : Option ℕ). GoesBy (passes by_let_go o) no_allowance (shown_of c.args.value.now)
+    (shown_of c.let_go.new.self)) (sym c.in-Some.is)
     (session_goes _ _ _ c.let_go.ensures.rest (result_extended _ _ _ c.let_go.result _
     (λ event h. lets_go_extended c.in-Some.lane _ _ event h) c.let_go.ensures.lets_go c.let_go.ensures.refused))

@@ -4,4 +4,5 @@ use Rattle.sftp_tasks.proofs.events.LookStageEventLockedResultU64Error.act.Goals
 
 pub returns-clause-goes : goal.returns-clause-goes
 returns-clause-goes c =
-    session_goes _ c.args.value.now c.args.value.now refl (same_extended _ c.args.value.now.session c.args.value.now.session refl)
+    session_goes _ c.args.value.now c.args.value.now refl (same_extended _ c.args.value.now.session
+    c.args.value.now.session refl)

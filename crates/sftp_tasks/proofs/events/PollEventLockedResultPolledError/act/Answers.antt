@@ -7,6 +7,7 @@ use Rattle.sftp_tasks.proofs.events.PollEventLockedResultPolledError.act.Goals a
 
 pub returns-clause-goes : goal.returns-clause-goes
 returns-clause-goes c =
-    subst (λ (o : Option ℕ). GoesBy (passes by_step o) no_allowance (shown_of c.args.value.now) (shown_of c.poll.new.self)) (sym c.in-Some.is)
+    subst (λ (o : Option ℕ). GoesBy (passes by_step o) no_allowance (shown_of c.args.value.now)
+    (shown_of c.poll.new.self)) (sym c.in-Some.is)
     (session_goes _ _ _ c.poll.ensures.rest (result_extended _ _ _ c.poll.result _
     (λ p h. polls_extended c.in-Some.lane _ _ p h) c.poll.ensures.polls c.poll.ensures.refused))

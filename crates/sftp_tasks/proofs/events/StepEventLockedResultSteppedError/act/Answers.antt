@@ -7,6 +7,7 @@ use Rattle.sftp_tasks.proofs.events.StepEventLockedResultSteppedError.act.Goals 
 
 pub returns-clause-goes : goal.returns-clause-goes
 returns-clause-goes c =
-    subst (λ (o : Option ℕ). GoesBy (passes by_step o) no_allowance (shown_of c.args.value.now) (shown_of c.step.new.self)) (sym c.in-Some.is)
+    subst (λ (o : Option ℕ). GoesBy (passes by_step o) no_allowance (shown_of c.args.value.now)
+    (shown_of c.step.new.self)) (sym c.in-Some.is)
     (session_goes _ _ _ c.step.ensures.rest (result_extended _ _ _ c.step.result _
     (λ event h. steps_extended _ c.in-Some.lane _ _ event h) c.step.ensures.steps c.step.ensures.refused))

@@ -8,6 +8,7 @@ use Rattle.sftp_tasks.proofs.events.SubmitEventLockedResultBoolError.act.Goals a
 
 pub returns-clause-goes : goal.returns-clause-goes
 returns-clause-goes c =
-    subst (λ (o : Option ℕ). GoesBy (passes by_submit o) no_allowance (shown_of c.args.value.now) (shown_of c.submit.new.self)) (sym c.in-Some.is)
+    subst (λ (o : Option ℕ). GoesBy (passes by_submit o) no_allowance (shown_of c.args.value.now)
+    (shown_of c.submit.new.self)) (sym c.in-Some.is)
     (session_goes _ c.args.value.now c.submit.new.self c.submit.ensures.rest
     (submits_extended c.in-Some.lane c.args.self.call _ _ c.submit.result c.submit.ensures.submits))

@@ -13,12 +13,15 @@ returns-in-Some-clause-goes c =
 
 pub returns-clause-goes : goal.returns-clause-goes
 returns-clause-goes c =
-    session_goes _ c.args.value.now c.args.value.now refl (same_extended _ c.args.value.now.session c.args.value.now.session refl)
+    session_goes _ c.args.value.now c.args.value.now refl (same_extended _ c.args.value.now.session
+    c.args.value.now.session refl)
 
 pub returns-in-Some-clause-does : goal.returns-in-Some-clause-does
 returns-in-Some-clause-does c =
     let y = c.args.value.now in
     let z = c.take.new.self in
     let body = c.in-Some.body.now in
-    let t = taking_from body y z c.take.result c.take.ensures.takes c.take.ensures.counts c.take.ensures.stops in
-    (taking_frame c.args.self.frame body y z c.take.result (search rules) c.in-Some.ensures.spelled t.0, c.take.ensures.no_fault)
+    let t = taking_from body y z c.take.result c.take.ensures.takes c.take.ensures.counts c.take.ensures.stops in (
+      taking_frame c.args.self.frame body y z c.take.result (search rules) c.in-Some.ensures.spelled t.0,
+      c.take.ensures.no_fault,
+    )

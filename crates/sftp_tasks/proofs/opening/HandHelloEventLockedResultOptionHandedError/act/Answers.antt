@@ -3,4 +3,5 @@ use Rattle.sftp_tasks.proofs.opening.HandHelloEventLockedResultOptionHandedError
 
 pub returns-clause-goes : goal.returns-clause-goes
 returns-clause-goes c =
-    hello_goes c.args.lane c.args.value.now c.hand_hello.new.self c.hand_hello.result c.hand_hello.ensures.rest c.hand_hello.ensures.hands
+    hello_goes c.args.lane c.args.value.now c.hand_hello.new.self c.hand_hello.result c.hand_hello.ensures.rest
+    c.hand_hello.ensures.hands

@@ -11,7 +11,9 @@ returns-in-Ok-close-clause-closes g c =
 pub returns-in-Ok-close-clause-covers : goal.returns-in-Ok-close-clause-covers
 returns-in-Ok-close-clause-covers g c = λ complete.
     let ends : EndsSo _ _ _ _ = c.in-Ok-close.ensures.closes.1 in
-    covered c.in-Ok-close.ended c.in-Ok-close.prepared.journal.items ends.1.lists.journal (c.in-Ok-close.ensures.covers complete)
+    covered c.in-Ok-close.ended c.in-Ok-close.prepared.journal.items ends.1.lists.journal
+    (c.in-Ok-close.ensures.covers complete)
 
 pub returns-in-Err-clause-refused : goal.returns-in-Err-clause-refused
-returns-in-Err-clause-refused g c = refused c.args.seat _ c.args.others.items _ _ _ c.in-Err.ensures.kept c.reason.ensures
+returns-in-Err-clause-refused g c = refused c.args.seat _ c.args.others.items _ _ _ c.in-Err.ensures.kept
+    c.reason.ensures

@@ -18,7 +18,11 @@ returns g c =
     let n = c.apply-did.new.self.inner.me in
     let lane = c.args.seat.now.lane in
     let h = c.apply-did.ensures.held in record {
-      own = (c.apply-did.ensures.own, c.apply-did.ensures.lane, share_kept m n h (ap (λ (x : Locked). x.users) h.did.does.0.0));
+      own = (
+        c.apply-did.ensures.own,
+        c.apply-did.ensures.lane,
+        share_kept m n h (ap (λ (x : Locked). x.users) h.did.does.0.0),
+      );
       only = grew_applied shown_of by_step lane no_allowance m n h;
       polls = subst (λ (r : Result Polled Error). InOneHold (PollsSeat lane) r m n) (sym c.settle.ensures)
           (in_one_hold (PollsSeat lane) c.apply-did.result.0 c.apply-did.result.1 m n h);

@@ -6,7 +6,7 @@ use Rattle.sftp_model.specs.declared.error.Error.{Error}
 use Rattle.sftp_tasks.specs.declared.locked.Locked.{Locked}
 use Rattle.sftp_tasks.specs.Calls.{AnswersSeat}
 use Rattle.sftp_tasks.specs.Entries.{by_let_go}
-use Rattle.sftp_tasks.specs.LockedEvents.{Releasing}
+use Rattle.sftp_tasks.specs.LockedEvents.{ReleasesLane}
 use Rattle.sftp_tasks.specs.Shows.{shown_of}
 use Rattle.sftp_tasks.proofs.CallLaws.{answers_of}
 use Rattle.sftp_tasks.proofs.PollLaws.{share_kept}
@@ -22,7 +22,8 @@ leave-requires-clause-share g c =
 
 pub returns-in-Ok-false-clause-only : goal.returns-in-Ok-false-clause-only
 returns-in-Ok-false-clause-only g c =
-    grew_applied shown_of by_let_go c.args.seat.now.lane no_allowance c.args.seat.now.inner.me c.apply-did.new.self.inner.me c.apply-did.ensures.held
+    grew_applied shown_of by_let_go c.args.seat.now.lane no_allowance c.args.seat.now.inner.me
+    c.apply-did.new.self.inner.me c.apply-did.ensures.held
 
 pub returns-in-Ok-false-clause-releases : goal.returns-in-Ok-false-clause-releases
 returns-in-Ok-false-clause-releases g c =
@@ -31,7 +32,7 @@ returns-in-Ok-false-clause-releases g c =
     let old = c.args.seat.now.receipts.items in
     let new = c.apply-did.new.self.receipts.items in
     let h = c.apply-did.ensures.held in
-    let Does = Releasing c.args.seat.now.lane in
+    let Does = ReleasesLane c.args.seat.now.lane in
     let is = sym c.settle.ensures ∙ c.in-Ok-false.is ∙ ap (λ o. Ok o) c.in-Ok-false.field-0-test in (
       subst (λ (r : Result Bool Error). AnswersSeat Does old new r m n) is
           (answers_of Does c.apply-did.result.0 c.apply-did.result.1 old new m n h),
@@ -40,7 +41,8 @@ returns-in-Ok-false-clause-releases g c =
 
 pub returns-in-Err-clause-only : goal.returns-in-Err-clause-only
 returns-in-Err-clause-only g c =
-    grew_applied shown_of by_let_go c.args.seat.now.lane no_allowance c.args.seat.now.inner.me c.apply-did.new.self.inner.me c.apply-did.ensures.held
+    grew_applied shown_of by_let_go c.args.seat.now.lane no_allowance c.args.seat.now.inner.me
+    c.apply-did.new.self.inner.me c.apply-did.ensures.held
 
 pub returns-in-Err-clause-releases : goal.returns-in-Err-clause-releases
 returns-in-Err-clause-releases g c =
@@ -49,7 +51,7 @@ returns-in-Err-clause-releases g c =
     let old = c.args.seat.now.receipts.items in
     let new = c.apply-did.new.self.receipts.items in
     let h = c.apply-did.ensures.held in
-    let Does = Releasing c.args.seat.now.lane in
+    let Does = ReleasesLane c.args.seat.now.lane in
     let is = sym c.settle.ensures ∙ c.in-Err.is in (
       subst (λ (r : Result Bool Error). AnswersSeat Does old new r m n) is
           (answers_of Does c.apply-did.result.0 c.apply-did.result.1 old new m n h),
@@ -71,9 +73,10 @@ returns-clause-releases g c =
     let old = c.args.seat.now.receipts.items in
     let new = c.apply-did.new.self.receipts.items in
     let h = c.apply-did.ensures.held in
-    let Does = Releasing c.args.seat.now.lane in
+    let Does = ReleasesLane c.args.seat.now.lane in
     let is = sym c.settle.ensures ∙ c.in-Ok-true.is ∙ ap (λ o. Ok o) c.in-Ok-true.field-0-test in
-    let answers : AnswersSeat Does old new (Ok true) m mid = subst (λ (r : Result Bool Error). AnswersSeat Does old new r m mid) is
+    let answers : AnswersSeat Does old new (Ok true) m mid = subst
+    (λ (r : Result Bool Error). AnswersSeat Does old new r m mid) is
     (answers_of Does c.apply-did.result.0 c.apply-did.result.1 old new m mid h) in
     let receipts = c.leave.ensures.same.1 in (
       record {

@@ -5,7 +5,7 @@ use Rattle.session_seats.specs.Holds.{no_allowance}
 use Rattle.sftp_model.specs.declared.error.Error.{Error}
 use Rattle.sftp_tasks.specs.Calls.{AnswersSeat}
 use Rattle.sftp_tasks.specs.Entries.{by_submit}
-use Rattle.sftp_tasks.specs.LockedEvents.{OfLane, Submitting}
+use Rattle.sftp_tasks.specs.LockedEvents.{OfLane, SubmitsLaneCall}
 use Rattle.sftp_tasks.specs.Shows.{shown_of}
 use Rattle.sftp_tasks.proofs.CallLaws.{answers_of, first_receipt}
 use Rattle.sftp_tasks.proofs.PollLaws.{share_stays}
@@ -19,7 +19,7 @@ returns g c =
     let old = c.args.seat.now.receipts.items in
     let new = c.apply-did.new.self.receipts.items in
     let h = c.apply-did.ensures.held in
-    let Does = OfLane (Submitting c.args.call) false lane in
+    let Does = OfLane (SubmitsLaneCall c.args.call) false lane in
     let answers : AnswersSeat Does old new c.settle.result m n = subst
     (λ (r : Result Bool Error). AnswersSeat Does old new r m n) (sym c.settle.ensures)
     (answers_of Does c.apply-did.result.0 c.apply-did.result.1 old new m n h) in

@@ -1,4 +1,4 @@
-use Rattle.transfer_copier.specs.Sessions.{IsGoing}
+use Rattle.transfer_pool.specs.Sessions.{IsGoing}
 use Rattle.sftp_transfer.proofs.courier.Courier.gather.Given as goal
 
 abbrev pub invariant-loop-path : goal.invariant-loop-path

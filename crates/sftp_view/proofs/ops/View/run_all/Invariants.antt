@@ -4,4 +4,5 @@ use Rattle.sftp_view.proofs.ops.View.run_all.Given as goal
 
 abbrev pub invariant-loop-op : goal.invariant-loop-op
 invariant-loop-op g l =
-    DoesSoFar l.ops (drop l.op-index l.ops) l.answers.items l.fn.self (g.L.LinkState.state l.fn.link) l.self (g.L.LinkState.state l.link)
+    DoesSoFar l.ops (drop l.op-index l.ops) l.answers.items l.fn.self (g.L.LinkState.state l.fn.link) l.self
+    (g.L.LinkState.state l.link)

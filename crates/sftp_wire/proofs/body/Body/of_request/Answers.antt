@@ -24,7 +24,12 @@ returns-in-Hardlink c id = rw (
 
 pub returns-in-Fsync : goal.returns-in-Fsync
 unfolding request_body
-returns-in-Fsync c id = rw (c.of_type-in-Fsync.ensures, c.two-in-Fsync.ensures, c.as_bytes-in-Fsync.ensures.value, c.in-Fsync.is) (simp append-nil refl)
+returns-in-Fsync c id = rw (
+  c.of_type-in-Fsync.ensures,
+  c.two-in-Fsync.ensures,
+  c.as_bytes-in-Fsync.ensures.value,
+  c.in-Fsync.is,
+) (simp append-nil refl)
 
 pub returns-in-ExpandPath : goal.returns-in-ExpandPath
 unfolding request_body
@@ -46,4 +51,5 @@ returns-in-CopyData c id = rw (
 
 pub returns-in-LimitsQuery : goal.returns-in-LimitsQuery
 unfolding request_body
-returns-in-LimitsQuery c id = rw (c.of_type-in-LimitsQuery.ensures, c.one-in-LimitsQuery.ensures, c.in-LimitsQuery.is) (simp append-nil refl)
+returns-in-LimitsQuery c id = rw (c.of_type-in-LimitsQuery.ensures, c.one-in-LimitsQuery.ensures, c.in-LimitsQuery.is)
+    (simp append-nil refl)

@@ -3,13 +3,15 @@ use Rattle.ssh_encoding.proofs.Parts.{too_long, stops, goes, prefixed_stops, pre
 use Rattle.ssh_encoding.proofs.encode.Encode.encode_prefixed.Goals as goal
 
 pub returns-in_err-encoded_len-clause-writes : goal.returns-in_err-encoded_len-clause-writes
-returns-in_err-encoded_len-clause-writes g c = too_long _ _ _ _ _ _ c.from_residual.ensures.1 c.in_err-encoded_len.ensures
+returns-in_err-encoded_len-clause-writes g c = too_long _ _ _ _ _ _ c.from_residual.ensures.1
+    c.in_err-encoded_len.ensures
 
 pub returns-in_err-encode-clause-writes : goal.returns-in_err-encode-clause-writes
 unfolding string
 returns-in_err-encode-clause-writes g c =
     let len = c.in_ok-encoded_len.ensures in
-    stops _ _ _ _ _ _ _ _ c.from_residual-in_err-encode.ensures.1 (rw len.0 at c.in_err-encode.ensures.writes) (prefixed_stops _ _ _ len.1)
+    stops _ _ _ _ _ _ _ _ c.from_residual-in_err-encode.ensures.1 (rw len.0 at c.in_err-encode.ensures.writes)
+    (prefixed_stops _ _ _ len.1)
 
 pub returns-clause-writes : goal.returns-clause-writes
 unfolding string

@@ -9,7 +9,8 @@ use Rattle.view_model.proofs.cache.BlockCache.find.Goals as goal
 
 pub returns-in-None : goal.returns-in-None
 returns-in-None c =
-    let none : lookup (same_key c.args.key.now) c.self.inside.blocks.entries ≡ None = sym c.get.follows.claims ∙ ap option_copied c.in-None.is in
+    let none : lookup (same_key c.args.key.now) c.self.inside.blocks.entries ≡ None = sym c.get.follows.claims
+    ∙ ap option_copied c.in-None.is in
     let same = not_promoted (same_key c.args.key.now) c.self.inside.blocks.entries none in
     record {
       value = search rules;

@@ -5,4 +5,5 @@ use Rattle.view_model.proofs.key.BlockKeyHash.hash.Given as goal
 
 abbrev pub invariant-loop-part : goal.invariant-loop-part
 invariant-loop-part g l =
-    l.state ≡ fold g.H.Hasher.write l.fn.state (fed.usize (length l.self.name) ++ flat_map (fed.slice fed.u8) (take l.part-index l.self.name))
+    l.state ≡ fold g.H.Hasher.write l.fn.state (fed.usize (length l.self.name)
+    ++ flat_map (fed.slice fed.u8) (take l.part-index l.self.name))

@@ -1,5 +1,0 @@
-use Rattle.call_state.proofs.Keeping.{keeps_both}
-use Rattle.client_tests.proofs.paths.exchange.Goals as goal
-
-pub returns-then-sends : goal.returns-then-sends
-returns-then-sends c = keeps_both c.args.core.now c.sends.new.core c.takes.new.core c.sends.ensures.keeps c.takes.ensures

@@ -1,8 +1,0 @@
-mod labels;
-mod laws;
-mod lists;
-mod numbers;
-mod readers;
-mod texts;
-mod values;
-mod writers;

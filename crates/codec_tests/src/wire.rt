@@ -1,4 +1,0 @@
-mod frames;
-mod replies;
-mod requests;
-mod values;

@@ -1,0 +1,6 @@
+mod Answered
+mod Steps
+mod Listing
+mod Treeing
+mod Asking
+mod Sizing

@@ -1,5 +1,0 @@
-use Rattle.granting_laws.proofs.PlainRunLaws.{read_there}
-use Rattle.granting_laws.proofs.laws.reads_give_what_was_there.Goals as goal
-
-pub returns : goal.returns
-returns c = read_there

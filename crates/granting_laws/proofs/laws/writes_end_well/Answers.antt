@@ -1,5 +1,0 @@
-use Rattle.granting_laws.proofs.PlainRunLaws.{write_ends}
-use Rattle.granting_laws.proofs.laws.writes_end_well.Goals as goal
-
-pub returns : goal.returns
-returns c = write_ends

@@ -1,0 +1,5 @@
+pub mod Frames
+pub mod Getting
+mod Gathered
+pub mod Joining
+mod RunErrors

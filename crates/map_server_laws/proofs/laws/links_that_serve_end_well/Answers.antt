@@ -1,6 +1,0 @@
-use Rattle.session_driver.proofs.ServingLaws.{only_memory}
-use Rattle.map_server_laws.proofs.Whole.{server_serves}
-use Rattle.map_server_laws.proofs.laws.links_that_serve_end_well.Goals as goal
-
-pub returns : goal.returns
-returns c = record { only = only_memory; server = server_serves }

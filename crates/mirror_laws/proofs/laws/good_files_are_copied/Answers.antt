@@ -1,5 +1,0 @@
-use Rattle.mirror_laws.proofs.GoodLaws.{good_files}
-use Rattle.mirror_laws.proofs.laws.good_files_are_copied.Goals as goal
-
-pub returns : goal.returns
-returns c = good_files

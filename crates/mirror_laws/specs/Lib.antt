@@ -1,4 +1,0 @@
-pub mod PlainNames
-pub mod CopiesFiles
-pub mod GoodJobs
-pub mod GoodRows

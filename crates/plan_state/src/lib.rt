@@ -1,0 +1,19 @@
+//! The one state below all calls of files, directories and paths: a runner, and the ticket of the reply that it awaits.
+//! Polling, cancelling and releasing are implemented here once, for any call.
+#![tactic(auto)]
+
+mod asking;
+mod call;
+mod laws;
+mod poll;
+mod runner;
+mod stage;
+mod told;
+
+pub use asking::Asking;
+pub use call::{Alone, PendingCall};
+pub use laws::{calls_keep_what_is_held, cancelled_opens_are_closed, others_keep_what_they_hold};
+pub use poll::Poll;
+pub use runner::{PlanRunner, Then};
+pub use stage::Stage;
+pub use told::Told;

@@ -1,0 +1,6 @@
+use Rattle.std.proofs.Common.{◌≡◌, ◌++◌}
+use Rattle.program_shell.proofs.Files.{file_lines_below}
+use Rattle.program_shell.proofs.left.write_files.Given as goal
+
+abbrev pub invariant-loop-k : goal.invariant-loop-k
+invariant-loop-k l = l.out.items ≡ l.initial.out.items ++ file_lines_below l.server.now.state.machine.tree l.k

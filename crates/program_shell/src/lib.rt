@@ -1,0 +1,26 @@
+//! The common part of programs that read a source, run its content over a server in memory or over a link, and write an
+//! answer: the run itself, the exit statuses, the lines of a refusal and of an error, and the files and directories
+//! that a server in memory has left.
+#![tactic(auto)]
+
+mod answer;
+mod ending;
+mod in_memory;
+mod left;
+mod over_link;
+mod printed;
+mod program;
+mod refusal;
+mod system;
+#[cfg(test)]
+mod tests;
+
+pub use answer::{Answer, answer_to};
+pub use ending::{Answered, NO_LINK, OUT_OF_MEMORY, ProgramFailure, cause_of, status_of};
+pub use in_memory::{answer_in_memory, new_server_of, text_in_memory};
+pub use left::{write_dirs, write_files};
+pub use over_link::answer_over_link;
+pub use printed::{Printed, read_bytes, refuse, write_answer};
+pub use program::{LinkProgram, Program};
+pub use refusal::{error_line, error_name, refusal_line, stop_reply, want_of_memory};
+pub use system::{exit_with, words_given};

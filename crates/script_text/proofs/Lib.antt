@@ -1,0 +1,4 @@
+mod Steps
+pub mod TraceLaws
+pub mod TextLaws
+mod HexLaws

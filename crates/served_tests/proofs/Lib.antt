@@ -1,3 +1,0 @@
-pub mod Rounds
-pub mod Streaming
-pub mod Wholes

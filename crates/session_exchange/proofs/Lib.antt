@@ -1,4 +1,0 @@
-pub mod Frames
-pub mod Getting
-pub mod Gathered
-pub mod Joining

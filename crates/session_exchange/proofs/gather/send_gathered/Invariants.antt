@@ -1,9 +1,0 @@
-use Rattle.std.proofs.Common.{Ok, take}
-use Rattle.sftp_model.specs.Pieces.{joined}
-use Rattle.session_exchange.specs.Gathering.{Gathers}
-use Rattle.session_exchange.proofs.gather.send_gathered.Given as goal
-
--- the pieces so far were sent, but for what is gathered
-abbrev pub invariant-loop-piece : goal.invariant-loop-piece
-invariant-loop-piece g l = Gathers {T = Unit {0}} (joined (take l.piece-index l.pieces)) l.gathered.items
-    (g.L.LinkState.state l.initial.link) (g.L.LinkState.state l.link) (Ok tt)

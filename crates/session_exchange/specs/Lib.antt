@@ -1,5 +1,0 @@
-pub mod Causes
-pub mod Reading
-pub mod Gathering
-pub mod Refusals
-pub mod ExchangeRows

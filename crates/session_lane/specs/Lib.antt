@@ -1,6 +1,0 @@
-pub mod Tokens
-pub mod Turning
-pub mod Holding
-pub mod Rests
-pub mod AwaitingRows
-pub mod Premises

@@ -1,0 +1,19 @@
+use Rattle.std.proofs.Common.{◌∙◌}
+use Rattle.sftp_tasks.specs.Entries.{by_flush}
+use Rattle.session_threads.proofs.MoveLaws.{flush_takes, moves_takes}
+use Rattle.session_threads.proofs.RunLaws.{ran_grew, ran_on, ran_weaker}
+use Rattle.session_threads.specs.Running.{moves_none, takes_none}
+use Rattle.session_threads.proofs.seats.run_sender.Goals as goal
+
+pub returns-in-Ok-clause-ran : goal.returns-in-Ok-clause-ran
+returns-in-Ok-clause-ran g c =
+    ran_grew takes_none _ (by_flush c.args.seat.lane) (flush_takes c.args.seat.lane) c.args.seat c.flush_worker.new.seat
+    (c.flush_worker.ensures.own.0 ∙ c.requires.own) c.flush_worker.ensures.own.1 c.flush_worker.ensures.only
+
+pub returns-in-Err-clause-ran : goal.returns-in-Err-clause-ran
+returns-in-Err-clause-ran g c =
+    ran_on takes_none _ c.args.seat c.flush_worker.new.seat c.stop.new.seat
+    (ran_grew takes_none _ (by_flush c.args.seat.lane) (flush_takes c.args.seat.lane) c.args.seat
+    c.flush_worker.new.seat (c.flush_worker.ensures.own.0 ∙ c.requires.own) c.flush_worker.ensures.own.1
+    c.flush_worker.ensures.only)
+    (ran_weaker moves_none takes_none _ moves_takes c.flush_worker.new.seat c.stop.new.seat c.stop.ensures)

@@ -1,3 +1,0 @@
-pub mod ScriptLaws
-pub mod Sending
-mod Steps

@@ -1,6 +1,0 @@
-use Rattle.sftp_bulk.specs.Bulk.{call_of}
-use Rattle.sftp_bulk.proofs.Steps.{Drawn}
-use Rattle.sftp_bulk.proofs.draws.Draws.calls_of_lane.Given as goal
-
-abbrev pub invariant-loop-k : goal.invariant-loop-k
-invariant-loop-k l = Drawn (λ k. call_of l.fn.lane) l._k l.fn.calls l.initial.self l.self l.made.items

@@ -1,6 +1,0 @@
-use Rattle.sftp_bulk.specs.Bulk.{choice}
-use Rattle.sftp_bulk.proofs.Steps.{Drawn}
-use Rattle.sftp_bulk.proofs.draws.Draws.choices.Given as goal
-
-abbrev pub invariant-loop-k : goal.invariant-loop-k
-invariant-loop-k l = Drawn (λ k. choice) l._k l.fn.count l.initial.self l.self l.made.items

@@ -1,6 +1,0 @@
-use Rattle.sftp_bulk.specs.Bulk.{turn_of}
-use Rattle.sftp_bulk.proofs.Steps.{Drawn}
-use Rattle.sftp_bulk.proofs.draws.Draws.turns.Given as goal
-
-abbrev pub invariant-loop-k : goal.invariant-loop-k
-invariant-loop-k l = Drawn (λ k. turn_of l.fn.lanes) l._k l.fn.count l.initial.self l.self l.made.items

@@ -1,5 +1,0 @@
-use Rattle.sftp_bulk.proofs.ScriptLaws.{lanes_ok}
-use Rattle.sftp_bulk.proofs.laws.bulk_lanes_are_ok.Goals as goal
-
-pub returns : goal.returns
-returns c = lanes_ok

@@ -1,3 +1,0 @@
-pub mod Bulk
-pub mod BulkRows
-pub mod Summary

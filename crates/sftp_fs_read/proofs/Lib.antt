@@ -1,0 +1,6 @@
+mod ReadsLaws
+mod MoveLaws
+mod TicketLaws
+mod HearLaws
+pub mod FsReadLaws
+mod OpenLaws

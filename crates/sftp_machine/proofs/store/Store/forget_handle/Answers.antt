@@ -1,8 +1,0 @@
-use Rattle.sftp_machine.proofs.KeptLaws.{below_without}
-use Rattle.sftp_machine.proofs.store.Store.forget_handle.Goals as goal
-
-pub invariant_of-self : goal.invariant_of-self
-invariant_of-self c = rw c.remove.ensures (record {
-  handles = below_without c.self.inside.grants c.self.inside.handles c.args.handle.now c.self.invariant.handles;
-  count = c.self.invariant.count;
-})

@@ -1,5 +1,0 @@
-use Rattle.sftp_text.proofs.TraceLaws.{trace_text}
-use Rattle.sftp_text.proofs.laws.traces_keep_texts.Goals as goal
-
-pub returns : goal.returns
-returns c = trace_text

@@ -1,9 +1,0 @@
-use Rattle.std.proofs.Common.{deque_len}
-use Rattle.sftp_whole.specs.Hearing.{Hears}
-use Rattle.sftp_whole.proofs.hearing.hear.Given as goal
-
-abbrev pub invariant-loop-ticket : goal.invariant-loop-ticket
-invariant-loop-ticket l = Hears l.initial.core l.core l.initial.reads l.reads l.initial.tickets.items l.tickets.items
-
-abbrev pub decreases-loop-ticket : goal.decreases-loop-ticket
-decreases-loop-ticket l = deque_len l.tickets

@@ -1,4 +1,0 @@
-pub mod TraceReplies
-pub mod MachineRuns
-pub mod HelloLaws
-pub mod ServedLaws

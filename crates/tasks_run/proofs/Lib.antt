@@ -1,8 +1,0 @@
-pub mod MoveLaws
-pub mod FaultLaws
-pub mod RunLaws
-pub mod HalfLaws
-pub mod CountLaws
-pub mod OpenedLaws
-pub mod Sends
-pub mod EndLaws

@@ -1,7 +1,0 @@
-use Rattle.std.proofs.Common.{◌≡◌, ◌≤◌, take, length}
-use Rattle.std.specs.Prelude.{filter}
-use Rattle.tasks_run.specs.RunEnds.{is_let_go}
-use Rattle.tasks_run.proofs.ends.lanes_let_go.Given as goal
-
-abbrev pub invariant-loop-entry : goal.invariant-loop-entry
-invariant-loop-entry l = (l.count ≡ length (filter is_let_go (take l.entry-index l.journal))) × (l.count ≤ l.entry-index)

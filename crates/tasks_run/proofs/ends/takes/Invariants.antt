@@ -1,7 +1,0 @@
-use Rattle.std.proofs.Common.{◌≡◌, ◌≤◌, take, length}
-use Rattle.std.specs.Prelude.{filter}
-use Rattle.tasks_run.specs.RunEnds.{is_take}
-use Rattle.tasks_run.proofs.ends.takes.Given as goal
-
-abbrev pub invariant-loop-entry : goal.invariant-loop-entry
-invariant-loop-entry l = (l.count ≡ length (filter is_take (take l.entry-index l.journal))) × (l.count ≤ l.entry-index)

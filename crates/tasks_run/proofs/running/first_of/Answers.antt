@@ -1,5 +1,0 @@
-use Rattle.tasks_run.proofs.RunLaws.{first_is}
-use Rattle.tasks_run.proofs.running.first_of.Goals as goal
-
-pub returns : goal.returns
-returns c = first_is c.args.seats.items c.remove-first.result c.remove-first.new.self.items c.requires c.remove-first.ensures.value c.remove-first.ensures.items

@@ -1,0 +1,5 @@
+mod Waiting
+pub mod Few
+mod Rounds
+pub mod Streaming
+mod Wholes

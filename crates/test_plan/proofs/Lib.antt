@@ -1,0 +1,15 @@
+mod Within
+mod WindowRange
+mod PlanCases1a
+mod PlanCases1b
+mod PlanCases2a
+mod PlanCases2b
+mod PlanCases3a
+mod PlanCases3b
+mod PlanCases4a
+mod PlanCases4b
+mod PlanCases5a
+mod PlanCases5b
+mod PlanCases6a
+mod PlanCases6b
+mod PlanCases7

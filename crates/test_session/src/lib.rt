@@ -1,0 +1,17 @@
+//! Tests of the driver, sessions, the server in memory, scripts and texts, by the libraries' public calls.
+#![tactic(auto)]
+
+#[cfg(test)]
+mod driver;
+#[cfg(test)]
+mod lanes;
+#[cfg(test)]
+mod map_server;
+#[cfg(test)]
+mod script;
+#[cfg(test)]
+mod served;
+#[cfg(test)]
+mod shapes;
+#[cfg(test)]
+mod text;

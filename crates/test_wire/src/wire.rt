@@ -1,0 +1,5 @@
+//! Tests of frames, requests and replies.
+mod frames;
+mod replies;
+mod requests;
+mod values;

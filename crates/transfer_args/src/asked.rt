@@ -1,0 +1,74 @@
+//! The request that a command line makes.
+use crate::options::Options;
+
+/// The direction in which files are copied.
+///
+/// Example: `crates/transfer_pool/src/tests.rt`.
+#[derive(Clone, Copy, Debug, PartialEq, Eq)]
+pub enum Direction {
+    /// From the server.
+    Get,
+    /// To the server.
+    Put,
+}
+
+/// The address of the server.
+///
+/// Used in `crates/sftp_transfer/src/terminal.rt`.
+#[derive(Clone, Copy, Debug, PartialEq, Eq)]
+pub enum LinkAt<'a> {
+    /// The Unix socket at this path.
+    Unix(&'a str),
+    /// This host and port, separated by a colon.
+    Tcp(&'a str),
+    /// Standard input, which carries its replies, and standard output, which carries the requests.
+    Stdio,
+}
+
+/// Files to copy.
+///
+/// Used in `crates/transfer_args/src/reading.rt`.
+#[derive(Clone, Copy)]
+pub struct Transfer<'a> {
+    /// The direction.
+    pub way: Direction,
+    /// The options of the copy.
+    pub options: Options,
+    /// The files to copy; with `-r` also directories.
+    pub sources: &'a [String],
+    /// The file or directory to copy to.
+    pub target: &'a str,
+}
+
+/// A directory of the server whose names are to be written.
+///
+/// Used in `crates/transfer_args/src/reading.rt`.
+#[derive(Clone, Copy)]
+pub struct Listing<'a> {
+    /// `-l`: with types and sizes.
+    pub long: bool,
+    /// The path of the directory.
+    pub path: &'a str,
+}
+
+/// The work that a command line asks for.
+///
+/// Used in `crates/sftp_transfer/src/terminal.rt`.
+#[derive(Clone, Copy)]
+pub enum Work<'a> {
+    /// Copies files.
+    Copy(Transfer<'a>),
+    /// Writes the names of a directory.
+    List(Listing<'a>),
+}
+
+/// The request of a command line: a server and the work to do there.
+///
+/// Used in `crates/transfer_args/src/reading.rt`.
+#[derive(Clone, Copy)]
+pub struct Asked<'a> {
+    /// The address of the server.
+    pub link: LinkAt<'a>,
+    /// The work to do.
+    pub work: Work<'a>,
+}

@@ -1,0 +1,11 @@
+//! Parses the command line of a transfer.
+#![tactic(auto)]
+
+mod asked;
+mod numbers;
+mod options;
+mod reading;
+
+pub use asked::{Asked, Direction, LinkAt, Listing, Transfer, Work};
+pub use options::Options;
+pub use reading::read_words;

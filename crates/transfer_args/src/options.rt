@@ -1,0 +1,37 @@
+//! The options of a transfer.
+
+/// The options of a transfer.
+///
+/// Used in `crates/sftp_transfer/src/batch.rt`.
+#[derive(Clone, Copy, Debug, PartialEq, Eq)]
+pub struct Options {
+    /// `-r`: also copies directories, with all their contents.
+    pub recursive: bool,
+    /// `-p`: preserves permissions and times.
+    pub preserve: bool,
+    /// `-q`: reports only the entries that were not copied.
+    pub quiet: bool,
+    /// `--progress`: reports the progress of the transfer while it runs.
+    pub progress: bool,
+    /// `--resume`: continues files after the bytes that an earlier run has left of them.
+    pub resume: bool,
+    /// `--verify`: reads files back from the server and compares them.
+    pub verify: bool,
+    /// `--window N`: the requests in flight for one file, from 1 to 1024.
+    pub window: u32,
+    /// `--files N`: the files copied at the same time, from 1 to 256.
+    pub files: u32,
+    /// `--limit BYTES`: the bytes in flight for all files together, from 1 to 1073741824.
+    pub limit: u32,
+}
+
+/// An option that a number follows.
+#[derive(Clone, Copy, Debug, PartialEq, Eq)]
+pub(crate) enum Counted {
+    /// `--window`.
+    Window,
+    /// `--files`.
+    Files,
+    /// `--limit`.
+    Limit,
+}

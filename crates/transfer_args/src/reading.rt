@@ -1,0 +1,251 @@
+//! The parser of a transfer's command line.
+ghost use Rattle.std.specs.Prelude.{◌≡◌, None, map};
+ghost use Rattle.std.specs.Option.{option_map};
+ghost use Rattle.std.specs.String.{string_bytes};
+ghost use Rattle.transfer_args.specs.Words.{asked_at, asked_by, asked_seen, copy_by, counted_by, flag_of, link_at, link_seen, list_at, list_by, options_by, plain_options, split_last, with_count, work_by, work_seen};
+
+use crate::asked::{Asked, Direction, LinkAt, Listing, Transfer, Work};
+use crate::numbers::number_in;
+use crate::options::{Counted, Options};
+
+/// Returns the options of a command line that has none.
+fn plain_options() -> Options
+    ensures { result ≡ plain_options }
+{
+    Options {
+        recursive: false,
+        preserve: false,
+        quiet: false,
+        progress: false,
+        resume: false,
+        verify: false,
+        window: 64,
+        files: 32,
+        limit: 16777216,
+    }
+}
+
+/// Returns the option that a word is, if it is one that a number follows.
+fn counted_by(word: &str) -> Option<Counted>
+    ensures { result ≡ counted_by word.now }
+{
+    if word == "--window" {
+        Some(Counted::Window)
+    } else if word == "--files" {
+        Some(Counted::Files)
+    } else if word == "--limit" {
+        Some(Counted::Limit)
+    } else {
+        None
+    }
+}
+
+/// Returns the options with a number that a word writes.
+fn with_count(options: Options, counted: Counted, word: &str) -> Option<Options>
+    ensures { result ≡ with_count options counted word.now }
+{
+    let word = word.as_bytes();
+    match counted {
+        Counted::Window => Some(Options {
+            window: number_in(1024, word)?,
+            ..options
+        }),
+        Counted::Files => Some(Options {
+            files: number_in(256, word)?,
+            ..options
+        }),
+        Counted::Limit => Some(Options {
+            limit: number_in(1073741824, word)?,
+            ..options
+        }),
+    }
+}
+
+/// Returns the options after an option that is a word alone, or `None` if the word is no such option.
+fn with_flag(options: Options, word: &str) -> Option<Options>
+    ensures { result ≡ flag_of options word.now }
+{
+    if word == "-r" {
+        Some(Options {
+            recursive: true,
+            ..options
+        })
+    } else if word == "-p" {
+        Some(Options {
+            preserve: true,
+            ..options
+        })
+    } else if word == "-q" {
+        Some(Options {
+            quiet: true,
+            ..options
+        })
+    } else if word == "--progress" {
+        Some(Options {
+            progress: true,
+            ..options
+        })
+    } else if word == "--resume" {
+        Some(Options {
+            resume: true,
+            ..options
+        })
+    } else if word == "--verify" {
+        Some(Options {
+            verify: true,
+            ..options
+        })
+    } else {
+        None
+    }
+}
+
+/// Returns the address of the server that a word writes.
+fn link_at(word: &str) -> Option<LinkAt<'_>>
+    ensures { option_map link_seen result ≡ link_at word.now }
+{
+    if word == "stdio" {
+        return Some(LinkAt::Stdio);
+    }
+    if let Some(path) = word.strip_prefix("unix:") {
+        return Some(LinkAt::Unix(path));
+    }
+    match word.strip_prefix("tcp:") {
+        Some(address) => Some(LinkAt::Tcp(address)),
+        None => None,
+    }
+}
+
+/// Returns the options at the front, and the words after them.
+fn options_by(words: &[String]) -> Option<(Options, &[String])>
+    ensures { option_map (λ p. (p.0, map string_bytes p.1.now)) result ≡ options_by plain_options None (map string_bytes words.now) }
+{
+    let mut options = plain_options();
+    let mut awaited = None;
+    let mut rest = words;
+    loop {
+        match rest {
+            [] => {
+                if awaited.is_some() {
+                    return None;
+                }
+                return Some((options, rest));
+            }
+            [word, later @ ..] => {
+                let word = word.as_str();
+                if let Some(counted) = awaited {
+                    options = with_count(options, counted, word)?;
+                    awaited = None;
+                } else if word == "--" {
+                    return Some((options, later));
+                } else if let Some(counted) = counted_by(word) {
+                    awaited = Some(counted);
+                } else if word.starts_with('-') {
+                    options = with_flag(options, word)?;
+                } else {
+                    return Some((options, rest));
+                }
+                rest = later;
+            }
+        }
+    }
+}
+
+/// Returns the words before the last one, and the last one.
+fn split_last(words: &[String]) -> Option<(&[String], &str)>
+    ensures { option_map (λ s. (map string_bytes s.0.now, s.1.now)) result ≡ split_last (map string_bytes words.now) }
+{
+    match words {
+        [first @ .., last] => Some((first, last.as_str())),
+        [] => None,
+    }
+}
+
+/// Returns the copy that the words after the verb ask for.
+fn copy_by(way: Direction, words: &[String]) -> Option<Work<'_>>
+    ensures { option_map work_seen result ≡ copy_by way (map string_bytes words.now) }
+{
+    let (options, operands) = options_by(words)?;
+    let (sources, target) = split_last(operands)?;
+    if sources.is_empty() {
+        return None;
+    }
+    Some(Work::Copy(Transfer {
+        way,
+        options,
+        sources,
+        target,
+    }))
+}
+
+/// Returns the directory whose names are to be written, if there is at most one word.
+fn list_at(long: bool, words: &[String]) -> Option<Work<'_>>
+    ensures { option_map work_seen result ≡ list_at long (map string_bytes words.now) }
+{
+    match words {
+        [] => Some(Work::List(Listing { long, path: "." })),
+        [path] => {
+            let path = path.as_str();
+            if path.starts_with('-') {
+                return None;
+            }
+            Some(Work::List(Listing { long, path }))
+        }
+        _ => None,
+    }
+}
+
+/// Returns the listing that the words after the verb ask for.
+fn list_by(words: &[String]) -> Option<Work<'_>>
+    ensures { option_map work_seen result ≡ list_by (map string_bytes words.now) }
+{
+    match words {
+        [word, rest @ ..] => {
+            if word.as_str() == "-l" {
+                list_at(true, rest)
+            } else {
+                list_at(false, words)
+            }
+        }
+        [] => list_at(false, words),
+    }
+}
+
+/// Returns the work that a verb and the words after it ask for.
+fn work_by<'a>(verb: &str, words: &'a [String]) -> Option<Work<'a>>
+    ensures { option_map work_seen result ≡ work_by verb.now (map string_bytes words.now) }
+{
+    if verb == "get" {
+        copy_by(Direction::Get, words)
+    } else if verb == "put" {
+        copy_by(Direction::Put, words)
+    } else if verb == "list" {
+        list_by(words)
+    } else {
+        None
+    }
+}
+
+/// Returns the request, unless names are to be written and standard output is the connection.
+fn asked_at<'a>(link: LinkAt<'a>, work: Work<'a>) -> Option<Asked<'a>>
+    ensures { option_map asked_seen result ≡ asked_at (link_seen link.entry) (work_seen work.entry) }
+{
+    match (link, work) {
+        (LinkAt::Stdio, Work::List(_)) => None,
+        _ => Some(Asked { link, work }),
+    }
+}
+
+/// Returns the request that a command line makes, or `None` if the command line can't be used.
+pub fn read_words(words: &[String]) -> Option<Asked<'_>>
+    ensures { option_map asked_seen result ≡ asked_by (map string_bytes words.now) }
+{
+    match words {
+        [link, verb, rest @ ..] => {
+            let link = link_at(link.as_str())?;
+            let work = work_by(verb.as_str(), rest)?;
+            asked_at(link, work)
+        }
+        _ => None,
+    }
+}

@@ -1,0 +1,261 @@
+-- Steps of a copy to the server.
+use Rattle.std.proofs.Common.{◌≡◌, ◌⊎◌, inl, inr, ◌<◌, ℕ, ◌+◌, ◌^◌, Bool, false, List, [], ◌∷◌, length, refl, sym, ap, ◌∙◌, subst, arith, Option, Some, None}
+use Rattle.std.specs.Prelude.{Ok, Err, IsSome}
+use Rattle.sftp_model.specs.Answers.{expected_of}
+use Rattle.sftp_model.specs.declared.file_attrs.FileAttrs.{FileAttrs}
+use Rattle.sftp_model.specs.declared.reply.Reply.{Reply}
+use Rattle.sftp_model.specs.declared.request.Request.TheVariants as request
+use Rattle.sftp_core.specs.Core.{Core}
+use Rattle.sftp_core.specs.Info.{info_of}
+use Rattle.plan_state.specs.Asked.{request_of}
+use Rattle.plan_state.specs.declared.asking.Asking.{Asking}
+use Rattle.plan_state.specs.declared.asking.Asking.TheVariants.{Whole, Parts}
+use Rattle.transfer_copy.specs.declared.copy_error.CopyError.{CopyError}
+use Rattle.transfer_copy.specs.declared.holding.PartAnswer.TheVariants as part_answer
+use Rattle.transfer_copy.specs.declared.progress.Progress.{Progress}
+use Rattle.transfer_copy.specs.declared.progress.Progress.TheVariants as progress
+use Rattle.transfer_copy.specs.declared.put.FilePut.{FilePut}
+use Rattle.transfer_copy.specs.declared.put.PutStage.{PutStage}
+use Rattle.transfer_copy.specs.declared.put.PutStage.TheVariants as stage
+use Rattle.transfer_copy.specs.Holdings.{
+  AsksForAttrs,
+  AsksForPart,
+  AsksForWrite,
+  HoldingValue,
+  WasNotOk,
+  WasOk,
+  IsFileOpen,
+  KeepsApart,
+  TakesPart,
+  bytes_under_way,
+  file_handle,
+}
+use Rattle.transfer_copy.specs.Puts.{
+  AcceptsWrite,
+  AsksAt,
+  EndsWriting,
+  IsClosedAt,
+  IsWritingOn,
+  NamedOrRemoves,
+  PutGivesUp,
+  PutLeaves,
+  PutsNoMore,
+  RemovesTarget,
+  PutSendsOn,
+  PutEndsSending,
+  StandsPut,
+  WritesOn,
+  rename_of,
+  rename_stage,
+}
+use Rattle.transfer_copy.specs.Local.{LocalAct}
+use Rattle.transfer_copy.proofs.GetLaws.{last_bytes, still_open}
+use Rattle.transfer_copy.proofs.HoldingLaws.{apart_both}
+
+-- what comes behind another change
+pub put_leaves_then : (core mid after : Core) (old new : FilePut) (left : HoldingValue)
+    → KeepsApart old.holding left core mid
+    → PutLeaves mid (record old { holding = left }) after new → PutLeaves core old after new
+put_leaves_then core mid after old new left first then_leaves = record {
+  putting = then_leaves.putting;
+  apart = apart_both old.holding left new.holding core mid after first then_leaves.apart;
+}
+
+-- ---- one part more
+
+-- a request for so many bytes is behind the others, and the copy writes on
+part_on : (core after : Core) (old : FilePut) (held : HoldingValue) (attrs : Option FileAttrs) (asking : Asking)
+    (len next : ℕ)
+    → IsSome (info_of core.phase) → old.stage ≡ stage.Writing → IsWritingOn old → next ≡ old.next + len → next < 2 ^ 64
+    → AsksForPart core old.holding asking len after held → KeepsApart old.holding held core after
+    → PutLeaves core old after (record old { holding = held; next = next; attrs = attrs })
+part_on core after old held attrs asking len next opened at_writing writing next_is small asks apart =
+    let new : FilePut = record old { holding = held; next = next; attrs = attrs } in
+    let sum = last_bytes asks.ticket len (expected_of (request_of asking)) old.holding.parts in
+    let total = ap bytes_under_way (ap (λ (x : HoldingValue). x.parts) asks.now) ∙ sum in
+    let was = writing.next in
+    let on : IsWritingOn new = record {
+      file = subst (λ (x : HoldingValue). IsFileOpen x.file) (sym asks.now) writing.file;
+      next = omega (arith, total, was, next_is);
+      small = small;
+      wide = writing.wide;
+      unfailed = writing.unfailed;
+    } in
+    record {
+      putting = record {
+        opened = still_open core after old.holding held apart opened;
+        held = apart.held;
+        stands = subst (λ (s : PutStage). StandsPut s new) (sym at_writing) on;
+      };
+      apart = apart;
+    }
+
+-- one WRITE more
+pub wrote_on : (core after : Core) (old : FilePut) (held : HoldingValue) (bytes : List ℕ) (len : ℕ)
+    → IsSome (info_of core.phase)
+    → old.stage ≡ stage.Writing → IsWritingOn old → len ≡ length bytes → old.next + len < 2 ^ 64
+    → AsksForWrite core old.holding old.next bytes after held → KeepsApart old.holding held core after
+    → PutLeaves core old after (record old { holding = held; next = old.next + len })
+wrote_on core after old held bytes len opened at_writing writing len_is small asks apart =
+    part_on core after old held old.attrs (Parts (file_handle old.holding.file) old.next (bytes ∷ [])) (length bytes)
+    (old.next + len)
+    opened at_writing writing (omega (arith, len_is)) small asks apart
+
+-- the FSETSTAT
+pub gave_on : (core after : Core) (old : FilePut) (held : HoldingValue) (attrs : FileAttrs)
+    → IsSome (info_of core.phase)
+    → old.stage ≡ stage.Writing → IsWritingOn old → AsksForAttrs core old.holding attrs after held
+    → KeepsApart old.holding held core after → PutLeaves core old after (record old { holding = held; attrs = None })
+gave_on core after old held attrs opened at_writing writing asks apart =
+    part_on core after old held None (Whole (request.Fsetstat (file_handle old.holding.file) attrs)) 0 old.next
+    opened at_writing writing (omega (arith)) writing.small asks apart
+
+-- ---- the status of the first WRITE
+
+pub write_came : {H : Type 0} (done : LocalAct → H → H) (core mid after : Core) (old new : FilePut)
+    (left : HoldingValue)
+    (r : Reply) (len : ℕ) (before : H) (result : Progress) → TakesPart core old.holding mid left
+    (part_answer.Came r len)
+    → AcceptsWrite r len mid (record old { holding = left }) after new → result ≡ progress.Moved
+    → WritesOn done core old after new before before result
+write_came done core mid after old new left r len before result came accepts moved =
+    subst (λ x. WritesOn done core old after new before before x) (sym moved)
+    (inr (refl, inl (record { mid = mid; left = left; r = r; len = len; came = came; accepts = accepts })))
+
+pub write_failed : {H : Type 0} (done : LocalAct → H → H) (core mid after : Core) (old new : FilePut)
+    (left : HoldingValue)
+    (before : H) (result : Progress) → PutGivesUp mid left (record old { holding = left }) after new → result
+    ≡ progress.Moved
+    → WritesOn done core old after new before before result
+write_failed done core mid after old new left before result gives moved =
+    subst (λ x. WritesOn done core old after new before before x) (sym moved)
+    (inr (
+      refl,
+      inr (inr (record {
+        mid = mid;
+        left = left;
+        gives_up = record { goes = gives.goes; stage = gives.stage; offset = gives.offset; failure = gives.failure };
+      })),
+    ))
+
+ends_or_fails : (core after : Core) (old new : FilePut) → PutEndsSending core old after new
+    ⊎ PutGivesUp core old.holding old after new
+    → PutEndsSending core old after new ⊎ PutsNoMore core old after new
+ends_or_fails core after old new (inl sent) = inl sent
+ends_or_fails core after old new (inr gives) = inr (record { mid = core; left = old.holding; gives_up = gives })
+
+send_moved : {H : Type 0} (done : LocalAct → H → H) (core after : Core) (old new : FilePut) (before now : H)
+    → PutSendsOn done core old after new before now progress.Moved
+    → WritesOn done core old after new before now progress.Moved
+send_moved done core after old new before now (inl reads) = inl reads
+send_moved done core after old new before now (inr (same, ends)) =
+    inr (same, inr (ends_or_fails core after old new ends))
+
+sends_same : {H : Type 0} (done : LocalAct → H → H) (core mid after : Core) (old new : FilePut) (left : HoldingValue)
+    (before now : H) (result : Progress) → mid ≡ core → left ≡ old.holding
+    → PutSendsOn done mid (record old { holding = left }) after new before now result
+    → PutSendsOn done core old after new before now result
+sends_same done core mid after old new left before now result core_is left_is sends =
+    let at_core = subst (λ (c : Core). PutSendsOn done c (record old { holding = left }) after new before now result)
+    core_is sends in
+    subst (λ (h : HoldingValue). PutSendsOn done core (record old { holding = h }) after new before now result) left_is
+    at_core
+
+missing_sends : {H : Type 0} (done : LocalAct → H → H) (core after : Core) (old new : FilePut) (before now : H)
+    (result : Progress)
+    → TakesPart core old.holding core old.holding part_answer.Missing
+    → PutSendsOn done core old after new before now result
+    → WritesOn done core old after new before now result
+missing_sends done core after old new before now progress.Waits missing (some, still, same) = (missing, still, same)
+missing_sends done core after old new before now progress.Moved missing sends =
+    send_moved done core after old new before now sends
+missing_sends done core after old new before now (progress.Ended result) missing never = absurd never
+
+pub write_missing : {H : Type 0} (done : LocalAct → H → H) (core mid after : Core) (old new : FilePut)
+    (left : HoldingValue)
+    (before now : H) (result : Progress) → TakesPart core old.holding mid left part_answer.Missing
+    → PutSendsOn done mid (record old { holding = left }) after new before now result
+    → WritesOn done core old after new before now result
+write_missing done core mid after old new left before now result missing sends =
+    missing_sends done core after old new before now result (missing.0, missing.1, missing.2, refl, refl)
+    (sends_same done core mid after old new left before now result missing.3 missing.4 sends)
+
+idle_sends : {H : Type 0} (done : LocalAct → H → H) (core after : Core) (old new : FilePut) (before now : H)
+    (result : Progress)
+    → old.holding.parts ≡ [] → PutSendsOn done core old after new before now result
+    → WritesOn done core old after new before now result
+idle_sends done core after old new before now progress.Waits none (some, still, same) =
+    absurd (let e = ap length none in omega (arith, some, e))
+idle_sends done core after old new before now progress.Moved none sends =
+    send_moved done core after old new before now sends
+idle_sends done core after old new before now (progress.Ended result) none never = absurd never
+
+pub write_idle : {H : Type 0} (done : LocalAct → H → H) (core mid after : Core) (old new : FilePut)
+    (left : HoldingValue)
+    (before now : H) (result : Progress) → TakesPart core old.holding mid left part_answer.Idle
+    → PutSendsOn done mid (record old { holding = left }) after new before now result
+    → WritesOn done core old after new before now result
+write_idle done core mid after old new left before now result idle sends =
+    idle_sends done core after old new before now result idle.0
+    (sends_same done core mid after old new left before now result idle.1 idle.2 sends)
+
+-- ---- the end
+
+some_is_none : (p : Option CopyError) (e : CopyError) → p ≡ None → p ≡ Some e → ⊥
+some_is_none p e none some = let bad : (◌≡◌ {A = Option CopyError} None (Some e)) = sym none ∙ some in cc
+
+named_close : (core mid after : Core) (old new : FilePut) (left : HoldingValue) (part remote : List ℕ) (replaces : Bool)
+    (result : Progress)
+    → WasOk core old.holding mid left → old.failure ≡ None
+    → AsksAt (rename_of part remote replaces) (rename_stage replaces) mid (record old { holding = left }) after new
+    result
+    → EndsWriting part remote core old after new result
+named_close core mid after old new left part remote replaces progress.Waits ok none never = absurd never
+named_close core mid after old new left part remote replaces progress.Moved ok none asks =
+    (none, (replaces, record { mid = mid; left = left; ok = ok; asks = asks }))
+named_close core mid after old new left part remote replaces (progress.Ended (Err e)) ok none (same, now) =
+    (λ first some. absurd (some_is_none old.failure first none some), ap (λ (x : FilePut). x.stage) now)
+named_close core mid after old new left part remote replaces (progress.Ended (Ok len)) ok none never = absurd never
+
+failed_close : (core mid after : Core) (old new : FilePut) (part remote : List ℕ) (first : CopyError) (result : Progress)
+    → old.failure ≡ Some first → result ≡ progress.Ended (Err first) → new.stage ≡ stage.Ended
+    → EndsWriting part remote core old after new result
+failed_close core mid after old new part remote first result some is over =
+    subst (λ x. EndsWriting part remote core old after new x) (sym is)
+    (λ other is_other. some_same first other (sym some ∙ is_other), over)
+  where
+    some_same : (a b : CopyError) → (◌≡◌ {A = Option CopyError} (Some a) (Some b)) → a ≡ b
+    some_same a b e = cc
+
+pub put_closed : (core mid after : Core) (old new : FilePut) (left : HoldingValue) (part remote : List ℕ)
+    (result : Progress)
+    → WasOk core old.holding mid left → IsClosedAt part remote mid (record old { holding = left }) after new result
+    → EndsWriting part remote core old after new result
+put_closed core mid after old new left part remote result ok (inl (none, (replaces, asks))) =
+    named_close core mid after old new left part remote replaces result ok none asks
+put_closed core mid after old new left part remote result ok (inr (first, some, is, same, over)) =
+    failed_close core mid after old new part remote first result some is over
+
+pub put_removes : (core mid after : Core) (old new : FilePut) (left : HoldingValue) (remote : List ℕ)
+    (result : Progress)
+    → WasNotOk core old.holding mid left → AsksAt (request.Remove remote) stage.Removing mid
+    (record old { holding = left }) after new result
+    → NamedOrRemoves remote core old after new result
+put_removes core mid after old new left remote progress.Waits not_ok never = absurd never
+put_removes core mid after old new left remote progress.Moved not_ok asks =
+    record { mid = mid; left = left; not_ok = not_ok; asks = asks }
+put_removes core mid after old new left remote (progress.Ended (Err e)) not_ok (same, now) =
+    ap (λ (x : FilePut). x.stage) now
+put_removes core mid after old new left remote (progress.Ended (Ok len)) not_ok never = absurd never
+
+pub put_removed : (core mid after : Core) (old new : FilePut) (left : HoldingValue) (part remote : List ℕ)
+    (result : Progress)
+    → WasOk core old.holding mid left → AsksAt (rename_of part remote false) stage.RenamingAgain mid
+    (record old { holding = left }) after new result
+    → RemovesTarget part remote core old after new result
+put_removed core mid after old new left part remote progress.Waits ok never = absurd never
+put_removed core mid after old new left part remote progress.Moved ok asks =
+    record { mid = mid; left = left; ok = ok; asks = asks }
+put_removed core mid after old new left part remote (progress.Ended (Err e)) ok (same, now) =
+    ap (λ (x : FilePut). x.stage) now
+put_removed core mid after old new left part remote (progress.Ended (Ok len)) ok never = absurd never

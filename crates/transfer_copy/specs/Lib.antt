@@ -1,0 +1,12 @@
+pub mod Local
+pub mod Answers
+pub mod Refusals
+pub mod Holdings
+pub mod Gets
+pub mod Puts
+pub mod Acts
+pub mod Disks
+pub mod Legs
+pub mod WholeGets
+pub mod WholePuts
+pub mod WholeRows

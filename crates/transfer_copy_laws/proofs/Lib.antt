@@ -1,0 +1,3 @@
+mod DownLaws
+mod UpLaws
+mod MachineLaws

@@ -1,4 +1,0 @@
-pub mod ActLaws
-pub mod ApartLaws
-pub mod DoneLaws
-pub mod PathLaws

@@ -1,6 +1,0 @@
-use Rattle.std.proofs.Common.{◌≡◌, ℕ, List, take}
-use Rattle.transfer_jobs.specs.Apart.{has_path, is_part}
-use Rattle.transfer_jobs.proofs.apart.parts_of.Given as goal
-
-abbrev pub invariant-loop-found : goal.invariant-loop-found
-invariant-loop-found l = (p : List ℕ) → has_path l.parts p ≡ is_part (take l.found-index l.jobs) p

@@ -1,0 +1,9 @@
+pub mod Names
+pub mod Cuts
+pub mod NameRows
+pub mod Entries
+pub mod Walks
+pub mod WalkRows
+pub mod Jobs
+pub mod Apart
+pub mod ApartRows

@@ -1,0 +1,32 @@
+//! The names of directory entries and the paths made of them.
+#![tactic(auto)]
+
+mod apart;
+mod below;
+mod carry;
+mod component;
+mod cut;
+mod found;
+mod hand;
+#[cfg(test)]
+mod job_tests;
+mod path_set;
+#[cfg(test)]
+mod path_tests;
+mod tally;
+mod task;
+mod walk;
+#[cfg(test)]
+mod walk_tests;
+
+pub use apart::keep_apart;
+pub use below::path_in;
+pub use carry::carry_out;
+pub use component::is_component;
+pub use cut::{last_component, part_path};
+pub use found::Found;
+pub use hand::{Hand, JobVerdict};
+pub use ssh_encoding::OutOfMemory;
+pub use tally::Tally;
+pub use task::{EntryKind, MAX_DEPTH, Task};
+pub use walk::{MAX_ENTRIES, Walk, WalkError};

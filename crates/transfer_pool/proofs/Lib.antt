@@ -1,0 +1,5 @@
+mod GoingLaws
+mod TogetherLaws
+mod WorkLaws
+mod LegLaws
+mod JobLaws

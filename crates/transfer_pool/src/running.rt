@@ -1,0 +1,136 @@
+//! One copy among others.
+ghost use Rattle.std.specs.Prelude.{◌≡◌, IsSome};
+ghost use Rattle.sftp_core.specs.Core.{Core as CoreValue};
+ghost use Rattle.sftp_core.specs.Info.{info_of};
+ghost use Rattle.transfer_copy.specs.Holdings.{SparesIds, nothing_held};
+ghost use Rattle.transfer_pool.specs.Copies.{StepsCopy, IsEndedAs, MayCancel, MayStepCopy, copy_begun, holding_of};
+
+use sftp_core::Core;
+use sftp_model::FileAttrs;
+use std::alloc::Global;
+use transfer_args::Direction;
+use transfer_copy::{CopyError, FileGet, FilePut, LocalFile, Progress};
+
+/// A file to copy: it is written as `part`, and renamed to `to` when all its bytes are there.
+///
+/// Example: `crates/transfer_pool/src/tests.rt`.
+#[derive(Drop)]
+pub struct CopyJob {
+    pub way: Direction,
+    pub from: String,
+    pub part: String,
+    pub to: String,
+    /// The number of bytes that the part file has already; the copy continues after them. With 0 the part file is
+    /// created or truncated.
+    pub begins_at: u64,
+    /// The attributes that a file of the server is given before it is closed, if the copy is one to the server.
+    pub attrs: Option<FileAttrs>,
+}
+
+/// The state of a copy.
+///
+/// Used in `crates/transfer_pool/src/copier.rt`.
+#[must_use]
+pub enum CopyState {
+    /// A copy from the server.
+    Get(FileGet),
+    /// A copy to the server.
+    Put(FilePut),
+}
+
+/// A copy that has not ended.
+///
+/// Used in `crates/transfer_pool/src/copier.rt`.
+#[must_use]
+pub struct Running<F> {
+    pub(crate) job: CopyJob,
+    pub(crate) local: F,
+    pub(crate) state: CopyState,
+}
+
+/// A copy that has ended: with the number of bytes, or the reason why it failed.
+///
+/// Example: `crates/transfer_pool/src/tests.rt`.
+#[derive(Drop)]
+pub struct Copied<F> {
+    pub job: CopyJob,
+    pub local: F,
+    pub result: Result<u64, CopyError>,
+}
+
+impl CopyState {
+    /// Returns a copy from an offset on that has asked for nothing. A copy to the server gives the file these
+    /// attributes.
+    pub(crate) fn new(
+        alloc: Global,
+        way: Direction,
+        window: u32,
+        begins_at: u64,
+        attrs: Option<FileAttrs>,
+    ) -> CopyState
+        ensures new { result ≡ copy_begun way window begins_at attrs }
+        ensures may { (core : CoreValue) → IsSome (info_of core.phase) → MayStepCopy core result }
+    {
+        match way {
+            Direction::Get => CopyState::Get(FileGet::new(alloc, window, begins_at)),
+            Direction::Put => CopyState::Put(FilePut::new(alloc, window, begins_at, attrs)),
+        }
+    }
+
+    /// Cancels the copy, or spends it after its end.
+    pub(crate) fn cancel(self, core: &mut Core)
+        requires { MayCancel core.old self }
+        ensures { SparesIds (holding_of self) nothing_held core.old core.new }
+    {
+        match self {
+            CopyState::Get(get) => get.cancel(core),
+            CopyState::Put(put) => put.cancel(core),
+        }
+    }
+}
+
+impl<F: LocalFile> Running<F> {
+    /// Takes one step of the copy.
+    pub(crate) fn step(&mut self, core: &mut Core) -> Progress
+        requires { MayStepCopy core.old self.old.state }
+        ensures { StepsCopy F.done F.history core.old self.old core.new self.new result }
+    {
+        let from = self.job.from.as_str();
+        let part = self.job.part.as_str();
+        let to = self.job.to.as_str();
+        match &mut self.state {
+            CopyState::Get(get) => get.step(core, &mut self.local, from, part, to),
+            CopyState::Put(put) => put.step(core, &mut self.local, from, part, to),
+        }
+    }
+
+    /// Cancels the copy.
+    pub(crate) fn cancel(self, core: &mut Core)
+    where
+        F: Drop,
+        requires { MayStepCopy core.old self.state }
+        ensures { SparesIds (holding_of self.state) nothing_held core.old core.new }
+    {
+        let Running {
+            job: _,
+            local: _,
+            state,
+        } = self;
+        state.cancel(core);
+    }
+
+    /// Returns the result of a copy that has ended.
+    pub(crate) fn end(self, core: &mut Core, outcome: Result<u64, CopyError>) -> Copied<F>
+        requires { MayCancel core.old self.state }
+        ensures is { IsEndedAs self outcome result }
+        ensures spares { SparesIds (holding_of self.state) nothing_held core.old core.new }
+    {
+        let Running { job, local, state } = self;
+        state.cancel(core);
+        Copied {
+            job,
+            local,
+            result: outcome,
+        }
+    }
+}

@@ -1,9 +1,0 @@
-use Rattle.transfer_states.specs.Holdings.{ClosesFile}
-use Rattle.std.proofs.Common.{rules}
-use Rattle.transfer_states.proofs.DropLaws.{file_closed}
-use Rattle.transfer_states.proofs.holding.Holding.close.Goals as goal
-
-pub returns-clause-apart : goal.returns-clause-apart
-returns-clause-apart c =
-    let closes : ClosesFile c.args.core.now c.args.self.now c.release.new.self _ = search rules in
-    file_closed c.args.core.now c.release.new.self c.args.self.now _ c.requires.held closes

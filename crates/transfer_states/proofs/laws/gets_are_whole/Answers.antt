@@ -1,5 +1,0 @@
-use Rattle.transfer_states.proofs.WholeGetSteps.{got_whole}
-use Rattle.transfer_states.proofs.laws.gets_are_whole.Goals as goal
-
-pub returns : goal.returns
-returns g c = got_whole g.F.LocalFile.done

@@ -1,5 +1,0 @@
-use Rattle.transfer_states.proofs.WholePutSteps.{sent_whole}
-use Rattle.transfer_states.proofs.laws.puts_are_whole.Goals as goal
-
-pub returns : goal.returns
-returns g c = sent_whole g.F.LocalFile.done

@@ -1,7 +1,0 @@
-use Rattle.transfer_states.proofs.PutLaws.{put_closed}
-use Rattle.transfer_states.proofs.put.FilePut.close.Goals as goal
-
-pub returns-in-Done-clause-did : goal.returns-in-Done-clause-did
-returns-in-Done-clause-did c =
-    put_closed c.args.core.now c.settle_status.new.core c.closed.new.core c.args.self.now c.closed.new.self c.settle_status.new.self
-    c.args.part.now c.args.remote.now c.closed.result c.in-Done.ensures.answers.0 c.closed.ensures.did

@@ -1,4 +1,0 @@
-pub mod CacheSizes
-pub mod CanView
-pub mod Lists
-pub mod ListRows

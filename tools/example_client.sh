@@ -1,0 +1,94 @@
+#!/bin/sh
+# Runs the examples over OpenSSH's SFTP server: files of several sizes put and got and compared, a directory listed, the sizes
+# of two and of two hundred files, a tree, and what isn't there. It installs nothing: where the server or socat is missing it
+# says which, and passes. Another program than the one that `rt ci` built may be given as an argument.
+set -u
+cd "$(dirname "$0")/.." || exit 1
+
+program=${1:-$PWD/crates/example_client/out/example_client}
+server=/usr/lib/openssh/sftp-server
+
+missing=
+[ -x "$server" ] || missing="$missing openssh-sftp-server ($server)"
+command -v socat >/dev/null || missing="$missing socat"
+if [ -n "$missing" ]; then
+    echo "examples: skipped, missing:$missing"
+    exit 0
+fi
+if ! [ -x "$program" ]; then
+    echo "examples: $program is missing: run 'rt ci' first, or 'rt run' in crates/example_client"
+    exit 1
+fi
+
+room=$(mktemp -d) || exit 1
+socat "UNIX-LISTEN:$room/socket,fork" "EXEC:$server" 2>/dev/null &
+listener=$!
+trap 'kill $listener 2>/dev/null; rm -rf "$room"' EXIT
+tries=0
+while ! [ -S "$room/socket" ] && [ $tries -lt 100 ]; do
+    sleep 0.1
+    tries=$((tries + 1))
+done
+failed=0
+
+# says what failed
+fail() {
+    echo "examples: $1"
+    failed=$((failed + 1))
+}
+
+mkdir "$room/files"
+for size in 0 1 32768 32769 1000000; do
+    head -c $size /dev/urandom >"$room/from"
+    timeout 60 "$program" put "$room/socket" "$room/files/$size" <"$room/from" || fail "put of $size bytes"
+    cmp -s "$room/from" "$room/files/$size" || fail "what was put of $size bytes differs"
+    timeout 60 "$program" get "$room/socket" "$room/files/$size" >"$room/to" || fail "get of $size bytes"
+    cmp -s "$room/from" "$room/to" || fail "what was got of $size bytes differs"
+done
+
+timeout 60 "$program" list "$room/socket" "$room/files" | sort >"$room/names" || fail "list"
+printf '%s\n' . .. 0 1 1000000 32768 32769 | sort | cmp -s - "$room/names" || fail "the names that were listed differ"
+
+printf '32769\n1000000\n' >"$room/wanted"
+timeout 60 "$program" sizes "$room/socket" "$room/files/32769" "$room/files/1000000" >"$room/to" || fail "sizes"
+cmp -s "$room/wanted" "$room/to" || fail "the sizes that were told differ"
+
+# as many as three times what may be under way at once, of 0 to 199 bytes
+mkdir "$room/many"
+wanted=
+set --
+size=0
+while [ $size -lt 200 ]; do
+    head -c $size /dev/zero >"$room/many/$size"
+    set -- "$@" "$room/many/$size"
+    wanted="$wanted$size\n"
+    size=$((size + 1))
+done
+printf "$wanted" >"$room/wanted"
+timeout 60 "$program" sizes "$room/socket" "$@" >"$room/to" || fail "sizes of many"
+cmp -s "$room/wanted" "$room/to" || fail "the sizes of many that were told differ"
+if timeout 60 "$program" sizes "$room/socket" "$room/many/1" "$room/none" "$room/many/2" >"$room/to" 2>"$room/why"; then
+    fail "the size of a file that isn't there was told"
+fi
+[ -s "$room/to" ] && fail "sizes were printed behind a refusal"
+
+# a directory before those in it; the link to the directory above isn't followed
+mkdir -p "$room/tree/a/b/c" "$room/tree/d"
+touch "$room/tree/x" "$room/tree/a/y" "$room/tree/a/b/c/z"
+ln -s .. "$room/tree/a/up"
+timeout 60 "$program" tree "$room/socket" "$room/tree" | sort >"$room/to" || fail "tree"
+for path in a a/b a/b/c a/b/c/z a/up a/y d x; do echo "$room/tree/$path"; done | sort >"$room/wanted"
+cmp -s "$room/wanted" "$room/to" || fail "the tree that was listed differs"
+if timeout 60 "$program" tree "$room/socket" "$room/none" >"$room/to" 2>"$room/why"; then
+    fail "a tree that isn't there was listed"
+fi
+[ -s "$room/to" ] && fail "something was printed of a tree that isn't there"
+
+if timeout 60 "$program" get "$room/socket" "$room/none" >"$room/to" 2>"$room/why"; then
+    fail "a file that isn't there was got"
+fi
+[ -s "$room/why" ] || fail "no reason was told"
+[ -s "$room/to" ] && fail "something was printed of a file that isn't there"
+
+[ $failed -eq 0 ] && echo "examples: ok"
+[ $failed -eq 0 ]
