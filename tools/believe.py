@@ -3,16 +3,20 @@
 
     python3 tools/believe.py [CRATE FILE NAME]      by crates, for one definition: sftp_cli Printed IsPrinted if it is left out
     python3 tools/believe.py --table                the table of docs/PROVED.md: a line for each headline
-    python3 tools/believe.py --check                whether docs/PROVED.md has this table
+    python3 tools/believe.py --heads                writes the first line of each file of specs/
+    python3 tools/believe.py --check                whether docs/PROVED.md has this table, and each file its first line
 
 Definitions of the standard library are not counted, and of Rust types only their number. Comments and imports are no lines.
+
+A file of specs/ with definitions below a headline begins with `-- believed`. If only some of its definitions are, the line names
+those that are (`-- believed: ..`) or those that are not (`-- believed, except ..`), whichever are fewer.
 """
-import os, re, sys
+import os, re, sys, textwrap
 from collections import defaultdict
 
 ROOT = os.path.dirname(os.path.dirname(os.path.abspath(__file__)))
 WORD = re.compile(r"[^\W\d][\w'\-]*")
-DECLARATION = re.compile(r"((?:abbrev|unfoldable|opaque|pub|record|data)\s+)*(◌?[^\s(){}:=◌]+(?:◌[^\s(){}:=]*)*)(?=[\s({:]|$)")
+DECLARATION = re.compile(r"((?:abbrev|unfoldable|opaque|pub|record|data)\s+)*(◌[^\s(){}]+|[^\s(){}:=◌]+(?:◌[^\s(){}:=]*)*)(?=[\s({:]|$)")
 IMPORT = re.compile(r"(?:pub )?use Rattle\.(\w+)\.specs\.([\w.]+?)(?:\.\{(.*)\}| as (\w+))$")
 
 
@@ -29,6 +33,19 @@ def statements(text):
         joined = ""
 
 
+def unnested(lines):
+    """The lines with those of an unnamed module moved to the left, each with the module's parameters, or with an empty text."""
+    outer = ""
+    for line in lines:
+        if line.startswith("module _"):
+            outer = line
+        elif outer and line.startswith("  "):
+            yield line[2:], outer
+        else:
+            outer = ""
+            yield line, outer
+
+
 def declared(line):
     """The name that a line declares: it has a word of a declaration, or a type before any equation."""
     found = DECLARATION.match(line)
@@ -41,9 +58,9 @@ class Module:
     """A file of specs/: the lines of each definition, the names that it imports, and the modules that it names by a word."""
 
     def __init__(self, text):
-        self.definitions, self.names, self.modules = defaultdict(list), {}, {}
+        self.definitions, self.names, self.modules, self.outer = defaultdict(list), {}, {}, {}
         current = None
-        for line in statements(text):
+        for line, outer in unnested(statements(text)):
             found = IMPORT.match(line)
             if found and found[3] is not None:
                 for item in filter(None, (item.strip() for item in found[3].split(","))):
@@ -55,6 +72,7 @@ class Module:
                 current = declared(line) or current
                 if current:
                     self.definitions[current].append(line)
+                    self.outer[current] = outer
 
 
 def modules():
@@ -73,9 +91,11 @@ def modules():
 
 def cited(files, module, name, types):
     """The definitions that one of them names; the declared types go to their own set."""
-    here, text = files[module], "\n".join(files[module].definitions[name])
+    here = files[module]
+    text = "\n".join([here.outer[name], *here.definitions[name]])
     wanted = [(here.modules[a], b) for a, b in re.findall(r"\b(\w+)\.([^\W\d][\w'\-]*)", text) if a in here.modules]
-    for word in set(WORD.findall(text)):
+    operators = [word for word in (*here.definitions, *here.names) if "◌" in word and word.strip("◌") in text.split()]
+    for word in {*WORD.findall(text), *operators}:
         if word in here.definitions:
             wanted.append((module, word))
         elif word in here.names:
@@ -133,6 +153,43 @@ def table(files):
     return "\n".join(lines)
 
 
+HEAD = "-- believed"
+
+
+def head(definitions, seen):
+    """The first lines of a file by its definitions and those of them that are below a headline; none if there are none."""
+    others = [name for name in definitions if name not in seen]
+    if not seen:
+        return []
+    if not others:
+        return [HEAD]
+    names = [name for name in definitions if name in seen]
+    start, chosen = (f"{HEAD}: ", names) if len(names) <= len(others) else (f"{HEAD}, except ", others)
+    return textwrap.wrap(start + ", ".join(chosen), 118, subsequent_indent="--   ", break_on_hyphens=False)
+
+
+def body(lines):
+    """The lines of a file without its head."""
+    if lines and lines[0].startswith(HEAD):
+        lines = lines[1:]
+        while lines and lines[0].startswith("--   "):
+            lines = lines[1:]
+    return lines
+
+
+def heads(files):
+    """The path of each file of specs/, its text now, and the text that it is to have."""
+    seen = set()
+    for _, crate, file, name in HEADLINES:
+        seen |= cone(files, crate, file, name)[0]
+    for module, found in files.items():
+        crate, _, file = module.partition(".")
+        path = f"{ROOT}/crates/{crate}/specs/{file.replace('.', '/')}.antt"
+        text = open(path, encoding="utf-8").read()
+        first = head(list(found.definitions), {name for at, name in seen if at == module})
+        yield path, text, "\n".join(first + body(text.split("\n")))
+
+
 def by_crates(files, crate, file, name):
     """Prints how many definitions, lines and files of each crate are below a definition."""
     seen, types = cone(files, crate, file, name)
@@ -157,7 +214,14 @@ def main():
     elif sys.argv[1:] == ["--check"]:
         if table(files) not in open(f"{ROOT}/docs/PROVED.md", encoding="utf-8").read():
             sys.exit("believe: the table of docs/PROVED.md is not that of tools/believe.py --table")
-        print("believe: the table of docs/PROVED.md is up to date")
+        stale = [os.path.relpath(path, ROOT) for path, text, wanted in heads(files) if text != wanted]
+        if stale:
+            sys.exit("believe: the first line is not that of tools/believe.py --heads: " + " ".join(stale))
+        print("believe: the table of docs/PROVED.md and the first lines of specs/ are up to date")
+    elif sys.argv[1:] == ["--heads"]:
+        for path, text, wanted in heads(files):
+            if text != wanted:
+                open(path, "w", encoding="utf-8").write(wanted)
     else:
         by_crates(files, *(sys.argv[1:4] if len(sys.argv) > 3 else ("sftp_cli", "Printed", "IsPrinted")))
 

@@ -1,3 +1,4 @@
+-- believed, except fault_of_link
 -- The errors that a run over a link may return, and their causes.
 use Rattle.std.specs.Prelude.{◌≡◌, ◌<◌, ℕ, Bool, true, Option, List, Result, Ok, Err, IfErr}
 use Rattle.sftp_model.specs.declared.error.Error.{Error}

@@ -1,3 +1,4 @@
+-- believed, except ReceivedBytes, IsPartway, ReceivedRoom, PullFails, GotFor
 -- The bytes of a frame that come over the calls of a link.
 use Rattle.std.specs.Prelude.{◌≡◌, ◌⊎◌, ◌<◌, ◌≤◌, ◌+◌, ℕ, List, ◌++◌, length, Option, None, Some, Result, Ok, Err}
 use Rattle.sftp_model.specs.declared.error.Error.{Error}

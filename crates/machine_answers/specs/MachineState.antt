@@ -1,3 +1,4 @@
+-- believed: MachineState, MAX_HANDLES, with_tree, with_grant, after_answer, answer
 -- A server of files and directories in memory, which grants the numbers 0, 1, 2 and so on as its handles.
 use Rattle.std.specs.Prelude.{◌≡◌, ◌<◌, ◌≤◌, ℕ, ◌+◌, ◌==◌, true, length, if◌then◌else◌}
 use Rattle.sftp_model.specs.declared.config.Choice.{Choice}

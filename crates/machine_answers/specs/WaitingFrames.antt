@@ -1,3 +1,4 @@
+-- believed: WaitingFrames
 -- Frames that wait to be sent.
 use Rattle.std.specs.Prelude.{ℕ, ◌==◌, ◌%◌, List, [], ◌∷◌, length, drop, if◌then◌else◌, slice_index_or}
 use Rattle.std.specs.List.{remove}

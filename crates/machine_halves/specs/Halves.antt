@@ -1,3 +1,4 @@
+-- believed: IsNewHalf, Halves, halves_of
 -- The views of a half of a server in memory.
 use Rattle.std.specs.Prelude.{◌≡◌, ℕ, List, [], Bool, false, Option, Some}
 use Rattle.sftp_link.specs.declared.piece.Piece.{Piece}

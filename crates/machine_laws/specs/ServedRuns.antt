@@ -1,3 +1,4 @@
+-- believed
 -- Runs over a server of files and directories.
 use Rattle.std.specs.Prelude.{List}
 use Rattle.machine_model.specs.FileTree.{FileTree}

@@ -1,3 +1,4 @@
+-- believed: IsWellFormed
 -- The changes that a request may make to a tree.
 use Rattle.std.specs.Prelude.{◌≡◌, ◌≢◌, ◌<◌, ℕ, ◌⊎◌, Bool, true, false, ◌||◌, List, [], length, Some, None, drop, ◌≤◌}
 use Rattle.sftp_model.specs.declared.reply.NameEntry.{NameEntry}

@@ -1,3 +1,4 @@
+-- believed
 -- Names of files and directories. A path denotes a list of components; the empty list is the root.
 use Rattle.std.specs.Prelude.{
   ℕ,

@@ -1,3 +1,4 @@
+-- believed
 -- The files and directories of a server in memory, and the handles that are open.
 use Rattle.std.specs.Prelude.{
   ℕ,

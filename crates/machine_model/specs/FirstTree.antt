@@ -1,3 +1,4 @@
+-- believed, except may_hold, may_hold_all, differ, stand_apart, leave_room, may_begin
 -- The tree that a server starts with, and its conditions.
 use Rattle.std.specs.Prelude.{
   ℕ,

@@ -1,3 +1,4 @@
+-- believed
 -- The replies of a server of files in memory to OPEN and to requests with a handle (draft-ietf-secsh-filexfer-02,
 -- sections 6.3, 6.4, 6.8 and 6.9; OpenSSH's PROTOCOL; draft-ietf-secsh-filexfer-extensions-00, section 7).
 use Rattle.std.specs.Prelude.{

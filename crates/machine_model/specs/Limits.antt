@@ -1,3 +1,4 @@
+-- believed
 -- The bounds of a server in memory.
 use Rattle.std.specs.Prelude.{ℕ}
 

@@ -1,3 +1,4 @@
+-- believed
 -- The replies of a server of files in memory to requests on names, and to READDIR (draft-ietf-secsh-filexfer-02,
 -- sections 6.5 to 6.11; OpenSSH's PROTOCOL, section 4).
 use Rattle.std.specs.Prelude.{

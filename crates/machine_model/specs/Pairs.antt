@@ -1,3 +1,4 @@
+-- believed
 -- Membership in a list.
 use Rattle.std.specs.Prelude.{◌≡◌, ◌⊎◌, List, [], ◌∷◌}
 

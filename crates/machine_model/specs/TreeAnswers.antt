@@ -1,3 +1,4 @@
+-- believed
 -- A server of files and directories in memory: its reply to a request, and the tree after it.
 use Rattle.std.specs.Prelude.{ℕ, ◌==◌, List, [], ◌∷◌, Option, Some, None, if◌then◌else◌}
 use Rattle.sftp_model.specs.declared.config.Choice.{Choice}

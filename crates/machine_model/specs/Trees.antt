@@ -1,3 +1,4 @@
+-- believed
 -- Trees in which each name occurs once, and beneath a directory.
 use Rattle.std.specs.Prelude.{◌≡◌, ℕ, Bool, true, false, List, [], ◌∷◌, None}
 use Rattle.std.specs.List.{list_all, list_any}

@@ -1,3 +1,4 @@
+-- believed: numbered_handle
 -- Open handles by their numbers, and open files and directories without their first entries.
 use Rattle.std.specs.Prelude.{ℕ, ◌≡◌, ◌<◌, ◌^◌, List, [], ◌∷◌, drop, if◌then◌else◌, map}
 use Rattle.std.specs.Int.{w32, to_be_bytes}

@@ -1,3 +1,4 @@
+-- believed
 -- The results of copying files and the files that it leaves, over a file machine.
 use Rattle.std.specs.Prelude.{◌≡◌, ℕ, List, Some, slice_get}
 use Rattle.sftp_model.specs.declared.config.Choice.{Choice}

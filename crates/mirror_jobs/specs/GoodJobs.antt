@@ -1,3 +1,4 @@
+-- believed
 -- Files that are certain to be copied or read, if the server refuses nothing by choice.
 use Rattle.std.specs.Prelude.{
   ◌≡◌,

@@ -1,3 +1,4 @@
+-- believed
 -- The lanes that copy files, and the turns under which they run.
 use Rattle.std.specs.Prelude.{
   ℕ,

@@ -1,3 +1,4 @@
+-- believed: path_of, name_of
 -- Files to copy, and the permitted lists of them.
 use Rattle.std.specs.Prelude.{ℕ, ◌^◌, ◌-◌, Bool, ◌&&◌, List, length, map, nat_le, nat_lt}
 use Rattle.std.specs.List.{list_all}

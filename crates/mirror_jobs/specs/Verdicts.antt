@@ -1,3 +1,4 @@
+-- believed
 -- The results of files that were copied, by the outcomes of the calls.
 use Rattle.std.specs.Prelude.{
   ℕ,

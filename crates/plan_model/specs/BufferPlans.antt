@@ -1,3 +1,4 @@
+-- believed
 -- The calls on a buffered file.
 use Rattle.std.specs.Prelude.{
   ℕ,

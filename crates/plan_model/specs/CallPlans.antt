@@ -1,3 +1,4 @@
+-- believed
 -- All calls of a lane: the next move of each, and the site that it leaves if it is cancelled.
 use Rattle.std.specs.Prelude.{Some}
 use Rattle.sftp_model.specs.declared.slot.Facts.{Facts}

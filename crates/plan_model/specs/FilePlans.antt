@@ -1,3 +1,4 @@
+-- believed
 -- The calls on a file in a slot that make at most one request, except reads and writes.
 use Rattle.std.specs.Prelude.{ℕ, ◌+◌, ◌-◌, ◌==◌, not, List, [], ◌∷◌, Some, None, pos, negsuc, nat_le, if◌then◌else◌}
 use Rattle.std.specs.declared.io.traits.SeekFrom.{SeekFrom}

@@ -1,3 +1,4 @@
+-- believed: FitsFacts
 -- Properties of each move of a call, for any call.
 use Rattle.std.specs.Prelude.{ℕ, ◌≡◌, ◌<◌, ◌≤◌, ◌+◌, ◌^◌, ◌⊎◌, true, false, List, [], ◌∷◌, length, Some, None, IfSome}
 use Rattle.sftp_model.specs.declared.reply.Reply.TheVariants as reply

@@ -1,3 +1,4 @@
+-- believed
 -- The lanes that a session accepts: each call is within its ranges, and all together are few.
 use Rattle.std.specs.Prelude.{ℕ, ◌+◌, ◌^◌, Bool, true, ◌&&◌, List, length, Option, Some, None, nat_le, nat_lt}
 use Rattle.std.specs.List.{list_all, sum_by}

@@ -1,3 +1,4 @@
+-- believed
 -- The definitions that the plans of all calls share. The next move of a call is a function only of the lane's site at
 -- the call's start, of the call's own requests so far, and of the replies taken so far. A place is the number of a
 -- request among all that were submitted.

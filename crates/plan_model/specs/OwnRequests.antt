@@ -1,3 +1,4 @@
+-- believed: ExtendsAnswers
 -- The own requests of a call: those that its plan asked, by the replies that had come by then.
 use Rattle.std.specs.Prelude.{ℕ, ◌≡◌, [], ◌∷◌, ◌++◌, Some, None, IfSome}
 use Rattle.sftp_model.specs.declared.reply.Reply.{Reply}

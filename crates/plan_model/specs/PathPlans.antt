@@ -1,3 +1,4 @@
+-- believed
 -- The calls on paths that make one request. A relative path is joined to the working directory.
 use Rattle.std.specs.Prelude.{ℕ, List, ◌∷◌, Option, option_map, if◌then◌else◌}
 use Rattle.std.specs.Int.RustNames.{bit_and}

@@ -1,3 +1,4 @@
+-- believed: work
 -- The most requests that a call makes.
 use Rattle.std.specs.Prelude.{ℕ, suc, ◌≡◌, ◌<◌, ◌≤◌, ◌+◌, List, [], ◌∷◌, length}
 use Rattle.sftp_model.specs.declared.slot.Facts.{Facts}

@@ -1,3 +1,4 @@
+-- believed
 -- The calls that read and write a file in a slot.
 use Rattle.std.specs.Prelude.{ℕ, ◌-◌, ◌==◌, min, List, [], ◌∷◌, ◌++◌, length, take, drop, flat_map, if◌then◌else◌}
 use Rattle.sftp_model.specs.declared.request.Request.{Request}

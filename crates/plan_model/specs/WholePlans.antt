@@ -1,3 +1,4 @@
+-- believed
 -- The calls that open a path, work on it and end: whole writes and listings. No slot holds the files that they open.
 use Rattle.std.specs.Prelude.{ℕ, ◌+◌, ◌-◌, ◌==◌, List, [], ◌∷◌, ◌++◌, if◌then◌else◌}
 use Rattle.sftp_model.specs.Numbers.{SSH_FXF_WRITE, SSH_FXF_CREAT, SSH_FXF_TRUNC}

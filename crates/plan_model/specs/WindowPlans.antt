@@ -1,3 +1,4 @@
+-- believed
 -- The whole read of a file, with several READs in flight. Its READs are in the order of their places, each with its
 -- offset and the length asked for.
 use Rattle.std.specs.Prelude.{

@@ -1,3 +1,4 @@
+-- believed: opened_by, IsAmong, is_window
 -- The requests that a runner asks of its lane: they have handles of grants that the lane has, and the runner awaits
 -- their replies.
 use Rattle.std.specs.Prelude.{

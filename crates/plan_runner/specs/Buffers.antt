@@ -1,3 +1,4 @@
+-- believed: oldest, oldest_in, flushed_after, rest_sent, sent_next, room_made, reading_in
 -- The replies that calls on buffered files await, and the ways in which these calls continue.
 use Rattle.std.specs.Prelude.{ℕ, ◌+◌, ◌==◌, Bool, false, List, [], ◌∷◌, drop, Option, Some, None, if◌then◌else◌}
 use Rattle.sftp_model.specs.declared.reply.Reply.{Reply}

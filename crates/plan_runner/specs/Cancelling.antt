@@ -1,3 +1,4 @@
+-- believed: SiteAfterCancel, left_kept, left_behind
 -- The site that a cancelled call leaves, by the state of its runner.
 use Rattle.std.specs.Prelude.{ℕ, ◌≡◌, List, ◌∷◌, Option, Some, None, if◌then◌else◌}
 use Rattle.sftp_model.specs.declared.reply.Reply.{Reply}

@@ -1,3 +1,4 @@
+-- believed, except pends_idle, pends_after, PendsAfter, AwaitsNoMore
 -- The replies that a lane awaits, and how often: the one to its call's own request, and those that its slots wait for.
 use Rattle.std.specs.Prelude.{ℕ, ◌≤◌, ◌+◌, ◌-◌, ◌==◌, List, [], ◌∷◌, Option, Some, None, if◌then◌else◌}
 use Rattle.sftp_model.specs.declared.reply.Reply.{Reply}

@@ -1,3 +1,5 @@
+-- believed, except request_with_handles, waits, idle, RunsByPlan, AnswersWhileWaiting, BeginsByPlan, by_seek,
+--   refusal_of, failure_of
 -- The steps of a runner, by the plan of its call.
 use Rattle.std.specs.Prelude.{
   ℕ,

@@ -1,3 +1,4 @@
+-- believed, except KeepsSite, HasRoom, HasSlot, EndsWithin, AsksWithin, IsSound, KeepsRunningSound
 -- The facts known about a started call, which it needs to continue.
 use Rattle.std.specs.Prelude.{ℕ, ◌≡◌, ◌<◌, ◌≤◌, ◌+◌, ◌-◌, ◌^◌, true, List, [], drop, length, Option, Some, None}
 use Rattle.sftp_model.specs.declared.reply.Reply.{Reply}

@@ -1,3 +1,4 @@
+-- believed, except IsReady, IsUnsubmitted, refusal_of
 -- A request of a call as it is to be submitted, and its effect on a core.
 use Rattle.std.specs.Prelude.{◌≡◌, ◌<◌, ℕ, true, Some, None, IsTrue, IsSome}
 use Rattle.std.specs.FinMap as fin

@@ -1,3 +1,4 @@
+-- believed, except ticket_of, StartsByPlan, MaySend, MayGoOn, IsUnderWay, BeginsCall, MayPoll, LeavesCall
 -- The state of a call that is running, for any call, and the effect of a start and a poll on it by the call's plan.
 use Rattle.std.specs.Prelude.{◌≡◌, ◌≢◌, ◌⊎◌, ℕ, Bool, true, false, List, [], Option, Some, None, Result, Ok, Err}
 use Rattle.sftp_model.specs.Answers.{allows_reply}

@@ -1,3 +1,4 @@
+-- believed, except IsDropped
 -- The effect of calls of a core by others on the replies that a state awaits, and on the grants of files.
 use Rattle.std.specs.Prelude.{◌≡◌, ℕ, false, List, Option, Some, IsSome}
 use Rattle.sftp_model.specs.declared.answers.Expected.{Expected}

@@ -1,3 +1,4 @@
+-- believed: Meaning, GoesBehind, MayAsk
 -- The continuation of a runner, by the rest of its call's plan.
 use Rattle.std.specs.Prelude.{◌≡◌, ℕ, Bool, true, false, [], ◌∷◌, Option, None, Result, Ok, Err}
 use Rattle.sftp_model.specs.Answers.{expected_of}

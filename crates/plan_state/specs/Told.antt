@@ -1,3 +1,4 @@
+-- believed: reply_of, grant_in, IsFormed, IsCounted
 -- The reply that came, or the reason why none came.
 use Rattle.std.specs.Prelude.{◌≡◌, ℕ, true, false, Option, Some, None}
 use Rattle.sftp_model.specs.Answers.{allows_reply, is_handle}

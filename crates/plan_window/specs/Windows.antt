@@ -1,3 +1,4 @@
+-- believed, except empty_window, asked_more, IsAbsorbed, window_move, move_by, AsksInRange, IsMoveInRange
 -- The READs of a whole read, as its window has them: those that were answered before any that was not, and the others.
 use Rattle.std.specs.Prelude.{
   ℕ,

@@ -1,3 +1,4 @@
+-- believed, except RefusesLong, IsNewServer
 -- The end of a program that reads a source and writes an answer: over a server in memory, over a link, or at the sink
 -- alone. Each program defines the meaning of the source's bytes and the right answer for it.
 use Rattle.std.specs.Prelude.{

@@ -1,3 +1,4 @@
+-- believed: Outside
 -- The environment of a run: the records of the source, the sink and the dial.
 use Rattle.std.specs.Prelude.{◌<◌, ◌-◌, ◌^◌}
 use Rattle.sftp_link.specs.Views.{DialView, SinkView, SourceView}

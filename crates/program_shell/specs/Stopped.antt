@@ -1,3 +1,4 @@
+-- believed
 -- A run of lanes over a link that an error stopped.
 use Rattle.std.specs.Prelude.{◌≡◌, ℕ, List, [], Option, Some, Err}
 use Rattle.sftp_link.specs.Views.{LastLink}

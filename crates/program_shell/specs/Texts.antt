@@ -1,3 +1,4 @@
+-- believed: reason_word, refusal_line, error_name, error_line, IsErrorLine
 -- The texts that programs share: for arguments that run nothing, for a refusal, and for an error that stopped a run.
 use Rattle.std.specs.Prelude.{◌≡◌, ℕ, ◌==◌, List, [], ◌∷◌, ◌++◌, Option, Some, None, codes, if◌then◌else◌}
 use Rattle.std.specs.Str.{bytes_eq}

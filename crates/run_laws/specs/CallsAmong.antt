@@ -1,3 +1,4 @@
+-- believed: ToWrite, GivesContent, refusal_of, HasNoFile
 -- The requests of one call among those of others, and its end.
 use Rattle.std.specs.Prelude.{◌≡◌, ◌≢◌, ℕ, ◌⊎◌, true, false, List, [], ◌∷◌, Option, Some, None}
 use Rattle.sftp_model.specs.Numbers.{SSH_FX_FAILURE, SSH_FX_NO_SUCH_FILE, SSH_FX_OK}

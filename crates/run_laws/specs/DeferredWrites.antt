@@ -1,3 +1,4 @@
+-- believed: tree_at, place_behind, OthersLeave, WritesAlone, ArePut
 -- Buffered writes: WRITEs whose statuses are taken later.
 use Rattle.std.specs.Prelude.{◌≡◌, ◌<◌, ℕ, ◌+◌, ◌⊎◌, true, false, List, [], ◌∷◌, ◌++◌, filter, length, Some, nat_lt}
 use Rattle.sftp_model.specs.Numbers.{SSH_FX_OK}

@@ -1,3 +1,4 @@
+-- believed
 -- Lanes that open a file in a slot, buffer it, write to it and flush it, by their calls and the reported outcomes.
 use Rattle.std.specs.Prelude.{◌≡◌, ◌≢◌, ◌<◌, ◌==◌, ◌||◌, ℕ, suc, Bool, true, false, List, [], take, drop, Some}
 use Rattle.sftp_model.specs.declared.outcome.Outcome.{Outcome}

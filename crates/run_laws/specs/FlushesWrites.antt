@@ -1,3 +1,4 @@
+-- believed
 -- Writes to buffered files that are flushed later, by the lanes that were passed in and the reported outcomes of their
 -- calls.
 use Rattle.std.specs.Prelude.{◌≡◌, ◌<◌, ℕ, suc, true, false, List, ◌∷◌, Some, drop, length, take}

@@ -1,3 +1,4 @@
+-- believed: is_of_call
 -- A name, and the relation of the requests of a journal to it.
 use Rattle.std.specs.Prelude.{◌≡◌, ◌≢◌, ◌<◌, ◌≤◌, ℕ, Bool, true, false, not, List, [], ◌∷◌, Option, Some, None}
 use Rattle.sftp_model.specs.declared.request.Request.{Request}

@@ -1,3 +1,4 @@
+-- believed
 -- The files that a whole run of lanes reads and leaves.
 use Rattle.std.specs.Prelude.{List}
 use Rattle.sftp_model.specs.declared.config.Choice.{Choice}

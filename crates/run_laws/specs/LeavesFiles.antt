@@ -1,3 +1,4 @@
+-- believed
 -- The files that a whole run leaves: by the lanes that were passed in, and the reported outcomes of their calls.
 use Rattle.std.specs.Prelude.{◌≡◌, ℕ, true, List, length}
 use Rattle.sftp_model.specs.declared.outcome.Outcome.{Outcome}

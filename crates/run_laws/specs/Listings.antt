@@ -1,3 +1,4 @@
+-- believed
 -- Directories that calls list, in journals that a file machine serves.
 use Rattle.std.specs.Prelude.{◌≡◌, ℕ, ◌==◌, List, [], ◌∷◌, ◌++◌, Some, filter, if◌then◌else◌, nat_lt}
 use Rattle.sftp_model.specs.Slots.{fresh_site}

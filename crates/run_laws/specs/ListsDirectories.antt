@@ -1,3 +1,4 @@
+-- believed
 -- Directories that lanes list, by the lanes that were passed in and the reported outcomes of their calls.
 use Rattle.std.specs.Prelude.{◌≡◌, ℕ, List, Some}
 use Rattle.sftp_model.specs.declared.config.Choice.{Choice}

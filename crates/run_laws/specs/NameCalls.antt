@@ -1,3 +1,4 @@
+-- believed, except is_buffered
 -- The relation of a call to a name, by the call alone.
 use Rattle.std.specs.Prelude.{ℕ, Bool, true, false, not, ◌&&◌, ◌||◌, List, [], ◌∷◌}
 use Rattle.std.specs.List.{list_all}

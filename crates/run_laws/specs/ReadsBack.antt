@@ -1,3 +1,4 @@
+-- believed
 -- Bytes that were written are read back: by the lanes that were passed in, and the reported outcomes of their calls.
 use Rattle.std.specs.Prelude.{
   ◌≡◌,

@@ -1,3 +1,4 @@
+-- believed
 -- Files that a lane opened with create and truncate, buffered, wrote to and flushed: the bytes that it reads of them
 -- later, by the lanes that were passed in and the reported outcomes of their calls.
 use Rattle.std.specs.Prelude.{◌≡◌, ℕ, List}

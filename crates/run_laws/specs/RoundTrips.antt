@@ -1,3 +1,4 @@
+-- believed: passes_length
 -- Lanes that write and read files as a whole, by their calls and the outcomes of these.
 use Rattle.std.specs.Prelude.{◌≡◌, ◌≢◌, ◌<◌, ℕ, Bool, true, false, List, Option, Some, slice_get}
 use Rattle.std.specs.List.{list_all}

@@ -1,3 +1,4 @@
+-- believed
 -- The relation of a call to a slot, by the call alone.
 use Rattle.std.specs.Prelude.{ℕ, ◌==◌, Bool, true, not, ◌&&◌}
 use Rattle.plan_model.specs.declared.call.Call.{Call}

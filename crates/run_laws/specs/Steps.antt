@@ -1,3 +1,4 @@
+-- believed, except IsAnyChoice, RefusesNone, AreAllowed, ChooseOnly, AllSpare
 -- Runs of the file machine as lists of steps.
 use Rattle.std.specs.Prelude.{◌≡◌, ◌≢◌, ℕ, ◌⊎◌, List, [], ◌∷◌, map, Some}
 use Rattle.sftp_model.specs.Numbers.{SSH_FX_EOF, SSH_FX_OK}

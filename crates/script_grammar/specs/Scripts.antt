@@ -1,3 +1,4 @@
+-- believed
 -- The bytes that read as a script; for other bytes, the first line that does not, and the reason.
 use Rattle.std.specs.Prelude.{
   ℕ,

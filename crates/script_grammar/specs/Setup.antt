@@ -1,3 +1,4 @@
+-- believed
 -- The lines on the first content of a server and on the options of a session.
 use Rattle.std.specs.Prelude.{
   ℕ,

@@ -1,3 +1,4 @@
+-- believed
 -- The text that is printed for a session: its frames in their order, the outcomes of its calls, and the files and
 -- directories of its server.
 use Rattle.std.specs.Prelude.{ℕ, ◌+◌, ◌==◌, false, List, [], ◌∷◌, ◌++◌, codes, drop, filter, map, if◌then◌else◌}

@@ -1,3 +1,4 @@
+-- believed: journal_of
 -- The journal of a trace.
 use Rattle.std.specs.Prelude.{ℕ, List, [], ◌∷◌, map, reverse}
 use Rattle.sftp_model.specs.declared.request.Request.{Request}

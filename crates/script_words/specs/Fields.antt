@@ -1,3 +1,4 @@
+-- believed
 -- The fields of a line: one word after another, each by its kind.
 use Rattle.std.specs.Prelude.{ℕ, List, [], ◌∷◌, codes, Option, Some, None, Result, Ok, Err, if◌then◌else◌}
 use Rattle.std.specs.Str.{bytes_eq}

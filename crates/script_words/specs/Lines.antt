@@ -1,3 +1,4 @@
+-- believed
 -- Lines, words, and the values of single words.
 use Rattle.std.specs.Prelude.{
   ℕ,

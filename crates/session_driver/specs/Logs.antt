@@ -1,3 +1,4 @@
+-- believed, except KeepsTrace, ShowsJournal, HasRun, StopsAt, IsAhead
 -- Logs of a link after a run that continues, and after one that stops.
 use Rattle.std.specs.Prelude.{◌≡◌, ◌⊎◌, ◌<◌, ◌≤◌, ℕ, Bool, true, List, [], ◌∷◌, length, Option, Some, None, Result}
 use Rattle.sftp_model.specs.declared.error.Error.{Error}

@@ -1,3 +1,4 @@
+-- believed: offered_extensions
 -- A session without lanes.
 use Rattle.std.specs.Prelude.{◌≡◌, ◌⊎◌, true, false, List, [], ◌∷◌, Option, Some, None}
 use Rattle.sftp_model.specs.declared.options.SftpOptions.{SftpOptions}

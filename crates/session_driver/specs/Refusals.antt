@@ -1,3 +1,4 @@
+-- believed, except NotesRefusal
 -- The first thing that is wrong with a reply, by the journal of the session that received it.
 use Rattle.std.specs.Prelude.{◌≡◌, ◌⊎◌, ℕ, List, ◌∷◌, Option, Some, None, Result, Ok, Err, nat_lt, if◌then◌else◌}
 use Rattle.sftp_model.specs.declared.answers.Expected.{Expected}

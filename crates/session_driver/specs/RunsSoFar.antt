@@ -1,3 +1,4 @@
+-- believed
 -- Runs so far: the parts that are whole, and a part of the next one.
 use Rattle.std.specs.Prelude.{◌≡◌, ◌≢◌, ◌⊎◌, ◌<◌, ℕ, Bool, true, false, List, [], ◌∷◌, length, None}
 use Rattle.sftp_model.specs.declared.request.Request.TheVariants as request

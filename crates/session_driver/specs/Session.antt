@@ -1,3 +1,5 @@
+-- believed: SessionInputs, SessionView, IsLater, IsFixed, TakesLimitsReply, HasTakenLimits, IsGreeted, queried_with,
+--   IsQueried, TakesAndSettles, HandsOut
 -- Contracts of each call of a session that runs lanes, in terms of its journal.
 use Rattle.std.specs.Prelude.{
   ◌≡◌,

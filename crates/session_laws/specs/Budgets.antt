@@ -1,3 +1,4 @@
+-- believed
 -- The numbers of ids that the calls of a session may keep at one time, by their plans.
 use Rattle.std.specs.Prelude.{
   ◌≡◌,

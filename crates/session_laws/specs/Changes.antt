@@ -1,3 +1,4 @@
+-- believed: fresh_lane
 -- Effects of a turn on one lane, and their preconditions.
 use Rattle.std.specs.Prelude.{
   ◌≡◌,

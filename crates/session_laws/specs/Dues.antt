@@ -1,3 +1,4 @@
+-- believed, except unheld_of, FewerDue
 -- Grants that are due for their CLOSE. An end may leave several: each is closed in its turn, the one of the least place
 -- first.
 use Rattle.std.specs.Prelude.{◌≡◌, ◌≢◌, ℕ, true, false, List, [], ◌∷◌, if◌then◌else◌}

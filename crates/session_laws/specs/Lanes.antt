@@ -1,3 +1,4 @@
+-- believed
 -- Lanes of runners: what each holds and awaits, by the journal of their session.
 use Rattle.std.specs.Prelude.{
   ◌≡◌,

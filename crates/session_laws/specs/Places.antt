@@ -1,3 +1,4 @@
+-- believed: IsAbove, IsRising, is_in
 -- Lists of places.
 use Rattle.std.proofs.Common.{◌≡◌, ◌<◌, ◌==◌, ℕ, zero, suc, Bool, true, false, List, [], ◌∷◌, if◌then◌else◌, refl}
 use Rattle.std.specs.List.{list_any}

@@ -1,3 +1,4 @@
+-- believed
 -- A session of lanes between two entries of its journal, and at rest.
 use Rattle.std.specs.Prelude.{
   ◌≡◌,

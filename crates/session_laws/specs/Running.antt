@@ -1,3 +1,4 @@
+-- believed: remaining_plan, RunTied, site_if_cancelled, CancelTied
 -- A lane's call by the journal of its session, for any call.
 use Rattle.std.specs.Prelude.{◌≡◌, ℕ, List, [], ◌∷◌, ◌++◌, Option, Some, None}
 use Rattle.sftp_model.specs.declared.slot.Facts.{Facts}

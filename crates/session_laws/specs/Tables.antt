@@ -1,3 +1,4 @@
+-- believed
 -- The records that a core keeps under each id, by the journal and by the places that the lanes have tickets and grants
 -- of.
 use Rattle.std.specs.Prelude.{◌≡◌, ℕ, Bool, true, false, List, Option, Some, None}

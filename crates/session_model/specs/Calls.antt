@@ -1,3 +1,4 @@
+-- believed, except GoesByPlan
 -- Calls of a session's lanes: the next move of each and what it leaves, according to the session's journal.
 use Rattle.std.specs.Prelude.{
   ◌≡◌,

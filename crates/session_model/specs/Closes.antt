@@ -1,3 +1,4 @@
+-- believed, except closes_of
 -- How often a handle was granted and closed: a HANDLE brings it (draft-ietf-secsh-filexfer-02, sections 6.3 and 6.7),
 -- and a CLOSE carries it (section 6.3).
 use Rattle.std.specs.Prelude.{◌≡◌, ℕ, List, [], ◌∷◌}

@@ -1,3 +1,4 @@
+-- believed, except IsSettled
 -- Grants that a session holds, those of them that have a CLOSE, and the one to close next. A grant is the place of a
 -- request that a HANDLE answered (draft-ietf-secsh-filexfer-02, sections 6.3 and 6.7).
 use Rattle.std.specs.Prelude.{

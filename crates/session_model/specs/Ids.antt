@@ -1,3 +1,4 @@
+-- believed, except ReadsId
 -- The state of one id in a journal. A table of requests by their ids follows this recursion.
 use Rattle.std.specs.Prelude.{◌≡◌, ℕ, ◌==◌, Bool, true, false, List, [], ◌∷◌, Some, None, nat_lt, if◌then◌else◌}
 use Rattle.sftp_model.specs.declared.reply.Reply.{Reply}

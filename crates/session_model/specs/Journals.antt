@@ -1,3 +1,4 @@
+-- believed
 -- Entries that may come next in a session's journal, and journals that are runs so far.
 use Rattle.std.specs.Prelude.{
   ◌≡◌,

@@ -1,3 +1,4 @@
+-- believed
 -- Readings of a session's journal: what it records of its requests. A journal is read with its newest entry first, so
 -- that the change by a new entry is one case. A place is the number of a request among all that were submitted.
 use Rattle.std.specs.Prelude.{

@@ -1,3 +1,4 @@
+-- believed
 -- A whole run of a session: the query for limits, the turns of its schedule, rounds until each lane has no call left,
 -- the release of the lanes, and the last replies.
 use Rattle.std.specs.Prelude.{◌≡◌, ◌≢◌, ◌<◌, ℕ, zero, suc, Bool, true, false, List, [], ◌∷◌, length, None}

@@ -1,3 +1,4 @@
+-- believed
 -- Journals that a server of files in memory serves: its replies are those of one sequential run of the file machine
 -- over the requests in the order in which they were sent.
 use Rattle.std.specs.Prelude.{

@@ -1,3 +1,4 @@
+-- believed
 -- Settings that the options of a session, the server's VERSION and its limits fix.
 use Rattle.std.specs.Prelude.{max, min, Bool, true, false, List, Option, Some, None, Result, Ok, Err}
 use Rattle.sftp_model.specs.Lengths.{offers_limits, session_lengths}

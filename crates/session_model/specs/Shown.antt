@@ -1,3 +1,4 @@
+-- believed
 -- Journals that a link's log shows. A log has its newest piece first.
 use Rattle.std.specs.Prelude.{◌≡◌, ◌≤◌, ℕ, List, [], ◌∷◌, length, Option, Some, None, Ok}
 use Rattle.sftp_model.specs.declared.reply.Reply.{Reply}

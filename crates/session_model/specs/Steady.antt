@@ -1,3 +1,4 @@
+-- believed: IsCancellableRun
 -- Invariants of a run so far between two turns.
 use Rattle.std.specs.Prelude.{◌≡◌, ℕ, Bool, true, false, List, None}
 use Rattle.session_model.specs.declared.entry.Entry.{Entry}

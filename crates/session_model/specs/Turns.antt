@@ -1,3 +1,4 @@
+-- believed
 -- Continuations of a session's journal under one turn of its schedule.
 use Rattle.std.specs.Prelude.{
   ◌≡◌,

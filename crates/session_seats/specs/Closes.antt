@@ -1,3 +1,4 @@
+-- believed: items_of
 -- The remains of a shared value that was closed.
 use Rattle.std.specs.Prelude.{◌≡◌, ℕ, Bool, true, List, [], ◌∷◌, map, Option, IfSome}
 use Rattle.std.specs.declared.vec.Vec.{Vec}

@@ -1,3 +1,4 @@
+-- believed: times_at, times_in, CoversPlacesOnce
 -- Covers: each place of the journal is in one list of receipts, once.
 use Rattle.std.specs.Prelude.{◌≡◌, ◌<◌, ◌⊎◌, ℕ, ◌+◌, ◌==◌, List, [], ◌∷◌, length, map}
 use Rattle.session_seats.specs.declared.ended.Ended.{Ended}

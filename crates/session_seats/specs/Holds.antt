@@ -1,3 +1,4 @@
+-- believed: claim_of, sight_by, number_of, seat_with, Hold
 -- Holds of the shared value.
 use Rattle.std.specs.Prelude.{
   ◌≡◌,

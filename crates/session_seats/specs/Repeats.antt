@@ -1,3 +1,4 @@
+-- believed
 -- Steps one after another.
 use Rattle.std.specs.Prelude.{◌≡◌, Bool, false, List, [], ◌∷◌, Result, Ok}
 

@@ -1,3 +1,4 @@
+-- believed: claim, view, no_counts, ShowsSight, nothing, first, sees, ShowsSightOf, newer, claim_with_entries
 -- The rule of the table: one word, 0 while the value is at home; one slot, which has it; and the views of the seats.
 use Rattle.std.specs.Prelude.{
   ◌≡◌,

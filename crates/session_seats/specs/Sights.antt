@@ -1,3 +1,4 @@
+-- believed, except SessionInputs, inputs_of, seat_name, made_on, made_from
 -- The part of a shared session that a seat has seen, and the part that it made. Logs and seats have the newest first.
 use Rattle.std.specs.Prelude.{
   ◌≡◌,

@@ -1,3 +1,4 @@
+-- believed: lanes_below, named_in_order
 -- Seats of a run.
 use Rattle.std.specs.Prelude.{◌≡◌, ℕ, zero, suc, List, ◌∷◌, ◌++◌, [], length, map, Option, None, Some}
 use Rattle.atomic_table.specs.Seated.{TableId}

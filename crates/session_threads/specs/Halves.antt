@@ -1,3 +1,4 @@
+-- believed, except GotReplies, WorkersShow
 -- The contents of the two halves of the link after a run, if they report them.
 use Rattle.std.specs.Prelude.{◌≡◌, ℕ, List, ◌++◌, Some, None, reverse}
 use Rattle.session_model.specs.declared.entry.Entry.{Entry}

@@ -1,3 +1,4 @@
+-- believed, except RunsOf, IsCause, WorkersEnd
 -- Reports of a whole run of lanes, and the reasons that it ends.
 use Rattle.std.specs.Prelude.{◌≡◌, ◌≢◌, ◌⊎◌, List, length, map, reverse, Option, Some, None, Result, Ok, Err}
 use Rattle.plan_model.specs.declared.call.Lane.{Lane}

@@ -1,3 +1,4 @@
+-- believed: is_handed_in, IsEnded
 -- The end of a run: all that was passed in was done, and nothing more.
 use Rattle.std.specs.Prelude.{◌≡◌, ◌<◌, ℕ, Bool, true, false, List}
 use Rattle.std.specs.List.{list_all}

@@ -1,3 +1,4 @@
+-- believed: IsOf
 -- A whole run of lanes in threads.
 use Rattle.std.specs.Prelude.{◌≡◌, ◌<◌, Bool, true, false, List, [], ◌∷◌, Result, Ok, Err}
 use Rattle.atomic_table.specs.Seated.{TableId}

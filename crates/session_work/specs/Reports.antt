@@ -1,3 +1,4 @@
+-- believed: LaneReports, reports_of
 -- Records that a session keeps of each lane for its report.
 use Rattle.std.specs.Prelude.{◌≡◌, ℕ, Bool, false, List, [], ◌∷◌, ◌++◌, slice_index_or, slice_set}
 use Rattle.sftp_model.specs.declared.outcome.Outcome.{Outcome}

@@ -1,3 +1,4 @@
+-- believed: kept_in, refused_past, IsLeft
 -- The journal of a session in every phase, also after it has failed.
 use Rattle.std.specs.Prelude.{
   ◌≡◌,

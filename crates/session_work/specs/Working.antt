@@ -1,3 +1,5 @@
+-- believed, except IsWorking, IsOpened, IsIdleIn, NotesNothing, StepsIn, StepsLane, CancelsIn, CancelsLane, LetsGoIn,
+--   LetsLaneGo
 -- The lanes of an open session, and the effect of each call on them.
 use Rattle.std.specs.Prelude.{
   ◌≡◌,

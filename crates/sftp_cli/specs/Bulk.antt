@@ -1,3 +1,4 @@
+-- believed
 -- The script that three numbers make: a start, the number of lanes, and the number of calls of each lane.
 use Rattle.std.specs.Prelude.{
   ℕ,

@@ -1,3 +1,4 @@
+-- believed
 -- The text that the program must write for a script whose lanes run over a link to a remote server.
 use Rattle.std.specs.Prelude.{◌≡◌, ℕ, List, [], length, Option, Some}
 use Rattle.sftp_link.specs.Views.{LastLink}

@@ -1,3 +1,4 @@
+-- believed
 -- The end of the program, by the request of its command line.
 use Rattle.std.specs.Prelude.{◌≡◌, ℕ, List, Option, None, IfSome, IfErr}
 use Rattle.sftp_cli.specs.Bulk.{bulk_script}

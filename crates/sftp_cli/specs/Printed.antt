@@ -1,3 +1,4 @@
+-- believed, except file_len_of
 -- The text that the program must write for the bytes of a script.
 use Rattle.std.specs.Prelude.{◌≡◌, ℕ, List, [], filter, length, Option, Some, None}
 use Rattle.std.specs.List.{sum_by}

@@ -1,3 +1,4 @@
+-- believed
 -- The numbers of a run, and their text.
 use Rattle.std.specs.Prelude.{ℕ, ◌-◌, ◌^◌, Bool, true, false, List, ◌++◌, codes, length, map, min, reverse}
 use Rattle.std.specs.List.{count_by, sum_by}

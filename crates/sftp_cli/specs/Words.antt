@@ -1,3 +1,4 @@
+-- believed: Asked
 -- The text and the answer of the program for the arguments of its command line.
 use Rattle.std.specs.Prelude.{
   ◌≤◌,

@@ -1,3 +1,4 @@
+-- believed: Coming, nothing_came, bytes_of, KeepsOfFrame
 -- Bytes of one frame, as they come.
 use Rattle.std.specs.Prelude.{
   ◌≡◌,

@@ -1,3 +1,4 @@
+-- believed, except IsReadyOr, MayWait, RoundEnds, MayWaitOn, HasWaitedOn, HasFinishedOn
 -- Calls that are run to their end over a session's link.
 use Rattle.std.specs.Prelude.{◌≡◌, ◌⊎◌, ◌≤◌, ◌-◌, ◌^◌, ℕ, zero, suc, Bool, true, Result, Ok, Err, IsSome, OnOk}
 use Rattle.sftp_model.specs.declared.answers.Expected.{Expected}

@@ -1,3 +1,6 @@
+-- believed, except fresh, queued_of, unanswered_of, IsGrant, MayClose, MayFree, MayDrop, refusal_of, submit_refusal,
+--   IsNoFault, IsSubmitError, QueuesRequest, SubmittedParts, polled_grant, poll_gives, polled_with,
+--   core_after_retain, release_gives
 -- A core as its callers see it, and the effect of each call on it.
 use Rattle.std.specs.Prelude.{
   ◌≡◌,

@@ -1,3 +1,4 @@
+-- believed
 -- The error that a caller gets for a refused frame.
 use Rattle.sftp_model.specs.declared.error.Error.{Error}
 use Rattle.sftp_model.specs.declared.error.Error.TheVariants as error

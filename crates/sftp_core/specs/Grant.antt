@@ -1,3 +1,4 @@
+-- believed
 -- A grant as its callers see it.
 use Rattle.std.specs.Prelude.{ℕ, List}
 

@@ -1,3 +1,4 @@
+-- believed, except HasLengths, IsRanged, most_ids
 -- The facts that a session knows about its server, and how far the greeting has come.
 use Rattle.std.specs.Prelude.{ℕ, ◌≤◌, Option, Some, None}
 use Rattle.sftp_model.specs.Lengths.{session_lengths}

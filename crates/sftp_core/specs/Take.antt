@@ -1,3 +1,4 @@
+-- believed, except RefusesReply, IsTakeError, TakesOrRefuses
 -- The effect of a frame's body on a core: the first thing that is wrong with it, or the new core.
 use Rattle.std.specs.Prelude.{◌≡◌, ℕ, ◌==◌, Bool, true, false, Option, None, Some, Result, Ok, Err, if◌then◌else◌, ⊤}
 use Rattle.ssh_encoding.specs.Writing.{or_else}

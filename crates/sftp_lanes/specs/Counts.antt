@@ -1,3 +1,4 @@
+-- believed: unsent_in
 -- Numbers that a session reports, in each phase that has not failed. Before VERSION the hello is the one frame.
 use Rattle.std.specs.Prelude.{ℕ, ◌-◌, List}
 use Rattle.session_model.specs.declared.entry.Entry.{Entry}

@@ -1,3 +1,4 @@
+-- believed
 -- The report of a whole run of lanes.
 use Rattle.std.specs.Prelude.{◌≡◌, List, length, Option, Some}
 use Rattle.sftp_model.specs.declared.config.Choice.{Choice}

@@ -1,3 +1,4 @@
+-- believed: SessionValue, session_inputs, given_of, facts_by, setting_by, setting_at, seen_of
 -- The state of a session of lanes in each phase, and the view that a caller has of it.
 use Rattle.std.specs.Prelude.{
   ◌≡◌,

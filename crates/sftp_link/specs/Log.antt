@@ -1,3 +1,4 @@
+-- believed
 -- The contents of a link's log. A log has its newest piece first.
 use Rattle.std.specs.Prelude.{◌≡◌, ℕ, List, [], ◌∷◌, ◌++◌}
 use Rattle.sftp_link.specs.declared.piece.Piece.{Piece}

@@ -1,3 +1,4 @@
+-- believed: IfLogged, LogsNothing, WroteBytes, SentAll, SentLess, WentLess, ReadUpTo, GotAll
 -- The bytes that an object of the environment reports, if it reports any.
 use Rattle.std.specs.Prelude.{
   ◌≡◌,

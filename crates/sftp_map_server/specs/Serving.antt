@@ -1,3 +1,5 @@
+-- believed: ServerState, told_bits, version_reply, is_hello, id_of, Server, AllShort, server_of, fresh_server,
+--   first_state, Serving
 -- A file machine as a link: its replies to the bytes that come, and the bytes that it sends.
 use Rattle.std.specs.Prelude.{
   ◌≡◌,

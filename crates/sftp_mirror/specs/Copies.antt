@@ -1,3 +1,4 @@
+-- believed: CopiesServed
 -- The files that may be copied together, and the report on their copies.
 use Rattle.std.specs.Prelude.{◌≡◌, ◌≤◌, ℕ, true, List, Option}
 use Rattle.sftp_model.specs.declared.config.Choice.{Choice}

@@ -1,3 +1,4 @@
+-- believed
 -- The text that the program must write for a list whose files are copied over a link to a remote server.
 use Rattle.std.specs.Prelude.{◌≡◌, ℕ, List, [], Option, Some}
 use Rattle.sftp_link.specs.Views.{LastLink}

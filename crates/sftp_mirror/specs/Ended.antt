@@ -1,3 +1,4 @@
+-- believed
 -- The end of the program, by the request of its command line.
 use Rattle.std.specs.Prelude.{◌≡◌, ℕ, List, Option, None}
 use Rattle.sftp_link.specs.Views.{SinkView, SourceView}

@@ -1,3 +1,4 @@
+-- believed, except MayAnswer, ends_reading, IsAfterHello
 -- The replies that may answer a request (draft-ietf-secsh-filexfer-02, sections 6 and 7; OpenSSH's PROTOCOL, section
 -- 4).
 use Rattle.std.specs.Prelude.{ℕ, ◌==◌, Bool, true, false, not, ◌&&◌, ◌||◌, [], length, nat_lt, nat_le, IsTrue}

@@ -1,3 +1,4 @@
+-- believed
 -- The error of a field as an error of its frame.
 use Rattle.ssh_encoding.specs.declared.error.Error.{Error}
 use Rattle.ssh_encoding.specs.declared.error.Error.TheVariants as encoding

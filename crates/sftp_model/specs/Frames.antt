@@ -1,3 +1,4 @@
+-- believed, except request_id, reply_id
 -- Frames: a length of four bytes and a body. The body is a type byte, an id (except in the hello and VERSION), and the
 -- fields (draft-ietf-secsh-filexfer-02, section 3). Numbers are big-endian.
 use Rattle.std.specs.Prelude.{

@@ -1,3 +1,4 @@
+-- believed
 -- The most bytes that one READ asks for and one WRITE carries, from the reply to the query for limits (OpenSSH's
 -- PROTOCOL, section 4.8), if there was one, and the user's options.
 use Rattle.std.specs.Prelude.{ℕ, Bool, ◌-◌, ◌==◌, min, max, Option, Some, None, nat_lt, if◌then◌else◌}

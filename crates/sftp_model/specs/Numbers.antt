@@ -1,3 +1,4 @@
+-- believed, except SSH_FX_BAD_MESSAGE, SSH_FX_NO_CONNECTION, SSH_FX_CONNECTION_LOST
 -- The numbers of draft-ietf-secsh-filexfer-02 under its names, and the bounds of this client.
 use Rattle.std.specs.Prelude.{ℕ}
 

@@ -1,3 +1,4 @@
+-- believed
 -- The flags of an OPEN by its options (draft-ietf-secsh-filexfer-02, section 6.3).
 use Rattle.std.specs.Prelude.{ℕ, ◌+◌, false, ◌&&◌, ◌||◌, if◌then◌else◌}
 use Rattle.sftp_model.specs.Numbers.{

@@ -1,3 +1,4 @@
+-- believed
 -- The default options of a session.
 use Rattle.std.specs.Prelude.{None}
 use Rattle.sftp_model.specs.declared.options.SftpOptions.{SftpOptions}

@@ -1,3 +1,4 @@
+-- believed
 -- Paths on the server: bytes, with `/` between their components. The meaning of a path is the server's
 -- (draft-ietf-secsh-filexfer-02, section 6.2).
 use Rattle.std.specs.Prelude.{

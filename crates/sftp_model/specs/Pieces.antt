@@ -1,3 +1,4 @@
+-- believed
 -- Bytes that are cut into pieces.
 use Rattle.std.specs.Prelude.{ℕ, List, [], ◌∷◌, ◌++◌}
 

@@ -1,3 +1,4 @@
+-- believed
 -- The value that the body of a frame is read as, field by field from its first byte. The error is that of the first
 -- field that fails (draft-ietf-secsh-filexfer-02, sections 3 to 8).
 use Rattle.std.specs.Prelude.{

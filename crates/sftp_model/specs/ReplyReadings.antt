@@ -1,3 +1,4 @@
+-- believed
 -- The value that the body of a reply is read as (draft-ietf-secsh-filexfer-02, sections 4 and 7).
 use Rattle.std.specs.Prelude.{ℕ, zero, suc, ◌==◌, List, [], ◌∷◌, Option, Some, None, Result, Ok, Err, if◌then◌else◌}
 use Rattle.ssh_encoding.specs.Reading.{◌>>=◌, byte_at, with_prefix}

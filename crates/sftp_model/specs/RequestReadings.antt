@@ -1,3 +1,4 @@
+-- believed
 -- The value that the body of a request is read as (draft-ietf-secsh-filexfer-02, sections 4, 6 and 8).
 use Rattle.std.specs.Prelude.{ℕ, ◌==◌, List, [], ◌∷◌, Option, Result, Ok, if◌then◌else◌}
 use Rattle.std.specs.Str.{bytes_eq}

@@ -1,3 +1,4 @@
+-- believed, except file_moved_by
 -- The site of a lane between its calls: sixteen slots and a working directory.
 use Rattle.std.specs.Prelude.{ℕ, ◌+◌, ◌==◌, Bool, false, [], Option, Some, None, replicate, slice_index_or, slice_set}
 use Rattle.std.specs.List.{list_any}

@@ -1,3 +1,4 @@
+-- believed, except MayServe
 -- The log of a link on which a stream is served, with its newest piece first.
 use Rattle.std.specs.Prelude.{◌≡◌, ◌⊎◌, ◌<◌, ℕ, ◌-◌, ◌^◌, Bool, true, List, [], ◌∷◌, ◌++◌}
 use Rattle.sftp_link.specs.declared.piece.Piece.{Piece}

@@ -1,3 +1,4 @@
+-- believed, except first_state, IsSaid
 -- A stream of frames that a client sends, and the machine's answer to each.
 use Rattle.std.specs.Prelude.{
   ◌≡◌,

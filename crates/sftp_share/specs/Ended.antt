@@ -1,3 +1,4 @@
+-- believed: share_status, PairAfter, ShareEnds
 -- The end of the program.
 use Rattle.std.specs.Prelude.{
   ◌≡◌,

@@ -1,3 +1,4 @@
+-- believed, except NoHello
 -- The answers of a file machine to the requests of a trace, compared with the replies that were taken there.
 use Rattle.std.specs.Prelude.{ℕ, ◌+◌, ◌==◌, Bool, true, false, List, [], ◌∷◌, drop, Option, Some, None, if◌then◌else◌}
 use Rattle.sftp_model.specs.declared.config.Choice.{Choice}

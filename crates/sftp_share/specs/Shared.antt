@@ -1,3 +1,4 @@
+-- believed, except HasStopped
 -- The text that is right for a script whose lanes run in threads.
 use Rattle.std.specs.Prelude.{
   ◌≡◌,

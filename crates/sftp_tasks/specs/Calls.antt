@@ -1,3 +1,4 @@
+-- believed: InOneHold
 -- Results of the calls of the shared session, with the receipts that the call's seat has then.
 use Rattle.std.specs.Prelude.{
   ◌≡◌,

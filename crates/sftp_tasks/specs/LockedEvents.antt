@@ -1,3 +1,5 @@
+-- believed, except DoesNothing, OfLane, StepsOneLane, CancelsLaneCall, LettingGo, PollsLane, ReleasesLane,
+--   SubmitsLaneCall, HandingOut, KeepsFirstFault, tells_written
 -- Effects of each event on the locked value, for the lane that its seat names.
 use Rattle.std.specs.Prelude.{
   ◌≡◌,

@@ -1,3 +1,5 @@
+-- believed, except by_opening, HandsOutHello, HandingHello, FindsHello, SendsHelloOrNot, SendsHelloOnce,
+--   opening_asks_limits, opening_sends_nothing, opening_takes_nothing
 -- The opening of the session by a seat, over both halves of the link: it sends the hello, and takes VERSION.
 use Rattle.std.specs.Prelude.{
   ◌≡◌,

@@ -1,3 +1,4 @@
+-- believed: HasLane, HaveLanes
 -- Reports of a shared session that was closed.
 use Rattle.std.specs.Prelude.{
   ◌≡◌,

@@ -1,3 +1,4 @@
+-- believed
 -- One round of a worker: the frames that it handed out or took, and what its half of the link shows of it.
 use Rattle.std.specs.Prelude.{◌≡◌, ◌⊎◌, ℕ, Bool, true, false, List, [], Option, Some, None, Ok, Err}
 use Rattle.atomic_table.specs.Table.{Me}

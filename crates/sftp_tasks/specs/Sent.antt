@@ -1,3 +1,4 @@
+-- believed: SeesVersion, sends, sent_bytes, takes, taken_replies, AreFramesOf
 -- The bytes of the Sends of a journal, and the replies of its Takes: of all of them, and of those that one seat made.
 -- Journals and logs have the newest entry first; bytes and replies have the first one first.
 use Rattle.std.specs.Prelude.{◌≡◌, ℕ, ◌==◌, List, [], ◌∷◌, ◌++◌, Some, Result, Ok, Err, if◌then◌else◌}

@@ -1,3 +1,4 @@
+-- believed, except KeepsFault, LetsLaneGoIn, AllEnded, polled_of, PollsIn, AddsIn, RefusesToAdd, SubmitsCall
 -- Effects of the calls of the locked value on its session.
 use Rattle.std.specs.Prelude.{
   ◌≡◌,

@@ -1,3 +1,4 @@
+-- believed
 -- The view of the locked value.
 use Rattle.session_seats.specs.Sights.{Shown}
 use Rattle.session_work.specs.Working.{past_of}

@@ -1,3 +1,4 @@
+-- believed, except SeesAnswered
 -- Workers: their rounds, between which they check whether they may end.
 use Rattle.std.specs.Prelude.{◌≡◌, ◌⊎◌, ℕ, Bool, true, false, Result, Ok, Err, nat_le}
 use Rattle.session_model.specs.Readings.{count_unanswered}

@@ -1,3 +1,4 @@
+-- believed, except ended_by
 -- The effects of a run of the program on its environment, and its exit status.
 use Rattle.std.specs.Prelude.{◌≡◌, ◌&&◌, ℕ, Bool, true, false, List, [], ◌∷◌, codes, Option, Some, None, if◌then◌else◌}
 use Rattle.std.specs.Str.{bytes_eq}

@@ -1,3 +1,4 @@
+-- believed: one_lane
 -- The effect of a session of one lane through calls that are added to it one at a time.
 use Rattle.std.specs.Prelude.{◌≡◌, ℕ, false, List, [], ◌∷◌, ◌++◌, None, Result, Ok, Err, IfOk, OnOk}
 use Rattle.sftp_model.specs.declared.error.Error.{Error}

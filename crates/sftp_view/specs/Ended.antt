@@ -1,3 +1,4 @@
+-- believed, except MayFail
 -- The end of the program, by the request of its command line.
 use Rattle.std.specs.Prelude.{◌≡◌, ◌<◌, ◌-◌, ◌^◌, ℕ, Option, None}
 use Rattle.sftp_link.specs.Views.{SinkView, SourceView}

@@ -1,3 +1,4 @@
+-- believed
 -- The text that the program must write for the bytes of a list, over a server of its files in memory.
 use Rattle.std.specs.Prelude.{◌≡◌, ℕ, List, [], ◌++◌, Option, Some}
 use Rattle.sftp_model.specs.declared.options.SftpOptions.{SftpOptions}

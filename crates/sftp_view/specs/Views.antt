@@ -1,3 +1,4 @@
+-- believed: done_in
 -- The operations that a view can be given, and its report.
 use Rattle.std.specs.Prelude.{◌≡◌, ◌≤◌, ℕ, true, List, [], Option, Result, IfOk, IfErr}
 use Rattle.sftp_model.specs.declared.error.Error.{Error}

@@ -1,3 +1,4 @@
+-- believed: Asked
 -- The text and the answer of the program for the arguments of its command line.
 use Rattle.std.specs.Prelude.{ℕ, List, ◌++◌, Option, Some, None, codes}
 use Rattle.program_shell.specs.Texts.{answered_of, text_of}

@@ -1,3 +1,4 @@
+-- believed, except nothing, fault_where, fault_with, PushesBytes, NotPushed, IsFront
 -- The state of a frame reader: the bytes that came since it was cleared, and the reason why they cannot begin a frame.
 -- A frame is a length of four bytes and a body of that length (draft-ietf-secsh-filexfer-02, section 3).
 use Rattle.std.specs.Prelude.{

@@ -1,3 +1,4 @@
+-- believed
 -- A frame and the content at its end.
 use Rattle.std.specs.Prelude.{ℕ, List, [], ◌++◌, length}
 use Rattle.ssh_encoding.specs.Writing.{uint32, uint64, string}

@@ -1,3 +1,4 @@
+-- believed: hex_text
 -- The whole numbers of RFC 4251, section 5 (mpint), by their canonical bytes.
 use Rattle.std.specs.Prelude.{
   ℕ,

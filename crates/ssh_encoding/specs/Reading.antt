@@ -1,3 +1,4 @@
+-- believed: ◌>>=◌, MAX_LEN, byte_at, number_at, prefix_at, inside, prefixed_value, all_at, string_at, with_prefix
 -- The value that a list of bytes begins with, and the bytes after it: the data types of RFC 4251, section 5.
 use Rattle.std.specs.Prelude.{
   ℕ,

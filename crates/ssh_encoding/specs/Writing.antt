@@ -1,3 +1,4 @@
+-- believed: uint32, uint64, string, or_else
 -- The bytes that are written: the data types of RFC 4251, section 5.
 use Rattle.std.specs.Prelude.{
   ℕ,

@@ -1,3 +1,4 @@
+-- believed, except link_seen, work_seen, asked_seen
 -- The meaning of a transfer's command line.
 use Rattle.std.specs.Prelude.{
   ◌+◌,

@@ -1,3 +1,4 @@
+-- believed, except GetHasEnded, get_is_over, IsOpenAt, IsBehindRead, AsksNext, GetAsksOn, GetLeaves
 -- A copy from the server to a local file, step by step.
 use Rattle.std.specs.Prelude.{
   ◌≡◌,

@@ -1,3 +1,4 @@
+-- believed, except KeepsApart, IsFileAsked, SettlesStatus, drops_file
 -- The entries that a copy of one file has in a core: the request or the grant of its file, and the requests for its
 -- bytes and its attributes.
 use Rattle.std.specs.Prelude.{◌≡◌, ◌≢◌, ◌⊎◌, ◌<◌, ℕ, ◌+◌, true, false, List, [], ◌∷◌, ◌++◌, length, Option, Some, None}

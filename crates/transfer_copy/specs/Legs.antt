@@ -1,3 +1,4 @@
+-- believed
 -- The steps of one copy, one after another, from its start to its end.
 use Rattle.std.specs.Prelude.{◌≡◌, ◌⊎◌, ℕ, List, [], ◌∷◌, Result}
 use Rattle.sftp_model.specs.declared.reply.Reply.{Reply}

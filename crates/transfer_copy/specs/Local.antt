@@ -1,3 +1,4 @@
+-- believed: LocalAct, all_done, HasDone, writes_of, part_opened, reads_of
 -- The operations on a local file, one by one.
 use Rattle.std.specs.Prelude.{◌≡◌, ◌==◌, ℕ, List, [], ◌∷◌, map, Result, Ok, Err, if◌then◌else◌}
 

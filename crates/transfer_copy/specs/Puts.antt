@@ -1,3 +1,5 @@
+-- believed, except PutHasEnded, put_is_over, IsOpenToWrite, IsBehindWrite, IsBetween, AwaitsStatus, PutSendsOn,
+--   IsClosedAt, PutLeaves
 -- A copy from a local file to the server, step by step.
 use Rattle.std.specs.Prelude.{
   ◌≡◌,

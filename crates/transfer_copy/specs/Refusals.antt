@@ -1,3 +1,4 @@
+-- believed
 -- The meaning of a status.
 use Rattle.std.specs.Prelude.{◌≡◌}
 use Rattle.sftp_model.specs.Numbers.{SSH_FX_OK}

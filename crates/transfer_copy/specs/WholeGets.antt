@@ -1,3 +1,4 @@
+-- believed
 -- A whole copy from the server: its requests, their replies, and the bytes that were written.
 use Rattle.std.specs.Prelude.{◌≡◌, ◌==◌, ℕ, ◌+◌, List, [], ◌∷◌, ◌++◌, length, map, Some, if◌then◌else◌}
 use Rattle.sftp_model.specs.Numbers.{SSH_FX_EOF}

@@ -1,3 +1,4 @@
+-- believed
 -- A whole copy to the server: the bytes that were read, the WRITEs that carried them, and their statuses.
 use Rattle.std.specs.Prelude.{
   ◌≡◌,

@@ -1,3 +1,5 @@
+-- believed, except IsOfFile, IsOfParts, IsNumberOf, AreDisjoint, AreApartFrom, AreTogether, IsOfNone, SparesAll,
+--   CopierValue, AdvanceDid, AdvancesCopies
 -- Copies of many files in progress over one core.
 use Rattle.std.specs.Prelude.{
   ◌≡◌,

@@ -1,3 +1,4 @@
+-- believed
 -- The steps of each copy, among the steps that all copies over one session took.
 use Rattle.std.specs.Prelude.{◌≡◌, ◌⊎◌, ℕ, zero, suc, List, [], ◌∷◌, ◌++◌, map, Some, Result, Ok, Err}
 use Rattle.std.proofs.Common.{inl, inr}

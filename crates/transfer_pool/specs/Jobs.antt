@@ -1,3 +1,4 @@
+-- believed, except NotesJob, NotesOver, MayJoin, BeginsJob, ToldDid, TellsNext, JobTurnDid, JobTurned
 -- A list of files that are copied, several at once.
 use Rattle.std.specs.Prelude.{
   ◌≡◌,

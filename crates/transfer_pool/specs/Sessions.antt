@@ -1,3 +1,4 @@
+-- believed
 -- A session between two calls of the copier.
 use Rattle.std.specs.Prelude.{◌≡◌, ◌<◌, ◌-◌, ◌^◌, Bool, None, Result, Ok, IsSome, OnOk}
 use Rattle.sftp_core.specs.Info.{info_of}

@@ -1,3 +1,4 @@
+-- believed
 -- The results of all jobs.
 use Rattle.std.specs.Prelude.{◌≡◌, ℕ, Bool, List, [], ◌∷◌, Result, OnErr, OnOk}
 use Rattle.sftp_link.specs.Views.{LinkView}

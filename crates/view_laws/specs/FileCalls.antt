@@ -1,3 +1,4 @@
+-- believed: bare
 -- The results and effects of calls on the first slot, over a server whose choices refuse nothing: by its files alone,
 -- without a request.
 use Rattle.std.specs.Prelude.{

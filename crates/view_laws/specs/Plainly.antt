@@ -1,3 +1,4 @@
+-- believed: IsPlain
 -- The answers to operations and the files that they leave, over a server whose choices refuse nothing.
 use Rattle.std.specs.Prelude.{◌≡◌, ℕ, List}
 use Rattle.sftp_model.specs.declared.config.Choice.{Choice}

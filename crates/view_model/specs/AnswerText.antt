@@ -1,3 +1,4 @@
+-- believed
 -- The lines of the answers to operations.
 use Rattle.std.specs.Prelude.{ℕ, List, [], ◌∷◌, ◌++◌, codes}
 use Rattle.script_text.specs.Texts.{hex_word, line, number_text}

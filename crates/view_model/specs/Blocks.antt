@@ -1,3 +1,4 @@
+-- believed
 -- Blocks of files, and those that are kept, the most recently used first.
 use Rattle.std.specs.Prelude.{ℕ, ◌+◌, ◌-◌, ◌/◌, not, List, [], filter}
 use Rattle.lru.specs.LruCache.{lru_cache, promoted, put_entries}

@@ -1,3 +1,4 @@
+-- believed
 -- The blocks that are kept, the hits and the misses, by the files of the server alone.
 use Rattle.std.specs.Prelude.{
   ℕ,

@@ -1,3 +1,4 @@
+-- believed, except same_key_equiv
 -- The keys of blocks.
 use Rattle.std.specs.Prelude.{ℕ, ◌==◌, Bool, ◌&&◌}
 use Rattle.std.specs.Cmp.{IsEquivalence, and_equiv, nat_eq_equiv, on_equiv}

@@ -1,3 +1,4 @@
+-- believed
 -- The lines of a list of operations: the bytes that read as one; for other bytes, the first line that does not, and the
 -- reason.
 use Rattle.std.specs.Prelude.{

@@ -1,3 +1,4 @@
+-- believed
 -- The answers to operations and the files that they leave without a cache, from a server's files and directories alone.
 use Rattle.std.specs.Prelude.{
   ℕ,

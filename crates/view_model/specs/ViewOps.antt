@@ -1,3 +1,4 @@
+-- believed, except is_within, are_ok
 -- The operations on a view, and the lists of operations that it can be given.
 use Rattle.std.specs.Prelude.{ℕ, ◌+◌, ◌*◌, Bool, ◌&&◌, List, length, nat_le}
 use Rattle.std.specs.List.{list_all, sum_by}

@@ -1,3 +1,4 @@
+-- believed, except after_calls, ◌>>=◌, ComesTo
 -- The effect of operations by the outcomes of the calls that they make: the calls, the answers, and the blocks that are
 -- kept.
 use Rattle.std.specs.Prelude.{
