@@ -2,4 +2,3 @@ mod Waiting
 pub mod Few
 mod Rounds
 pub mod Streaming
-mod Wholes

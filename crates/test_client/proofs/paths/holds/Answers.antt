@@ -1,6 +1,6 @@
 use Rattle.std.proofs.Common.{rules, []}
 use Rattle.std.specs.Prelude.{None}
-use Rattle.test_client.proofs.Wholes.{not_over}
+use Rattle.test_client.proofs.Waiting.{not_over}
 use Rattle.test_client.proofs.paths.holds.Goals as goal
 
 pub finish_read-requires-clause-may : goal.finish_read-requires-clause-may

@@ -1,6 +1,6 @@
 use Rattle.std.proofs.Common.{rules, []}
 use Rattle.std.specs.Prelude.{None}
-use Rattle.test_client.proofs.Wholes.{write_not_over}
+use Rattle.test_client.proofs.Waiting.{write_not_over}
 use Rattle.test_client.proofs.paths.write.Goals as goal
 
 pub finish_write-requires-clause-may : goal.finish_write-requires-clause-may
