@@ -6,6 +6,7 @@ use crate::copy::copy_of;
 use crate::local_side::keep_local;
 use crate::system::SystemFile;
 use crate::transfer_error::{TransferError, ends_all, is_starved, no_text, tell_of};
+use crate::verdicts::Verdicts;
 use std::str;
 use transfer_args::{Direction, Options};
 use transfer_plan::{Found, JobVerdict, Tally, Task};
@@ -19,26 +20,45 @@ pub(crate) struct Totals {
     pub(crate) starved: bool,
 }
 
-/// A file whose copy was started, by its place among the jobs, and its verdict; `Stop` until the result is reported.
+/// The files that are to be copied: those among the jobs except the ones that the tally skips. The copy of a file
+/// continues after the number of bytes at the index of its job in `starts`, and starts at 0 if there is none.
 #[derive(Clone, Copy)]
-pub(crate) struct Given {
-    pub(crate) place: usize,
-    pub(crate) verdict: JobVerdict,
+pub(crate) struct Files<'a> {
+    pub(crate) jobs: &'a [Found],
+    pub(crate) tally: &'a Tally,
+    pub(crate) starts: &'a [u64],
 }
 
-/// The files among jobs that were not given yet, and the verdicts on those that were.
+impl<'a> Files<'a> {
+    /// Returns the file that the job at an index copies, or `None` if it copies none.
+    fn get(&self, job: usize) -> Option<&'a Found> {
+        let jobs = self.jobs;
+        match jobs.get(job) {
+            Some(found) if found.task == Task::CopyFile && !self.tally.skips(found) => Some(found),
+            _ => None,
+        }
+    }
+
+    /// Returns the number of bytes after which the copy of a job continues.
+    fn start(&self, job: usize) -> u64 {
+        match self.starts.get(job) {
+            Some(start) => *start,
+            None => 0,
+        }
+    }
+}
+
+/// The files whose copies were not started yet, and the verdicts on those whose copies were.
 #[derive(Drop)]
 pub(crate) struct Batch<'a> {
     rt: &'a HostRuntime,
     way: Direction,
     options: Options,
-    jobs: &'a [Found],
-    tally: &'a Tally,
-    starts: &'a [u64],
+    files: Files<'a>,
     next: usize,
     ended: bool,
     totals: Totals,
-    given: Vec<Given>,
+    verdicts: Verdicts,
 }
 
 /// Gives a local file that was copied its permissions and times, if that is asked for.
@@ -58,35 +78,35 @@ pub(crate) fn keep_file(
 }
 
 impl<'a> Batch<'a> {
-    /// Returns a queue of all files among the jobs except those that the tally skips. Each copy starts after the number
-    /// of bytes at its place in `starts`, and at 0 if there is none.
+    /// Returns a queue of these files. `verdicts` has a place for each of their jobs.
     pub(crate) fn new(
         rt: &'a HostRuntime,
         way: Direction,
         options: Options,
-        jobs: &'a [Found],
-        tally: &'a Tally,
-        starts: &'a [u64],
+        files: Files<'a>,
         totals: Totals,
+        verdicts: Verdicts,
     ) -> Batch<'a> {
         Batch {
             rt,
             way,
             options,
-            jobs,
-            tally,
-            starts,
+            files,
             next: 0,
             ended: false,
             totals,
-            given: Vec::new(rt.alloc()),
+            verdicts,
         }
     }
 
-    /// Returns the totals, and the verdict on each file whose copy was started, in the order of the jobs.
-    pub(crate) fn into_parts(self) -> (Totals, Vec<Given>) {
-        let Batch { totals, given, .. } = self;
-        (totals, given)
+    /// Returns the totals, and the verdict on each file.
+    pub(crate) fn into_parts(self) -> (Totals, Verdicts) {
+        let Batch {
+            totals,
+            verdicts,
+            ..
+        } = self;
+        (totals, verdicts)
     }
 
     /// Reports why an entry was not done, and returns its verdict.
@@ -100,37 +120,20 @@ impl<'a> Batch<'a> {
         JobVerdict::NotDone
     }
 
-    /// Returns the copy of a file, or `None` if it can't be started; the reason is reported then.
-    fn begin(&mut self, place: usize, found: &Found) -> Option<Wanted<SystemFile<'a>>> {
-        let number = self.given.len();
-        let path = found.source.as_slice();
-        let verdict = JobVerdict::Stop;
-        if self.given.push(Given { place, verdict }).is_err() {
-            self.refuse(path, &TransferError::OutOfMemory);
-            return None;
-        }
-        let begins_at = match self.starts.get(place) {
-            Some(start) => *start,
-            None => 0,
-        };
+    /// Returns the copy of a job's file, or `None` if it can't be started; the reason is reported then.
+    fn begin(&mut self, job: usize, found: &Found) -> Option<Wanted<SystemFile<'a>>> {
         let keeps = self.options.preserve;
+        let begins_at = self.files.start(job);
         match copy_of(self.rt.alloc(), self.way, keeps, begins_at, found) {
-            Ok(job) => Some(Wanted {
-                job,
-                local: SystemFile::new(self.rt, number),
+            Ok(copy) => Some(Wanted {
+                job: copy,
+                local: SystemFile::new(self.rt, job),
             }),
             Err(reason) => {
-                let verdict = self.refuse(path, &reason);
-                self.set_verdict(number, verdict);
+                let verdict = self.refuse(found.source.as_slice(), &reason);
+                self.verdicts.set(job, verdict);
                 None
             }
-        }
-    }
-
-    /// Records the verdict on the copy with a number.
-    fn set_verdict(&mut self, number: usize, verdict: JobVerdict) {
-        if let Some(given) = self.given.get_mut(number) {
-            given.verdict = verdict;
         }
     }
 
@@ -170,17 +173,13 @@ impl<'a> CopyJobs for Batch<'a> {
     ghost history = { λ jobs. tt };
 
     fn next_job(&mut self) -> Option<Wanted<SystemFile<'a>>> {
-        let jobs = self.jobs;
-        for place in self.next..jobs.len() {
-            let Some(found) = jobs.get(place) else {
-                return None;
-            };
+        for job in self.next..self.files.jobs.len() {
             if self.ended {
                 return None;
             }
-            self.next = place.saturating_add(1);
-            if found.task == Task::CopyFile && !self.tally.skips(found) {
-                let begun = self.begin(place, found);
+            self.next = job.saturating_add(1);
+            if let Some(found) = self.files.get(job) {
+                let begun = self.begin(job, found);
                 if begun.is_some() {
                     return begun;
                 }
@@ -192,19 +191,20 @@ impl<'a> CopyJobs for Batch<'a> {
     fn tell(&mut self, copied: Copied<SystemFile<'a>>)
         ensures { NotesOver {N = Unit {0}} (λ note history. history) copied.entry tt tt }
     {
-        let Copied { job, local, result } = copied;
-        let number = local.number();
-        let jobs = self.jobs;
-        let Some(given) = self.given.get(number) else {
-            return;
-        };
-        let Some(found) = jobs.get(given.place) else {
+        let Copied {
+            job: copy,
+            local,
+            result,
+        } = copied;
+        let job = local.job();
+        let jobs = self.files.jobs;
+        let Some(found) = jobs.get(job) else {
             return;
         };
         let verdict = match result {
-            Ok(len) => self.finish(found, len.saturating_sub(job.begins_at)),
-            Err(e) => self.refuse(job.from.as_str().as_bytes(), &TransferError::from(e)),
+            Ok(len) => self.finish(found, len.saturating_sub(copy.begins_at)),
+            Err(e) => self.refuse(copy.from.as_str().as_bytes(), &TransferError::from(e)),
         };
-        self.set_verdict(number, verdict);
+        self.verdicts.set(job, verdict);
     }
 }

@@ -7,12 +7,12 @@ use std::io::ErrorKind;
 use std::marker::Model;
 use transfer_pool::{LocalError, LocalFile};
 
-/// A file of the system, and the number of its copy. A write to it compares its bytes with those that come, and a
+/// A file of the system, and the index of its job. A write to it compares its bytes with those that come, and a
 /// rename checks that it has ended. Nothing is written. It does not record its operations.
 #[derive(Drop)]
 pub(crate) struct ComparedFile<'a> {
     runtime: &'a HostRuntime,
-    number: usize,
+    job: usize,
     file: Option<File>,
 }
 
@@ -22,18 +22,18 @@ fn unopened() -> LocalError {
 }
 
 impl<'a> ComparedFile<'a> {
-    /// Returns a value without a file, for the copy with a number.
-    pub(crate) fn new(runtime: &'a HostRuntime, number: usize) -> ComparedFile<'a> {
+    /// Returns a value without a file, for the job at an index.
+    pub(crate) fn new(runtime: &'a HostRuntime, job: usize) -> ComparedFile<'a> {
         ComparedFile {
             runtime,
-            number,
+            job,
             file: None,
         }
     }
 
-    /// Returns the number of its copy.
-    pub(crate) fn number(&self) -> usize {
-        self.number
+    /// Returns the index of its job.
+    pub(crate) fn job(&self) -> usize {
+        self.job
     }
 }
 

@@ -2,12 +2,13 @@
 ghost use Rattle.std.specs.Prelude.{◌≡◌};
 ghost use Rattle.transfer_pool.specs.Sessions.{IsGoing};
 
-use crate::batch::{Batch, Given, Totals};
+use crate::batch::{Batch, Files, Totals};
 use crate::copy::kept_attrs;
 use crate::local_side::{keep_local, make_local_folder, make_local_link};
 use crate::transfer_error::{
     TransferError, ends_all, is_starved, no_text, refusal_of, tell, tell_of,
 };
+use crate::verdicts::Verdicts;
 use crate::verify::Checks;
 use crate::window::{count_files, window_for};
 use sftp_client::Sftp;
@@ -28,9 +29,7 @@ pub(crate) struct Courier<'a, L> {
     pub(crate) way: Direction,
     pub(crate) options: Options,
     pub(crate) totals: Totals,
-    /// The files that were copied, in the order of the jobs, and the number of them that were asked for.
-    pub(crate) given: Vec<Given>,
-    pub(crate) answered: usize,
+    pub(crate) verdicts: Verdicts,
 }
 
 /// Returns a local path as text.
@@ -86,27 +85,34 @@ impl<'a, L: Link> Courier<'a, L> {
         requires { IsGoing L.LinkState.state self.old.sftp }
         ensures { IsGoing L.LinkState.state self.new.sftp }
     {
-        let files = count_files(jobs, self.options.files);
-        let window = self.window(files);
         let alloc = self.rt.alloc();
+        let Ok(verdicts) = Verdicts::new(alloc, jobs.len()) else {
+            self.tell_stop(Err(CopyError::OutOfMemory));
+            return;
+        };
+        let count = count_files(jobs, self.options.files);
+        let window = self.window(count);
         let starts = self.starts(jobs, tally);
+        let files = Files {
+            jobs,
+            tally,
+            starts: starts.as_slice(),
+        };
         let mut batch = Batch::new(
             self.rt,
             self.way,
             self.options,
-            jobs,
-            tally,
-            starts.as_slice(),
+            files,
             self.totals,
+            verdicts,
         );
-        let copied = copy_all(alloc, &mut self.sftp, &mut batch, files as usize, window);
-        let (totals, given) = batch.into_parts();
+        let copied = copy_all(alloc, &mut self.sftp, &mut batch, count as usize, window);
+        let (totals, verdicts) = batch.into_parts();
         self.totals = totals;
+        self.verdicts = verdicts;
         self.tell_stop(copied);
-        self.given = given;
-        self.answered = 0;
         if self.options.verify {
-            self.verify_files(jobs, files as usize, window);
+            self.verify_files(jobs, count as usize, window);
         }
     }
 
@@ -117,12 +123,12 @@ impl<'a, L: Link> Courier<'a, L> {
         ensures { IsGoing L.LinkState.state self.new.sftp }
     {
         let alloc = self.rt.alloc();
-        let given = mem::replace(&mut self.given, Vec::new(alloc));
-        let mut checks = Checks::new(self.rt, self.way, self.options, jobs, given);
+        let verdicts = mem::replace(&mut self.verdicts, Verdicts::none(alloc));
+        let mut checks = Checks::new(self.rt, self.way, self.options, jobs, verdicts);
         let compared = copy_all(alloc, &mut self.sftp, &mut checks, files, window);
-        let (starved, given) = checks.into_parts();
+        let (starved, verdicts) = checks.into_parts();
         self.totals.starved = self.totals.starved || starved;
-        self.given = given;
+        self.verdicts = verdicts;
         self.tell_stop(compared);
     }
 
@@ -133,18 +139,6 @@ impl<'a, L: Link> Courier<'a, L> {
         if let Err(e) = copied {
             self.totals.starved = true;
             tell(self.rt, "the session", &TransferError::from(e));
-        }
-    }
-
-    /// Returns the verdict on the next file that was copied; `Stop` if its copy was not started.
-    fn answer(&mut self) -> JobVerdict
-        ensures { self.new.sftp ≡ self.old.sftp }
-    {
-        let number = self.answered;
-        self.answered = number.saturating_add(1);
-        match self.given.get(number) {
-            Some(given) => given.verdict,
-            None => JobVerdict::Stop,
         }
     }
 
@@ -273,9 +267,9 @@ impl<'a, L: Link> Hand for Courier<'a, L> {
         self.copy_files(jobs, tally);
     }
 
-    fn work(&mut self, found: &Found) -> JobVerdict {
+    fn work(&mut self, job: usize, found: &Found) -> JobVerdict {
         if found.task == Task::CopyFile {
-            return self.answer();
+            return self.verdicts.of(job);
         }
         let done = self.do_task(found);
         self.verdict_of(found, done)

@@ -17,6 +17,7 @@ mod system;
 mod terminal;
 mod texts;
 mod transfer_error;
+mod verdicts;
 mod verify;
 mod window;
 mod work;

@@ -9,29 +9,29 @@ use std::os::unix::fs::MetadataExt;
 use std::{fs, io};
 use transfer_pool::{LocalError, LocalFile};
 
-/// A file of the system, and the number of its copy. It does not record its operations.
+/// A file of the system, and the index of its job. It does not record its operations.
 ///
 /// Used in `crates/sftp_transfer/src/batch.rt`.
 #[derive(Drop)]
 pub struct SystemFile<'a> {
     runtime: &'a HostRuntime,
-    number: usize,
+    job: usize,
     file: Option<File>,
 }
 
 impl<'a> SystemFile<'a> {
-    /// Returns a value without a file, for the copy with a number.
-    pub fn new(runtime: &'a HostRuntime, number: usize) -> SystemFile<'a> {
+    /// Returns a value without a file, for the job at an index.
+    pub fn new(runtime: &'a HostRuntime, job: usize) -> SystemFile<'a> {
         SystemFile {
             runtime,
-            number,
+            job,
             file: None,
         }
     }
 
-    /// Returns the number of its copy.
-    pub fn number(&self) -> usize {
-        self.number
+    /// Returns the index of its job.
+    pub fn job(&self) -> usize {
+        self.job
     }
 }
 

@@ -2,10 +2,11 @@
 ghost use Rattle.std.specs.Prelude.{◌≡◌};
 ghost use Rattle.transfer_pool.specs.Jobs.{NotesOver};
 
-use crate::batch::{Given, keep_file};
+use crate::batch::keep_file;
 use crate::compared::ComparedFile;
 use crate::copy::read_back_of;
 use crate::transfer_error::{TransferError, ends_all, is_starved, tell_of};
+use crate::verdicts::Verdicts;
 use transfer_args::{Direction, Options};
 use transfer_plan::{Found, JobVerdict};
 use transfer_pool::{Copied, CopyJobs, Wanted};
@@ -20,7 +21,7 @@ pub(crate) struct Checks<'a> {
     next: usize,
     ended: bool,
     starved: bool,
-    given: Vec<Given>,
+    verdicts: Verdicts,
 }
 
 impl<'a> Checks<'a> {
@@ -30,7 +31,7 @@ impl<'a> Checks<'a> {
         way: Direction,
         options: Options,
         jobs: &'a [Found],
-        given: Vec<Given>,
+        verdicts: Verdicts,
     ) -> Checks<'a> {
         Checks {
             rt,
@@ -40,15 +41,19 @@ impl<'a> Checks<'a> {
             next: 0,
             ended: false,
             starved: false,
-            given,
+            verdicts,
         }
     }
 
     /// Returns true if an allocation failed, and the verdict on each file: `Done` only if it was read back and is the
     /// same.
-    pub(crate) fn into_parts(self) -> (bool, Vec<Given>) {
-        let Checks { starved, given, .. } = self;
-        (starved, given)
+    pub(crate) fn into_parts(self) -> (bool, Verdicts) {
+        let Checks {
+            starved,
+            verdicts,
+            ..
+        } = self;
+        (starved, verdicts)
     }
 
     /// Reports why a file was not compared, or that it differs, and returns its verdict.
@@ -62,36 +67,26 @@ impl<'a> Checks<'a> {
         JobVerdict::NotDone
     }
 
-    /// Records the verdict on the file with a number.
-    fn set_verdict(&mut self, number: usize, verdict: JobVerdict) {
-        if let Some(given) = self.given.get_mut(number) {
-            given.verdict = verdict;
+    /// Returns the file of a job if it was copied; it isn't done as long as it isn't compared.
+    fn copied(&mut self, job: usize) -> Option<&'a Found> {
+        if self.verdicts.of(job) != JobVerdict::Done {
+            return None;
         }
-    }
-
-    /// Returns the file with a number, if it was copied; it isn't done as long as it isn't compared.
-    fn copied(&mut self, number: usize) -> Option<&'a Found> {
+        self.verdicts.set(job, JobVerdict::Stop);
         let jobs = self.jobs;
-        let Some(given) = self.given.get_mut(number) else {
-            return None;
-        };
-        if given.verdict != JobVerdict::Done {
-            return None;
-        }
-        given.verdict = JobVerdict::Stop;
-        jobs.get(given.place)
+        jobs.get(job)
     }
 
-    /// Returns the copy that reads a file back, or `None` if it can't be started; the reason is reported then.
-    fn begin(&mut self, number: usize, found: &Found) -> Option<Wanted<ComparedFile<'a>>> {
+    /// Returns the copy that reads a job's file back, or `None` if it can't be started; the reason is reported then.
+    fn begin(&mut self, job: usize, found: &Found) -> Option<Wanted<ComparedFile<'a>>> {
         match read_back_of(self.rt.alloc(), self.way, found) {
-            Ok(job) => Some(Wanted {
-                job,
-                local: ComparedFile::new(self.rt, number),
+            Ok(copy) => Some(Wanted {
+                job: copy,
+                local: ComparedFile::new(self.rt, job),
             }),
             Err(reason) => {
                 let verdict = self.refuse(found, &reason);
-                self.set_verdict(number, verdict);
+                self.verdicts.set(job, verdict);
                 None
             }
         }
@@ -117,11 +112,11 @@ impl<'a> CopyJobs for Checks<'a> {
     ghost history = { λ jobs. tt };
 
     fn next_job(&mut self) -> Option<Wanted<ComparedFile<'a>>> {
-        for number in self.next..self.given.len() {
-            self.next = number.saturating_add(1);
-            if let Some(found) = self.copied(number) {
+        for job in self.next..self.jobs.len() {
+            self.next = job.saturating_add(1);
+            if let Some(found) = self.copied(job) {
                 if !self.ended {
-                    let begun = self.begin(number, found);
+                    let begun = self.begin(job, found);
                     if begun.is_some() {
                         return begun;
                     }
@@ -139,18 +134,15 @@ impl<'a> CopyJobs for Checks<'a> {
             local,
             result,
         } = copied;
-        let number = local.number();
+        let job = local.job();
         let jobs = self.jobs;
-        let Some(given) = self.given.get(number) else {
-            return;
-        };
-        let Some(found) = jobs.get(given.place) else {
+        let Some(found) = jobs.get(job) else {
             return;
         };
         let verdict = match result {
             Ok(_) => self.finish(found),
             Err(e) => self.refuse(found, &TransferError::from(e)),
         };
-        self.set_verdict(number, verdict);
+        self.verdicts.set(job, verdict);
     }
 }

@@ -8,6 +8,7 @@ use crate::ended::{Reach, ended_by};
 use crate::listing::list;
 use crate::local_side::{is_folder, make_local_folder};
 use crate::transfer_error::{TransferError, is_starved, tell, tell_of};
+use crate::verdicts::Verdicts;
 use link_buffered::BufferedLink;
 use sftp_client::Sftp;
 use sftp_link::Link;
@@ -91,8 +92,7 @@ pub(crate) fn over<L: Link + Drop>(rt: &HostRuntime, link: L, work: Work<'_>) ->
                         bytes: 0,
                         starved: false,
                     },
-                    given: Vec::new(rt.alloc()),
-                    answered: 0,
+                    verdicts: Verdicts::none(rt.alloc()),
                 };
                 copy(&mut courier, &transfer)
             }

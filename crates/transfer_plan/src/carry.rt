@@ -31,11 +31,13 @@ fn is_of(kind: TaskKind, task: Task) -> bool
     }
 }
 
-/// Does one job, or skips it if it lies in a directory that was not created. Fails only if an allocation fails.
+/// Does the job at an index, or skips it if it lies in a directory that was not created. Fails only if an allocation
+/// fails.
 fn work_one<H: Hand>(
     alloc: Global,
     hand: &mut H,
     tally: &mut Tally,
+    job: usize,
     found: &Found,
 ) -> Result<(), OutOfMemory>
     requires { H.may hand.old }
@@ -47,15 +49,16 @@ fn work_one<H: Hand>(
         tally.note_skipped(found);
         return Ok(());
     }
-    let verdict = hand.work(found);
+    let verdict = hand.work(job, found);
     tally.note_worked(alloc, found, verdict)
 }
 
-/// Does one job if it is of a kind, unless the transfer has stopped. Fails only if an allocation fails.
+/// Does the job at an index if it is of a kind, unless the transfer has stopped. Fails only if an allocation fails.
 fn work_step<H: Hand>(
     alloc: Global,
     hand: &mut H,
     tally: &mut Tally,
+    job: usize,
     found: &Found,
     kind: TaskKind,
 ) -> Result<(), OutOfMemory>
@@ -66,7 +69,7 @@ fn work_step<H: Hand>(
     if !is_of(kind, found.task) || tally.stopped() {
         return Ok(());
     }
-    work_one(alloc, hand, tally, found)
+    work_one(alloc, hand, tally, job, found)
 }
 
 /// Gives a directory its permissions and times if it was created, unless the transfer has stopped. Fails only if an
@@ -104,8 +107,8 @@ fn work_all<H: Hand>(
     ensures may { H.may hand.new }
     ensures acts { OnOk result (HasActed H.done (of_kind kind) IsJob jobs.now tally.old tally.new (H.history hand.old) (H.history hand.new)) }
 {
-    for found in jobs {
-        work_step(alloc, hand, tally, found, kind)?;
+    for job in 0..jobs.len() {
+        work_step(alloc, hand, tally, job, &jobs[job], kind)?;
     }
     Ok(())
 }

@@ -42,8 +42,9 @@ pub trait Hand {
         ensures may { Self.may self.new }
         ensures did { Self.history self.new ≡ Self.done (Copied (files_in tally.now jobs.now)) (Self.history self.old) };
 
-    /// Does a job by its task; for a file, returns the result of its copy. Skipped and refused entries are not done.
-    fn work(&mut self, found: &Found) -> JobVerdict
+    /// Does the job at an index by its task; for a file, returns the result of its copy. Skipped and refused entries are
+    /// not done.
+    fn work(&mut self, job: usize, found: &Found) -> JobVerdict
         requires { Self.may self.old }
         ensures may { Self.may self.new }
         ensures did { Self.history self.new ≡ Self.done (Worked found.now result) (Self.history self.old) };

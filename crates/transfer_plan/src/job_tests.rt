@@ -31,7 +31,7 @@ impl Hand for Counting {
         }
     }
 
-    fn work(&mut self, found: &Found) -> JobVerdict {
+    fn work(&mut self, _job: usize, found: &Found) -> JobVerdict {
         self.worked = self.worked.saturating_add(1);
         if found.task == Task::MakeFolder {
             JobVerdict::NotDone
