@@ -1,26 +1,29 @@
-//! A session over a link.
-ghost use Rattle.std.specs.Prelude.{◌≡◌, ◌<◌, ◌-◌, ◌^◌, [], None};
+//! A session over a link: its opening and its end, what it sends and takes, and what it offers.
+ghost use Rattle.std.specs.Prelude.{◌≡◌, ◌<◌, ◌-◌, ◌^◌, [], None, Some, IsSome};
 ghost use Rattle.std.specs.Borrow.{Lends, sem};
+ghost use Rattle.plan_model.specs.Moves.{offers};
 ghost use Rattle.sftp_client.specs.contracts.sftp.Sftp.{the_row};
 ghost use Rattle.sftp_core.specs.contracts.pipeline.Core.{the_row as core_row};
 ghost use Rattle.sftp_core.specs.Frames.{AreFilled};
+ghost use Rattle.sftp_core.specs.Info.{info_of};
+ghost use Rattle.sftp_file.specs.Files.{facts_of};
+ghost use Rattle.sftp_model.specs.Numbers.{COPY_DATA, EXPAND_PATH, FSYNC, HARDLINK, POSIX_RENAME};
+ghost use Rattle.sftp_model.specs.OpenOptions.{nothing_chosen};
 ghost use Rattle.sftp_model.specs.Pieces.{joined_pieces};
+ghost use Rattle.sftp_client.specs.Rounds.{ClosesSession, DrainsReplies, ExchangeEnds, OpenEnds, OpensSftp, fresh_sftp};
 ghost use Rattle.sftp_client.specs.Sessions.{FlushesQueue, FlushesUnfailed, IsWholeFrame, PullsFrame, SendsRest, TakesOrKept, TakesPulled, TakesUnfailed, TakesWhole, fault_by, kept_after, with_core};
+ghost use Rattle.sftp_client.specs.Waits.{IsReadyOr};
 
-mod list;
-mod offers;
-mod open;
-mod opening;
-mod wait;
-mod whole;
-mod write;
+mod calls;
 
 use crate::incoming::Incoming;
 use crate::outgoing::Outgoing;
+use bitflags::Flags;
 use link_frames::refused;
-use sftp_core::{Chunk, Core};
+use sftp_core::{Chunk, Core, Info, MAX_IDS};
+use sftp_fs::Fs;
 use sftp_link::Link;
-use sftp_model::{Error, Fault};
+use sftp_model::{Error, Extensions, Fault, OpenOptions, RemotePath, SftpOptions};
 use std::alloc::Global;
 use std::marker::Model;
 use std::mem;
@@ -65,6 +68,50 @@ fn fault_after(e: &Error) -> Option<Fault>
 }
 
 impl<L: Link> Sftp<L> {
+    /// Opens a session over a link: sends the hello and takes VERSION, and asks for the limits if the server offers to
+    /// report them (draft-ietf-secsh-filexfer-02, section 4; OpenSSH's PROTOCOL, section 4.8). The core's `info` is
+    /// `Some` then.
+    ///
+    /// # Errors
+    ///
+    /// The error if an allocation, the link or a frame fails. It hands the link back, as far as it was used.
+    pub fn new(alloc: Global, link: L, options: &SftpOptions) -> Result<Sftp<L>, (Error, L)>
+        requires { (L.LinkState.state link).faults < 2 ^ 64 - 1 }
+        ensures { OpensSftp L.LinkState.state link options.now result }
+    {
+        let Ok(core) = Core::new(alloc, options) else {
+            return Err((Error::OutOfMemory, link));
+        };
+        let mut sftp = Sftp {
+            alloc,
+            core,
+            outgoing: Outgoing::new(),
+            incoming: Incoming::new(alloc),
+            link,
+        };
+        match sftp.open() {
+            Ok(()) => Ok(sftp),
+            Err(e) => Err((e, sftp.into_link())),
+        }
+    }
+
+    /// Sends what is queued and takes frames until no request is unanswered, and hands the link back.
+    ///
+    /// # Errors
+    ///
+    /// A recorded fault is reported first; then the errors of `flush` and `take`. Each of them hands the link back too.
+    pub fn close(self) -> Result<L, (Error, L)>
+        requires opened { IsSome (info_of self.core.phase) }
+        requires count { (L.LinkState.state self.link).faults < 2 ^ 64 - 1 }
+        ensures { ClosesSession L.LinkState.state self result }
+    {
+        let mut sftp = self;
+        match sftp.drain() {
+            Ok(()) => Ok(sftp.into_link()),
+            Err(e) => Err((e, sftp.into_link())),
+        }
+    }
+
     /// Returns the core, to submit requests and to poll them. The session then has the core as the caller leaves it,
     /// and nothing else changes.
     pub fn core(&mut self) -> &mut Core
@@ -118,6 +165,141 @@ impl<L: Link> Sftp<L> {
             return Err(Error::BackgroundTaskFailure(fault));
         }
         self.take_unfailed()
+    }
+
+    /// Returns options to open a file with, with nothing chosen.
+    pub fn options(&self) -> OpenOptions
+        ensures { result ≡ nothing_chosen }
+    {
+        OpenOptions::new()
+    }
+
+    /// Returns the calls on paths from the directory in which the session began. No memory is allocated.
+    pub fn fs(&self) -> Fs
+        ensures { result ≡ [] }
+    {
+        Fs::new(RemotePath::new(Vec::new(self.alloc)))
+    }
+
+    /// Returns true if the server finds the whole name of a path that begins with `~` (`expand-path@openssh.com`,
+    /// OpenSSH's PROTOCOL, section 4.9).
+    pub fn support_expand_path(&self) -> bool
+        requires { IsSome (info_of self.now.core.phase) }
+        ensures { result ≡ offers (facts_of self.now.core) EXPAND_PATH }
+    {
+        self.offers(Extensions::EXPAND_PATH)
+    }
+
+    /// Returns true if the server writes a file's content to its disk when asked (`fsync@openssh.com`, OpenSSH's
+    /// PROTOCOL, section 4.6).
+    pub fn support_fsync(&self) -> bool
+        requires { IsSome (info_of self.now.core.phase) }
+        ensures { result ≡ offers (facts_of self.now.core) FSYNC }
+    {
+        self.offers(Extensions::FSYNC)
+    }
+
+    /// Returns true if the server gives a file a second name (`hardlink@openssh.com`, OpenSSH's PROTOCOL, section 4.5).
+    pub fn support_hardlink(&self) -> bool
+        requires { IsSome (info_of self.now.core.phase) }
+        ensures { result ≡ offers (facts_of self.now.core) HARDLINK }
+    {
+        self.offers(Extensions::HARDLINK)
+    }
+
+    /// Returns true if a rename replaces a file that has the new name (`posix-rename@openssh.com`, OpenSSH's PROTOCOL,
+    /// section 4.3).
+    pub fn support_posix_rename(&self) -> bool
+        requires { IsSome (info_of self.now.core.phase) }
+        ensures { result ≡ offers (facts_of self.now.core) POSIX_RENAME }
+    {
+        self.offers(Extensions::POSIX_RENAME)
+    }
+
+    /// Returns true if the server copies from one file to another (`copy-data`,
+    /// draft-ietf-secsh-filexfer-extensions-00, section 7).
+    pub fn support_copy(&self) -> bool
+        requires { IsSome (info_of self.now.core.phase) }
+        ensures { result ≡ offers (facts_of self.now.core) COPY_DATA }
+    {
+        self.offers(Extensions::COPY_DATA)
+    }
+
+    /// Returns the most bytes that one WRITE carries, from 1 to 1048275.
+    pub fn max_write_len(&self) -> u32
+        requires { IsSome (info_of self.now.core.phase) }
+        ensures { result ≡ (facts_of self.now.core).write_len }
+    {
+        self.info().write_len
+    }
+
+    /// Returns the most bytes that one READ asks for, from 1 to 1048275.
+    pub fn max_read_len(&self) -> u32
+        requires { IsSome (info_of self.now.core.phase) }
+        ensures { result ≡ (facts_of self.now.core).read_len }
+    {
+        self.info().read_len
+    }
+
+    /// Checks that another request may be submitted.
+    ///
+    /// # Errors
+    ///
+    /// `OutOfMemory` if 2147483648 ids are in use.
+    pub fn ready(&self) -> Result<(), Error>
+        requires { IsSome (info_of self.now.core.phase) }
+        ensures { IsReadyOr self.now.core result }
+    {
+        if self.core.kept() < MAX_IDS {
+            Ok(())
+        } else {
+            Err(Error::OutOfMemory)
+        }
+    }
+
+    /// Sends the hello and takes VERSION, and also the limits if the server offers to report them.
+    fn open(&mut self) -> Result<(), Error>
+        requires empty { self.old ≡ fresh_sftp self.old.core.options self.old.link }
+        requires count { (L.LinkState.state self.old.link).faults < 2 ^ 64 - 1 }
+        ensures { OpenEnds L.LinkState.state self.old self.new result }
+    {
+        self.exchange()?;
+        if self.core.info().is_none() {
+            self.exchange()?;
+        }
+        Ok(())
+    }
+
+    /// Sends what is queued, and takes one frame.
+    fn exchange(&mut self) -> Result<(), Error>
+        requires unfailed { self.old.core.fault ≡ None }
+        requires count { (L.LinkState.state self.old.link).faults < 2 ^ 64 - 1 }
+        ensures { ExchangeEnds L.LinkState.state self.old self.new result }
+    {
+        self.flush_unfailed()?;
+        self.take_frame()
+    }
+
+    /// Sends what is queued and takes frames until no request is unanswered.
+    fn drain(&mut self) -> Result<(), Error>
+        requires opened { IsSome (info_of self.old.core.phase) }
+        requires count { (L.LinkState.state self.old.link).faults < 2 ^ 64 - 1 }
+        ensures { DrainsReplies L.LinkState.state self.old self.new result }
+    {
+        self.flush()?;
+        while self.core.unanswered() > 0 {
+            self.take()?;
+            self.flush()?;
+        }
+        Ok(())
+    }
+
+    /// Returns the link alone.
+    fn into_link(self) -> L
+        ensures { result ≡ self.link }
+    {
+        let Sftp { link, .. } = self;
+        link
     }
 
     /// Does a `flush` if the core has recorded no fault.
@@ -228,6 +410,25 @@ impl<L: Link> Sftp<L> {
         let sent = mem::replace(&mut self.outgoing, Outgoing::of(chunk));
         if let Some(list) = sent.into_chunk() {
             self.core.give_back(list);
+        }
+    }
+
+    /// Returns true if the server offers an extension.
+    fn offers(&self, extension: Extensions) -> bool
+        requires { IsSome (info_of self.now.core.phase) }
+        ensures { result ≡ offers (facts_of self.now.core) extension.0 }
+    {
+        self.info().extensions.bits() & extension.bits() != 0
+    }
+
+    /// Returns the information that the server reported.
+    fn info(&self) -> Info
+        requires { IsSome (info_of self.now.core.phase) }
+        ensures { info_of self.now.core.phase ≡ Some result }
+    {
+        match self.core.info() {
+            Some(info) => info,
+            None => unreachable!(),
         }
     }
 }

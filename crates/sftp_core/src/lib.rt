@@ -2,7 +2,6 @@
 #![tactic(auto)]
 
 mod chunk;
-mod ended;
 mod errors;
 mod handshake;
 mod id_record;
@@ -14,13 +13,12 @@ mod table;
 mod tokens;
 
 pub use chunk::Chunk;
-pub use ended::Ended;
 pub use errors::{SubmitError, TakeError};
 pub use handshake::Handshake;
 pub use id_record::IdRecord;
 pub use info::{Info, MAX_IDS, lengths};
 pub use laws::{one_request_an_id, options_only_lower, takes_what_may_answer};
-pub use pipeline::Core;
+pub use pipeline::{Core, Ended};
 pub use sftp_model::{Fault, Limits};
 pub use ssh_encoding::OutOfMemory;
 pub use tokens::{Grant, Polled, Taken, Ticket};

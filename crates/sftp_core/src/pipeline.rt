@@ -1,31 +1,36 @@
-//! The core of a session.
-ghost use Rattle.std.specs.Prelude.{◌≡◌, ◌+◌, ◌<◌, ◌≤◌, ◌∷◌, ◌++◌, [], map, slice_get, None, Some, false, IfOk, IfSome, OnOk, OnErr, vec_len, vec_capacity};
+//! The core of a session: its queue, and the requests and frames that pass through it.
+ghost use Rattle.std.specs.Prelude.{◌≡◌, ◌+◌, ◌<◌, ◌≤◌, ◌∷◌, ◌++◌, [], ℕ, map, slice_get, None, Some, false, IsTrue, IsSome, IfOk, IfErr, IfSome, OnOk, OnErr, vec_len, vec_capacity};
 ghost use Rattle.std.specs.FinMap as fin;
 ghost use Rattle.std.specs.Option.{option_map};
-ghost use Rattle.sftp_core.specs.Core.{fresh, queued_of, awaited_of, unanswered_of, kept_of, failed_with};
+ghost use Rattle.sftp_model.specs.Pieces.{joined_pieces};
+ghost use Rattle.sftp_model.specs.Frames.{frames_of, is_too_long};
+ghost use Rattle.sftp_core.specs.Core.{fresh, queued_of, awaited_of, unanswered_of, kept_of, failed_with, is_call, write_of, refusal_of, submit_refusal, IsSubmitError, QueuesRequest, SubmittedParts, handed_out};
 ghost use Rattle.sftp_wire.specs.Heads.{request_head};
+ghost use Rattle.sftp_core.specs.Frames.{AreFilled, IsShort};
 ghost use Rattle.sftp_core.specs.Pieces.{asked_of, pieces_of, IsCut};
 ghost use Rattle.sftp_core.specs.Info.{MAX_IDS, info_of, HasLengths};
 ghost use Rattle.sftp_core.specs.Queue.{IsPutLast, IsUnput};
+ghost use Rattle.sftp_core.specs.Table.{marked_all};
 
+use crate::chunk::Chunk;
 use crate::errors::SubmitError;
 use crate::handshake::Handshake;
 use crate::id_record::IdRecord;
 use crate::info::Info;
-use crate::queued::Queued;
+use crate::queued::{Queued, content_of, filled_parts, parts_of};
 use crate::table::Table;
+use crate::tokens::Ticket;
 use bytes::Bytes;
-use sftp_model::{Expected, Fault, Request, SftpOptions};
+use sftp_model::{Expected, Fault, Handle, Request, SftpOptions, TryCopy};
+use sftp_wire::request_len;
 use ssh_encoding::OutOfMemory;
 use std::alloc::Global;
 use std::marker::Model;
+use std::mem;
 
-mod parts;
-mod queue;
 mod replies;
 #[cfg(test)]
 mod seats;
-mod tickets;
 
 /// The protocol of one session without its link: it numbers requests, queues their frames, and passes each reply to the
 /// one request with its id (draft-ietf-secsh-filexfer-02, sections 3 to 7).
@@ -173,6 +178,148 @@ impl Core {
         ensures { result ≡ kept_of self.now }
     {
         self.table.len() as u32 + self.phase.hello()
+    }
+
+    /// Puts a request last into the queue, under an id that no unanswered request has. An OPEN or OPENDIR also
+    /// allocates the memory for its CLOSE.
+    ///
+    /// # Errors
+    ///
+    /// `Failed` with a kept fault comes before `TooLong` and `OutOfMemory`. The core is unchanged.
+    #[tactic(auto, using(crate::proofs::Refusals::no_fault))]
+    pub fn submit(&mut self, request: &Request) -> Result<Ticket, SubmitError>
+        requires ready { IsSome (info_of self.old.phase) }
+        requires few { fin.len self.old.table < MAX_IDS }
+        requires call { IsTrue (is_call request.now) }
+        ensures ok { IfOk result (λ ticket. QueuesRequest self.old request.now ticket self.new) }
+        ensures refused { IfErr result (λ e. IsSubmitError e (submit_refusal self.old request.now)) }
+        ensures unchanged { OnErr result (self.new ≡ self.old) }
+    {
+        if let Some(fault) = self.fault {
+            return Err(SubmitError::Failed(fault));
+        }
+        if request_len(request).is_none() {
+            return Err(SubmitError::TooLong);
+        }
+        let copy = request.try_copy(self.alloc)?;
+        let parts = parts_of(self.alloc, request)?;
+        let id = put_last(&mut self.queue, &mut self.table, copy, parts, true)?;
+        Ok(Ticket { id })
+    }
+
+    /// Submits the WRITE of these parts, joined. The parts are shared and not copied. The queue's pieces of it are its
+    /// head and then each part that is not empty, by itself.
+    ///
+    /// # Errors
+    ///
+    /// `Failed` with a kept fault comes before `TooLong` and `OutOfMemory`, as with `submit`. The core is unchanged.
+    #[tactic(auto, using(crate::proofs::Refusals::no_fault))]
+    pub fn submit_parts(
+        &mut self,
+        handle: &Handle,
+        offset: u64,
+        parts: &[Bytes],
+    ) -> Result<Ticket, SubmitError>
+        requires ready { IsSome (info_of self.old.phase) }
+        requires few { fin.len self.old.table < MAX_IDS }
+        ensures ok { IfOk result (λ ticket.
+            SubmittedParts self.old handle.now offset parts.now ticket self.new) }
+        ensures refused { IfErr result (λ e.
+            IsSubmitError e (submit_refusal self.old (write_of handle.now offset parts.now))) }
+        ensures unchanged { OnErr result (self.new ≡ self.old) }
+    {
+        if let Some(fault) = self.fault {
+            return Err(SubmitError::Failed(fault));
+        }
+        let request = short_write(self.alloc, handle, offset, parts)?;
+        let filled = filled_parts(self.alloc, parts)?;
+        let id = put_last(&mut self.queue, &mut self.table, request, filled, true)?;
+        Ok(Ticket { id })
+    }
+
+    /// Returns the frames of all queued requests in order, as pieces, none of them empty. The pieces of a frame are its
+    /// head, and then the pieces of its content as they were passed in. Then nothing is queued, and each request counts
+    /// as sent.
+    ///
+    /// # Errors
+    ///
+    /// `OutOfMemory` if an allocation fails; the core is unchanged.
+    pub fn hand_out(&mut self) -> Result<Chunk, OutOfMemory>
+        ensures ok { IfOk result (λ chunk. joined_pieces chunk ≡ frames_of self.old.queue) }
+        ensures pieces { IfOk result (λ chunk. chunk ≡ self.old.pieces) }
+        ensures filled { IfOk result (λ chunk. AreFilled chunk) }
+        ensures after { OnOk result (self.new ≡ handed_out self.old) }
+        ensures unchanged { OnErr result (self.new ≡ self.old) }
+    {
+        let list = mem::replace(&mut self.list, Vec::new(self.alloc));
+        let chunk = Chunk::of_queue(self.alloc, self.queue.as_slice(), list)?;
+        mark_all(&mut self.table, self.queue.as_slice());
+        self.queue.clear();
+        self.hello_sent = true;
+        Ok(chunk)
+    }
+
+    /// Takes a chunk back, and keeps its list for the next one. Nothing else changes.
+    pub fn give_back(&mut self, chunk: Chunk)
+        ensures { self.new ≡ self.old }
+    {
+        self.list = chunk.into_list();
+    }
+
+    /// Ends the core. No bytes are sent. The returned value allows the release of its tickets and grants.
+    pub fn end(self) -> Ended {
+        Ended(())
+    }
+}
+
+/// The proof that a core was ended. The tickets and grants that it handed out have no use any more, and may be
+/// released.
+///
+/// It does not distinguish two cores: the caller must pass the `Ended` of the core that the ticket or grant came from.
+///
+/// Example: `crates/test_client/src/copies.rt`.
+#[derive(Clone, Copy, Debug)]
+pub struct Ended(());
+
+/// Returns the WRITE of these parts, if its frame is within the limit.
+#[tactic(auto, using(crate::proofs::Refusals::no_fault))]
+fn short_write(
+    alloc: Global,
+    handle: &Handle,
+    offset: u64,
+    parts: &[Bytes],
+) -> Result<Request, SubmitError>
+    ensures ok { IfOk result (λ request. request ≡ write_of handle.now offset parts.now) }
+    ensures short { (id : ℕ) → OnOk result (IsShort (id, write_of handle.now offset parts.now)) }
+    ensures only { OnOk result (refusal_of None (is_too_long (write_of handle.now offset parts.now)) ≡ None) }
+    ensures refused { IfErr result (λ e.
+        IsSubmitError e (refusal_of None (is_too_long (write_of handle.now offset parts.now)))) }
+{
+    let content = content_of(alloc, parts)?;
+    let request = Request::Write {
+        handle: handle.copied(),
+        offset,
+        content,
+    };
+    if request_len(&request).is_none() {
+        return Err(SubmitError::TooLong);
+    }
+    Ok(request)
+}
+
+/// Marks each request of a queue as handed out.
+fn mark_all(table: &mut Table, queue: &[Queued])
+    ensures { table.new ≡ marked_all table.old (map asked_of queue.now) }
+{
+    let mut rest = queue;
+    loop {
+        match rest {
+            [] => return,
+            [queued, later @ ..] => {
+                table.mark_sent(queued.id());
+                rest = later;
+            }
+        }
     }
 }
 

@@ -2,6 +2,7 @@
 //! without the `Ended` of its core.
 ghost use Rattle.std.specs.Prelude.{◌≡◌};
 
+use crate::pipeline::Ended;
 use sftp_model::{Fault, Handle, Reply};
 use std::marker::Model;
 
@@ -29,6 +30,11 @@ impl Ticket {
         ensures { result ≡ self.now }
     {
         self.id
+    }
+
+    /// Releases a ticket of a core that was ended.
+    pub fn let_go(self, _core: Ended) {
+        let Ticket { id: _ } = self;
     }
 }
 
@@ -62,6 +68,11 @@ impl Grant {
         ensures { result.now ≡ self.now.handle }
     {
         &self.handle
+    }
+
+    /// Releases a grant of a core that was ended.
+    pub fn let_go(self, _core: Ended) {
+        let Grant { id: _, handle: _ } = self;
     }
 }
 

@@ -1,7 +1,7 @@
 use Rattle.std.proofs.Common.{◌≡◌, length, map}
 use Rattle.sftp_core.specs.Table.{marked_all}
 use Rattle.sftp_core.specs.Pieces.{asked_of}
-use Rattle.sftp_core.proofs.pipeline.queue.mark_all.Given as goal
+use Rattle.sftp_core.proofs.pipeline.mark_all.Given as goal
 
 -- what is left to be marked makes what the whole would
 abbrev pub invariant-loop-rest : goal.invariant-loop-rest
