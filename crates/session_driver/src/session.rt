@@ -35,7 +35,7 @@ pub enum Phase {
 
 /// The kind of one step of a lane.
 ///
-/// Used in `crates/session_work/src/noting.rt`.
+/// Used in `crates/session_work/src/journal.rt`.
 #[derive(Clone, Copy, Debug, PartialEq, Eq)]
 pub enum Stepped {
     /// The lane has no call left, or its call waits for a reply.

@@ -1,14 +1,11 @@
-//! Calls that are added to lanes.
-ghost use Rattle.std.specs.Prelude.{◌≡◌, ◌<◌, ◌∷◌, ◌++◌, [], length, OnErr, OnOk};
+//! The calls of lanes: an appended call, and the current one.
+ghost use Rattle.std.specs.Prelude.{◌≡◌, ◌<◌, ◌∷◌, ◌++◌, [], OnOk, OnErr, length, slice_get};
 ghost use Rattle.session_driver.specs.Adding.{with_call};
-ghost use Rattle.session_work.specs.Adding.{added_in};
-ghost use Rattle.session_work.specs.SoFar.{IsIntact};
-ghost use Rattle.session_work.specs.Working.{contents_of};
+ghost use Rattle.std.specs.Option.{option_copied};
+ghost use Rattle.session_work.specs.Noting.{call_in};
 
-use crate::closing::add_entry;
-use crate::lanes::Lanes;
-use session_model::{Call, Entry, Lane};
-use sftp_model::TryCopy;
+use crate::LaneState;
+use session_model::{Call, Lane};
 use sftp_values::Items;
 use ssh_encoding::OutOfMemory;
 use std::alloc::Global;
@@ -46,23 +43,36 @@ pub(crate) fn add_call(
     added
 }
 
-impl Lanes {
-    /// Appends a call to those of an existing lane, and records it in the journal, in any state of the session.
-    ///
-    /// # Errors
-    ///
-    /// `OutOfMemory` if an allocation fails; nothing has changed then.
-    pub fn push_call(&mut self, alloc: Global, lane: u32, call: Call) -> Result<(), OutOfMemory>
-        requires there { lane < length self.old.calls }
-        requires intact { IsIntact (length self.old.calls) self.old }
-        ensures adds { OnOk result (contents_of self.new ≡ added_in (contents_of self.old) lane call) }
-        ensures unchanged { OnErr result (contents_of self.new ≡ contents_of self.old) }
-        ensures intact { IsIntact (length self.old.calls) self.new }
-    {
-        let copy = call.try_copy(alloc)?;
-        self.journal.reserve(2)?;
-        self.calls.push_call(alloc, lane as usize, call)?;
-        add_entry(&mut self.journal, Entry::Added { lane, call: copy });
-        Ok(())
-    }
+/// Returns the lane with a number.
+fn lane_at(lanes: &[Lane], k: usize) -> Option<&Lane>
+    ensures { option_copied result ≡ slice_get lanes.now k }
+{
+    lanes.get(k)
+}
+
+/// Returns the state with a number.
+fn state_at(states: &[LaneState], k: usize) -> Option<&LaneState>
+    ensures { option_copied result ≡ slice_get states.now k }
+{
+    states.get(k)
+}
+
+/// Returns the call with a number.
+fn call_at(calls: &[Call], k: usize) -> Option<&Call>
+    ensures { option_copied result ≡ slice_get calls.now k }
+{
+    calls.get(k)
+}
+
+/// Returns the current call of a lane.
+pub(crate) fn current_call<'a>(
+    lanes: &'a [Lane],
+    states: &[LaneState],
+    lane: u32,
+) -> Option<&'a Call>
+    ensures { option_copied result ≡ call_in lanes.now states.now lane }
+{
+    let calls = lane_at(lanes, lane as usize)?;
+    let state = state_at(states, lane as usize)?;
+    call_at(calls.calls.as_slice(), state.ended() as usize)
 }

@@ -2,24 +2,13 @@
 //! records the events. Sends, takes, cancels and releases of lanes keep core and lanes as the journal says.
 #![tactic(auto)]
 
-mod asking;
 mod call;
 mod calls;
-mod cancelling;
-mod closing;
-mod forgetting;
-mod giving_up;
-mod grants;
-mod keeping;
+mod journal;
 mod lane;
 mod lanes;
 mod laws;
-mod letting;
-mod noting;
-mod reports;
-mod stepping;
-mod taking;
-mod ticket_drops;
+mod requests;
 mod tokens;
 mod weighed_lanes;
 

@@ -17,7 +17,7 @@ use std::marker::Model;
 
 /// A ticket, and the place of its request.
 ///
-/// Used in `crates/session_work/src/ticket_drops.rt`.
+/// Used in `crates/session_work/src/lane.rt`.
 pub struct Awaited {
     pub(crate) place: u64,
     pub(crate) ticket: Ticket,
@@ -33,7 +33,7 @@ impl Model for Awaited {
 
 /// A grant, and the place of its request.
 ///
-/// Used in `crates/session_work/src/grants.rt`.
+/// Used in `crates/session_work/src/lane.rt`.
 pub struct Granted {
     pub(crate) place: u64,
     pub(crate) grant: Grant,
@@ -67,7 +67,7 @@ pub(crate) fn grant_at(grants: &[Granted], place: u64) -> Option<usize>
 
 /// The tickets and grants of a lane.
 ///
-/// Used in `crates/session_work/src/asking.rt`.
+/// Used in `crates/session_work/src/requests.rt`.
 pub struct Tokens {
     pub(crate) tickets: Vec<Awaited>,
     pub(crate) grants: Vec<Granted>,

@@ -8,7 +8,7 @@ use Rattle.plan_runner.specs.Sound.{KeepsSite}
 use Rattle.session_work.specs.Tokens.{TellReplies}
 use Rattle.session_work.specs.Turning.{HasDeferred}
 use Rattle.session_work.proofs.Flushed.{deferred_len}
-use Rattle.session_work.proofs.giving_up.take_good.Given as goal
+use Rattle.session_work.proofs.lane.take_good.Given as goal
 
 -- what is left to flush leaves the same
 abbrev pub invariant-loop-place : goal.invariant-loop-place

@@ -4,7 +4,7 @@ use Rattle.sftp_model.specs.declared.outcome.Outcome.{Outcome}
 use Rattle.session_work.specs.Reports.{with_outcome}
 use Rattle.session_work.proofs.AddedLaws.{on_err, on_ok, set_back}
 use Rattle.session_work.proofs.ReportLaws.{put_back}
-use Rattle.session_work.proofs.reports.keep_outcome.Goals as goal
+use Rattle.session_work.proofs.journal.keep_outcome.Goals as goal
 
 pub returns-clause-kept : goal.returns-clause-kept
 returns-clause-kept c =

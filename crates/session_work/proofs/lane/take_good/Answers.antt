@@ -8,7 +8,7 @@ use Rattle.plan_runner.specs.declared.next.Running.TheVariants as running
 use Rattle.plan_runner.proofs.FlushLaws.{flush_ends, flush_passes, flush_stops}
 use Rattle.session_laws.specs.Lanes.{ticket_places}
 use Rattle.session_laws.proofs.PendLaws.{awaited_has}
-use Rattle.session_work.proofs.giving_up.take_good.Goals as goal
+use Rattle.session_work.proofs.lane.take_good.Goals as goal
 
 -- facts, where any do
 any_facts : Facts

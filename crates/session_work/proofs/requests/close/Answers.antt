@@ -8,7 +8,7 @@ use Rattle.session_laws.specs.Lanes.{Held, Ticketed, grant_places}
 use Rattle.session_laws.specs.Places.{is_in}
 use Rattle.session_work.proofs.AskLaws.{grant_is, last_gives}
 use Rattle.session_work.proofs.Polling.{get_there, grants_out, without_is}
-use Rattle.session_work.proofs.asking.close.Goals as goal
+use Rattle.session_work.proofs.requests.close.Goals as goal
 
 pub unreachable-requires : goal.unreachable-requires
 unreachable-requires c =

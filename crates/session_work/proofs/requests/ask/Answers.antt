@@ -1,7 +1,7 @@
 use Rattle.std.proofs.Common.{rules, ◌≡◌, ◌++◌, ◌∷◌, [], List}
 use Rattle.session_laws.specs.Lanes.{Ticketed}
 use Rattle.session_work.proofs.AskLaws.{no_close, submits}
-use Rattle.session_work.proofs.asking.ask.Goals as goal
+use Rattle.session_work.proofs.requests.ask.Goals as goal
 
 pub returns-clause-asked : goal.returns-clause-asked
 returns-clause-asked c =
