@@ -1,6 +1,6 @@
 use Rattle.sftp_model.specs.Pieces.{joined_pieces}
 use Rattle.sftp_file.proofs.BodyLens.{write_is_short}
-use Rattle.sftp_file.proofs.writing.write_request.Goals as goal
+use Rattle.sftp_file.proofs.writes.write_request.Goals as goal
 
 pub returns-clause-short : goal.returns-clause-short
 returns-clause-short c =

@@ -1,7 +1,7 @@
 use Rattle.std.proofs.Common.{rules, ◌≡◌, false, length, nat_lt}
 use Rattle.sftp_model.specs.OpenOptions.{flags_of}
 use Rattle.sftp_file.proofs.OpenLaws.{short_request}
-use Rattle.sftp_file.proofs.opening.open_request.Goals as goal
+use Rattle.sftp_file.proofs.opens.open_request.Goals as goal
 
 pub returns-clause-short : goal.returns-clause-short
 returns-clause-short c =

@@ -1,20 +1,20 @@
 //! `write_all`: writes all bytes part by part, each after a STATUS of OK to the one before.
-ghost use Rattle.std.specs.Prelude.{false, ◌≡◌, ◌≤◌, ◌<◌, ◌+◌, ◌^◌, [], ◌∷◌, List, ℕ, length, drop, refl, IfOk, OnErr};
+ghost use Rattle.std.specs.Prelude.{false, ◌≡◌, ◌≤◌, ◌<◌, ◌+◌, ◌^◌, [], length, drop, refl, IfOk, OnErr};
 ghost use Rattle.sftp_model.specs.Numbers.{MAX_TRANSFER_LEN};
 ghost use Rattle.sftp_model.specs.Pieces.{joined_pieces};
 ghost use Rattle.plan_model.specs.Moves.{Answers, handle_of};
 ghost use Rattle.plan_model.specs.TransferPlans.{part_len, write_all_next};
-ghost use Rattle.sftp_model.specs.Frames.{is_too_long};
-ghost use Rattle.plan_state.specs.Asked.{IsReady, request_of};
-ghost use Rattle.plan_state.specs.declared.asking.Asking.TheVariants as asking;
+ghost use Rattle.plan_state.specs.Asked.{IsReady};
 ghost use Rattle.sftp_file.specs.Files.{StartsOnFile, file_at, one_slot};
-ghost use Rattle.sftp_file.specs.Writes.{IsBehind, IsNext, IsPart, WriteAllValue, behind_part, first_part, rest_behind, rest_of, writes_wait, writing_all};
+ghost use Rattle.sftp_file.specs.Writes.{IsBehind, IsNext, IsPart, WriteAllValue, behind_part, first_part};
+ghost use Rattle.sftp_file.specs.Writes.{rest_behind, rest_of, writes_wait, writing_all};
 
 use crate::facts::facts;
 use crate::file::File;
 use crate::looks::may_write;
 use crate::on_file::OnFile;
 use crate::parts::{cut, one_piece, shared};
+use crate::writes::write_request;
 use bytes::Bytes;
 use plan_state::{Asking, PendingCall, PlanRunner, Then, Told};
 use sftp_core::Core;
@@ -105,20 +105,6 @@ fn next_write(
         return Ok(Part::Over(Err(Error::IOError(why))));
     }
     Ok(Part::Ask(write_request(handle, file.offset, parts), len))
-}
-
-/// Returns the WRITE of these parts at an offset.
-pub(crate) fn write_request(handle: &Handle, offset: u64, parts: Vec<Bytes>) -> Asking
-    requires { length (joined_pieces parts.items) ≤ MAX_TRANSFER_LEN }
-    ensures is { result ≡ asking.Parts handle.now offset parts.items }
-    ensures short { is_too_long (request_of result) ≡ false }
-{
-    let _short = handle.as_bytes();
-    Asking::Parts {
-        handle: handle.copied(),
-        offset,
-        parts: Items::new(parts),
-    }
 }
 
 impl WritingAll {

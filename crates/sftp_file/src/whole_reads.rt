@@ -3,7 +3,7 @@ ghost use Rattle.std.specs.Prelude.{false, ◌≡◌, ◌≤◌, ◌++◌, ℕ, 
 ghost use Rattle.bytes.specs.Filled.{Filled};
 ghost use Rattle.sftp_core.specs.Core.{Core as CoreValue};
 ghost use Rattle.plan_state.specs.declared.poll.Poll.{Poll as PollValue};
-ghost use Rattle.sftp_file.specs.declared.gathering.ReadAllError.{ReadAllError as ErrorWithBytes};
+ghost use Rattle.sftp_file.specs.declared.whole_reads.ReadAllError.{ReadAllError as ErrorWithBytes};
 ghost use Rattle.plan_model.specs.Moves.{Answers, handle_of};
 ghost use Rattle.plan_state.specs.Asked.{IsReady};
 ghost use Rattle.plan_state.specs.Calls.{CancelsAwaited, IsHeld};
@@ -14,7 +14,7 @@ ghost use Rattle.sftp_file.specs.Gathers.{bytes_out, first_read, after_data, gat
 use crate::facts::facts;
 use crate::file::File;
 use crate::looks::may_read;
-use crate::reading::read_request;
+use crate::reads::read_request;
 use bytes::BytesMut;
 use plan_state::{Asking, PendingCall, PlanRunner, Poll, Then, Told};
 use sftp_core::Core;

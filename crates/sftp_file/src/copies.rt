@@ -13,7 +13,7 @@ ghost use Rattle.sftp_file.specs.Copies.{CopiesBetween, CopyStarts, CopyValue, M
 use crate::facts::facts;
 use crate::file::File;
 use crate::looks::{offers, overflows};
-use crate::settling::settled;
+use crate::short_calls::settled;
 use plan_state::{Asking, PendingCall, PlanRunner, Poll, Then, Told};
 use sftp_core::Core;
 use sftp_model::numbers::SSH_FX_OK;

@@ -1,26 +1,28 @@
 //! `write`: writes the first bytes, up to the limit of one WRITE.
-ghost use Rattle.std.specs.Prelude.{◌≡◌, ℕ, ◌≤◌, refl, length, IfOk};
+ghost use Rattle.std.specs.Prelude.{◌≡◌, ℕ, ◌≤◌, refl, length, IfOk, false};
 ghost use Rattle.sftp_model.specs.Numbers.{MAX_TRANSFER_LEN};
 ghost use Rattle.sftp_model.specs.Pieces.{joined_pieces};
 ghost use Rattle.plan_model.specs.TransferPlans.{write_next};
 ghost use Rattle.sftp_core.specs.Core.{queued_parts};
-ghost use Rattle.plan_state.specs.Asked.{IsReady};
+ghost use Rattle.plan_state.specs.Asked.{IsReady, request_of};
 ghost use Rattle.plan_state.specs.declared.stage.Stage.TheVariants as stage;
 ghost use Rattle.sftp_file.specs.Files.{StartsOnFile, facts_of, file_at};
 ghost use Rattle.sftp_file.specs.Parts.{cut_at};
 ghost use Rattle.sftp_file.specs.Writes.{WriteValue, WritesParts, write_waits, write_meaning};
+ghost use Rattle.sftp_model.specs.Frames.{is_too_long};
+ghost use Rattle.plan_state.specs.declared.asking.Asking.TheVariants as asking;
 
 use crate::facts::facts;
 use crate::file::File;
 use crate::looks::may_write;
 use crate::on_file::OnFile;
 use crate::parts::{cut, one_piece};
-use crate::writing::write_request;
 use bytes::Bytes;
-use plan_state::{PendingCall, PlanRunner, Then, Told};
+use plan_state::{Asking, PendingCall, PlanRunner, Then, Told};
 use sftp_core::Core;
 use sftp_model::numbers::SSH_FX_OK;
-use sftp_model::{Error, FileAt, Reply};
+use sftp_model::{Error, FileAt, Handle, Reply};
+use sftp_values::Items;
 use ssh_encoding::OutOfMemory;
 use std::marker::Model;
 
@@ -202,5 +204,19 @@ impl File {
                 len: len as u32,
             },
         )
+    }
+}
+
+/// Returns the WRITE of these parts at an offset.
+pub(crate) fn write_request(handle: &Handle, offset: u64, parts: Vec<Bytes>) -> Asking
+    requires { length (joined_pieces parts.items) ≤ MAX_TRANSFER_LEN }
+    ensures is { result ≡ asking.Parts handle.now offset parts.items }
+    ensures short { is_too_long (request_of result) ≡ false }
+{
+    let _short = handle.as_bytes();
+    Asking::Parts {
+        handle: handle.copied(),
+        offset,
+        parts: Items::new(parts),
     }
 }

@@ -5,7 +5,7 @@ use Rattle.plan_state.specs.declared.asking.Asking.{Asking}
 use Rattle.plan_state.specs.Told.{reply_of}
 use Rattle.sftp_file.specs.Gathers.{IsNextRead, after_data, next_read}
 use Rattle.sftp_file.proofs.GatherLaws.{MovesAs, gathers_behind, gathers_refused}
-use Rattle.sftp_file.proofs.gathering.GatheringPlanRunner.on.Goals as goal
+use Rattle.sftp_file.proofs.whole_reads.GatheringPlanRunner.on.Goals as goal
 
 pub returns-in-Ok-Some-clause-follows : goal.returns-in-Ok-Some-clause-follows
 returns-in-Ok-Some-clause-follows c = λ w answers knows came.

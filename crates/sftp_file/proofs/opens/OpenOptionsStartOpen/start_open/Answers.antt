@@ -2,7 +2,7 @@ use Rattle.std.proofs.Common.{rules, ◌≡◌, ◌∙◌, true, false, sym, len
 use Rattle.sftp_model.specs.OpenOptions.{flags_of}
 use Rattle.sftp_file.proofs.OptionLaws.{reads_by_flags, writes_by_flags}
 use Rattle.sftp_file.proofs.OpenLaws.{open_refused, open_starts}
-use Rattle.sftp_file.proofs.opening.OpenOptionsStartOpen.start_open.Goals as goal
+use Rattle.sftp_file.proofs.opens.OpenOptionsStartOpen.start_open.Goals as goal
 
 pub returns-then-path-gt-MAX_PATH_LEN : goal.returns-then-path-gt-MAX_PATH_LEN
 returns-then-path-gt-MAX_PATH_LEN c =
