@@ -21,7 +21,6 @@ ghost use Rattle.sftp_file.specs.Settles.{settle_meaning};
 use crate::facts::facts;
 use crate::looks::{offers, sought};
 use crate::short_calls::{AttrsCall, CloseCall, Settling, StatusCall, Telling, close_call};
-use bitflags::Flags;
 use plan_state::{Asking, PendingCall};
 use sftp_core::{Core, Ended, Grant};
 use sftp_meta::{MetaData, Permissions};

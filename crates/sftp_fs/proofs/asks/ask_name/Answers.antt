@@ -2,7 +2,7 @@ use Rattle.std.proofs.Common.{refl}
 use Rattle.plan_model.specs.PathPlans.{path_named}
 use Rattle.sftp_fs.specs.Names.{name_meaning}
 use Rattle.sftp_fs.proofs.PathLaws.{starts_from}
-use Rattle.sftp_fs.proofs.naming.ask_name.Goals as goal
+use Rattle.sftp_fs.proofs.asks.ask_name.Goals as goal
 
 pub returns : goal.returns
 returns c cwd plan is =
