@@ -1,7 +1,7 @@
 use Rattle.std.proofs.Common.{rules, ◌≡◌}
 use Rattle.sftp_core.specs.Core.{core_after_abandon}
 use Rattle.sftp_buffered.proofs.Abandoning.{drops_on}
-use Rattle.sftp_buffered.proofs.whole.abandon_all.Goals as goal
+use Rattle.sftp_buffered.proofs.file.abandon_all.Goals as goal
 
 pub loop-ticket-preserved : goal.loop-ticket-preserved
 loop-ticket-preserved c =
