@@ -17,7 +17,7 @@ use Rattle.plan_state.specs.declared.stage.Stage.TheVariants.{Ended, Ready, Unse
 use Rattle.plan_state.specs.Asked.{HoldsTicket}
 use Rattle.plan_state.specs.Calls.{CallValue, CancelsAwaited, IsHeld, IsHeldAt, IsUnderWay, KeepsOtherTickets, StartsByPlan, StepsByPlan, is_ended}
 use Rattle.plan_state.specs.Keeping.{KeepsHeld}
-use Rattle.sftp_file.specs.declared.telling.Telling.{Telling}
+use Rattle.sftp_file.specs.declared.short_calls.Telling.{Telling}
 use Rattle.sftp_file.specs.Files.{facts_of}
 use Rattle.sftp_file.specs.Tells.{attrs_meaning}
 use Rattle.sftp_fs.specs.PathStarts.{StartsFrom}

@@ -13,7 +13,7 @@ use Rattle.sftp_link.specs.Views.{LinkView}
 use Rattle.plan_state.specs.declared.poll.Poll.TheVariants.{Pending, Ready}
 use Rattle.plan_state.specs.Calls.{CallValue, CancelsAwaited, StepsByPlan}
 use Rattle.plan_state.specs.Keeping.{KeepsHeld}
-use Rattle.sftp_file.specs.declared.telling.Telling.{Telling}
+use Rattle.sftp_file.specs.declared.short_calls.Telling.{Telling}
 use Rattle.sftp_file.specs.Tells.{attrs_meaning}
 use Rattle.sftp_client.specs.Sessions.{FlushesQueue, SftpValue, TakesOrKept, with_core}
 use Rattle.sftp_client.specs.Waits.{SendsAndTakes}

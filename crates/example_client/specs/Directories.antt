@@ -5,7 +5,7 @@ use Rattle.sftp_core.specs.Core.{Core}
 use Rattle.sftp_core.specs.Grant.{GrantValue}
 use Rattle.sftp_link.specs.Views.{LinkView}
 use Rattle.plan_state.specs.Calls.{CallValue}
-use Rattle.sftp_file.specs.declared.settling.Settling.{Settling}
+use Rattle.sftp_file.specs.declared.short_calls.Settling.{Settling}
 use Rattle.sftp_file.specs.Settles.{settle_meaning}
 use Rattle.sftp_fs.specs.declared.directory.OpeningDir.{OpeningDir}
 use Rattle.sftp_fs.specs.Directories.{ClosesDir, OpensFrom, opening_dir}

@@ -6,8 +6,8 @@ use Rattle.sftp_core.specs.Core.{Core, IsGrant}
 use Rattle.sftp_core.specs.Info.{info_of}
 use Rattle.sftp_link.specs.Views.{LinkView}
 use Rattle.plan_state.specs.Calls.{CallValue}
-use Rattle.sftp_file.specs.declared.opening.Opening.{Opening}
-use Rattle.sftp_file.specs.declared.settling.Settling.{Settling}
+use Rattle.sftp_file.specs.declared.opens.Opening.{Opening}
+use Rattle.sftp_file.specs.declared.short_calls.Settling.{Settling}
 use Rattle.sftp_file.specs.Closes.{ReleasesFile}
 use Rattle.sftp_file.specs.Files.{FileValue, StartsOnFile}
 use Rattle.sftp_file.specs.Opens.{open_meaning}

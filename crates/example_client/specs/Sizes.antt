@@ -10,7 +10,7 @@ use Rattle.plan_state.specs.declared.stage.Stage.{Stage}
 use Rattle.plan_state.specs.declared.stage.Stage.TheVariants.{Asked}
 use Rattle.plan_state.specs.Asked.{HoldsTicket}
 use Rattle.plan_state.specs.Calls.{CallValue, IsNotOf, StepsByPlan}
-use Rattle.sftp_file.specs.declared.telling.Telling.{Telling}
+use Rattle.sftp_file.specs.declared.short_calls.Telling.{Telling}
 use Rattle.sftp_file.specs.Tells.{attrs_meaning}
 use Rattle.sftp_fs.specs.PathStarts.{StartsFrom}
 use Rattle.sftp_client.specs.Sessions.{SftpValue, with_core}

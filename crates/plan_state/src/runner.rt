@@ -12,7 +12,7 @@ use sftp_model::Error;
 
 /// The step of a runner after the reply that it awaited.
 ///
-/// Used in `crates/sftp_fs/src/granting.rt`.
+/// Used in `crates/sftp_fs/src/grants.rt`.
 pub enum Then<V> {
     /// The call returns this result.
     Done(Result<V, Error>),

@@ -37,7 +37,7 @@ use Rattle.plan_state.specs.declared.asking.Asking.{Asking}
 use Rattle.plan_state.specs.declared.poll.Poll.TheVariants as poll
 use Rattle.sftp_file.specs.Files.{facts_of, file_at}
 use Rattle.sftp_buffered.proofs.Holding.{parts_of}
-use Rattle.sftp_buffered.specs.declared.window.Window.{Window}
+use Rattle.sftp_buffered.specs.declared.writes.Window.{Window}
 use Rattle.sftp_buffered.specs.Buffered.{CompatValue, DefersWrites, IsSound, buffer_of, lane_of}
 use Rattle.sftp_buffered.specs.Polls.{PollsPlan, PlanWaits}
 use Rattle.sftp_buffered.specs.Steps.{

@@ -16,7 +16,7 @@ use Rattle.plan_state.specs.declared.poll.Poll.{Poll}
 use Rattle.plan_state.specs.declared.poll.Poll.TheVariants as poll
 use Rattle.sftp_file.specs.Files.{facts_of}
 use Rattle.sftp_file.specs.Parts.{cut_at}
-use Rattle.sftp_buffered.specs.declared.window.Window.{Window}
+use Rattle.sftp_buffered.specs.declared.writes.Window.{Window}
 use Rattle.sftp_buffered.specs.Buffered.{CompatValue, DefersWrites, IsSound, LeavesOthers, lane_of}
 use Rattle.sftp_buffered.specs.Polls.{PollsPlan, PlanWaits}
 use Rattle.sftp_buffered.specs.Steps.{

@@ -1,19 +1,12 @@
 //! A file of an SFTP server with a buffer for reads, and with writes whose statuses are taken later.
 #![tactic(auto)]
 
-mod buffer;
 mod file;
-mod fill;
-mod flush;
 mod laws;
 mod limits;
-mod oldest;
-mod read;
+mod reads;
 mod reply;
-mod seek;
-mod whole;
-mod window;
-mod write;
+mod writes;
 
 pub use file::{DEFAULT_BUFLEN, TokioCompatFile};
 pub use laws::{others_leave_it_sound, replies_can_be_told, tickets_stay_apart};

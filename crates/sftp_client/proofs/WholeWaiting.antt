@@ -17,7 +17,7 @@ use Rattle.plan_state.specs.Runners.{Meaning}
 use Rattle.sftp_file.specs.Copies.{CopyValue, StandsAt, copy_meaning}
 use Rattle.sftp_file.specs.Files.{FileValue, IsMoved}
 use Rattle.sftp_file.specs.Gathers.{GivesBytes, ReadAllValue, reading_all}
-use Rattle.sftp_file.specs.declared.gathering.ReadAllError.{ReadAllError}
+use Rattle.sftp_file.specs.declared.whole_reads.ReadAllError.{ReadAllError}
 use Rattle.sftp_fs_read.specs.WholeReads.{CancelsRead, FsReadValue, IsNoneOfRead, IsReadHeld, ReadAnswer, is_over}
 use Rattle.sftp_fs_read.proofs.FsReadLaws.{read_still}
 use Rattle.sftp_client.specs.Sessions.{SftpValue, with_core}

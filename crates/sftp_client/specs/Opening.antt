@@ -7,7 +7,7 @@ use Rattle.sftp_model.specs.declared.open_options.OpenOptions.{OpenOptions}
 use Rattle.sftp_model.specs.OpenOptions.{flags_of, nothing_chosen}
 use Rattle.plan_state.specs.Calls.{CallValue}
 use Rattle.sftp_file.specs.Opens.{OpenStarts}
-use Rattle.sftp_file.specs.declared.opening.Opening.{Opening}
+use Rattle.sftp_file.specs.declared.opens.Opening.{Opening}
 use Rattle.sftp_client.specs.Sessions.{SftpValue, with_core}
 
 -- The options to open a file for reading.

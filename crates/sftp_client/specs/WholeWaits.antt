@@ -30,7 +30,7 @@ use Rattle.plan_state.specs.declared.poll.Poll.TheVariants as poll
 use Rattle.sftp_file.specs.Copies.{CopyValue, StandsAt, copy_meaning}
 use Rattle.sftp_file.specs.Files.{FileValue, IsMoved, file_at, file_in}
 use Rattle.sftp_file.specs.Gathers.{GivesBytes, ReadAllValue, bytes_out, reading_all, without_bytes}
-use Rattle.sftp_file.specs.declared.gathering.ReadAllError.{ReadAllError}
+use Rattle.sftp_file.specs.declared.whole_reads.ReadAllError.{ReadAllError}
 use Rattle.sftp_fs_read.specs.WholeReads.{
   CancelsRead,
   FsReadValue,

@@ -22,7 +22,7 @@ use Rattle.plan_state.specs.declared.stage.Stage.{Stage}
 use Rattle.plan_state.specs.Calls.{CallValue, IsHeldAt, IsUnderWay}
 use Rattle.plan_state.specs.Runners.{GoesBehind}
 use Rattle.plan_state.proofs.Keeping.{holds_at}
-use Rattle.sftp_file.specs.declared.settling.Settling.{Settling}
+use Rattle.sftp_file.specs.declared.short_calls.Settling.{Settling}
 use Rattle.sftp_file.specs.Closes.{ReleasesFile, ClosesBy, stage_of_close}
 use Rattle.sftp_file.specs.Files.{FileValue, IsInSlot}
 use Rattle.sftp_file.specs.Settles.{settle_meaning}

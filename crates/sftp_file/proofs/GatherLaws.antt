@@ -19,7 +19,7 @@ use Rattle.plan_state.specs.declared.poll.Poll.{Poll}
 use Rattle.bytes.specs.Filled.{Filled}
 use Rattle.plan_state.specs.Runners.{GoesBehind}
 use Rattle.sftp_file.specs.Files.{IsHandleOfFile, FileValue, alone, file_at, one_slot}
-use Rattle.sftp_file.specs.declared.gathering.ReadAllError.{ReadAllError}
+use Rattle.sftp_file.specs.declared.whole_reads.ReadAllError.{ReadAllError}
 use Rattle.sftp_file.specs.Gathers.{IsNextRead, ReadAllValue, ReadsAll, first_read, after_data, missing_from, next_len, next_read, read_all_left, reading_all, with_buffer}
 
 -- the move of the plan where the runner stands

@@ -27,7 +27,7 @@ use Rattle.plan_state.specs.Runners.{GoesBehind}
 use Rattle.plan_state.proofs.Grants.{brought_handle, brought_number}
 use Rattle.plan_state.proofs.Keeping.{keeps_same}
 use Rattle.sftp_file.specs.Files.{IsHandleOfFile, FileValue}
-use Rattle.sftp_file.specs.declared.opening.Opening.{Opening}
+use Rattle.sftp_file.specs.declared.opens.Opening.{Opening}
 use Rattle.sftp_file.specs.Opens.{HasRights, OpenStarts, opened_at, open_meaning}
 use Rattle.sftp_file.proofs.BodyLens.{long_by_path}
 use Rattle.sftp_file.proofs.Starting.{StartsAny}

@@ -29,8 +29,8 @@ use Rattle.sftp_file.specs.Outcomes.{checked_move}
 use Rattle.sftp_file.specs.Reads.{read_meaning}
 use Rattle.sftp_file.specs.Settles.{settle_meaning}
 use Rattle.sftp_file.specs.Tells.{attrs_meaning}
-use Rattle.sftp_file.specs.declared.settling.Settling.{Settling}
-use Rattle.sftp_file.specs.declared.telling.Telling.{Telling}
+use Rattle.sftp_file.specs.declared.short_calls.Settling.{Settling}
+use Rattle.sftp_file.specs.declared.short_calls.Telling.{Telling}
 
 -- what `PendingCall::ask` ensures for every plan
 abbrev pub StartsAny : {W M V : Type 0} → Meaning W M V → Asking → M → Core → Core → Result (CallValue M) Error → Type 0

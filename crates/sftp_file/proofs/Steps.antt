@@ -30,7 +30,7 @@ use Rattle.plan_state.proofs.Keeping.{
 }
 use Rattle.sftp_file.specs.Files.{FileValue}
 use Rattle.sftp_file.specs.Opens.{open_meaning}
-use Rattle.sftp_file.specs.declared.opening.Opening.{Opening}
+use Rattle.sftp_file.specs.declared.opens.Opening.{Opening}
 use Rattle.sftp_file.proofs.Granting.{released_grant, retained_grant, retained_users}
 
 -- a call that asks once may be polled

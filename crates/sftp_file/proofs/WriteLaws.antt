@@ -25,8 +25,8 @@ use Rattle.plan_state.specs.Keeping.{KeepsHeld}
 use Rattle.plan_state.specs.Runners.{GoesBehind}
 use Rattle.sftp_file.specs.Files.{IsHandleOfFile, FileValue, StartsOnFile, alone, facts_of, file_at, one_slot}
 use Rattle.sftp_file.specs.Outcomes.{checked_move}
-use Rattle.sftp_file.specs.declared.writing.Part.{Part}
-use Rattle.sftp_file.specs.declared.writing.Part.TheVariants as part
+use Rattle.sftp_file.specs.declared.whole_writes.Part.{Part}
+use Rattle.sftp_file.specs.declared.whole_writes.Part.TheVariants as part
 use Rattle.sftp_file.specs.Writes.{IsPart, WriteAllValue, WriteValue, WritesParts, first_part, rest_of, write_meaning, writing_all}
 use Rattle.sftp_file.proofs.Starting.{StartsAny, starts_asking, starts_ready, starts_refused, starts_with}
 

@@ -13,7 +13,7 @@ use Rattle.plan_state.specs.declared.stage.Stage.{Stage}
 use Rattle.plan_state.specs.declared.stage.Stage.TheVariants.{Ready, Asked}
 use Rattle.plan_state.specs.Calls.{CallValue, IsLeftAt, IsUnderWay}
 use Rattle.plan_state.specs.Runners.{GoesBehind}
-use Rattle.sftp_file.specs.declared.settling.Settling.{Settling}
+use Rattle.sftp_file.specs.declared.short_calls.Settling.{Settling}
 use Rattle.sftp_file.specs.Files.{FileValue, IsInSlot}
 use Rattle.sftp_file.specs.Settles.{settle_meaning}
 

@@ -47,7 +47,7 @@ use Rattle.plan_state.specs.declared.asking.Asking.TheVariants.{Whole}
 use Rattle.plan_state.specs.declared.poll.Poll.{Poll}
 use Rattle.plan_state.specs.declared.poll.Poll.TheVariants as poll
 use Rattle.sftp_file.specs.Files.{FileValue, IsMoved, StartsOnFile, file_at, one_slot}
-use Rattle.sftp_file.specs.declared.gathering.ReadAllError.{ReadAllError}
+use Rattle.sftp_file.specs.declared.whole_reads.ReadAllError.{ReadAllError}
 
 -- The READ of the missing bytes: the file's handle, the file at the READ's offset, the session's facts, the place of
 -- the READ, the bytes that were passed in, those that came, how many are missing, and how many the READ asks for.

@@ -19,7 +19,7 @@ use Rattle.sftp_core.specs.Core.{Core}
 use Rattle.plan_state.specs.Calls.{CallValue, IsUnderWay, StartsByPlan}
 use Rattle.plan_state.specs.Keeping.{KeepsHeld}
 use Rattle.plan_state.specs.Runners.{Meaning}
-use Rattle.sftp_file.specs.declared.opening.Opening.{Opening}
+use Rattle.sftp_file.specs.declared.opens.Opening.{Opening}
 use Rattle.sftp_file.specs.Files.{FileValue}
 
 -- A file that was opened with these rights by the OPEN at this place.

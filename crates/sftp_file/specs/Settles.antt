@@ -6,7 +6,7 @@ use Rattle.sftp_model.specs.declared.slot.Move.TheVariants.{Done, Wait}
 use Rattle.sftp_model.specs.declared.slot.Site.{Site}
 use Rattle.plan_model.specs.Moves.{Answers, Own, done_by, once_answered}
 use Rattle.plan_state.specs.Runners.{Meaning}
-use Rattle.sftp_file.specs.declared.settling.Settling.{Settling}
+use Rattle.sftp_file.specs.declared.short_calls.Settling.{Settling}
 use Rattle.sftp_file.specs.Outcomes.{done_outcome}
 
 -- The meaning of such a call, in any lane: it changes nothing.

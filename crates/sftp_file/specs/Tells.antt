@@ -6,7 +6,7 @@ use Rattle.sftp_model.specs.declared.slot.Move.TheVariants.{Done, Wait}
 use Rattle.sftp_model.specs.declared.slot.Site.{Site}
 use Rattle.plan_model.specs.Moves.{Answers, Own, once_answered, told_by}
 use Rattle.plan_state.specs.Runners.{Meaning}
-use Rattle.sftp_file.specs.declared.telling.Telling.{Telling}
+use Rattle.sftp_file.specs.declared.short_calls.Telling.{Telling}
 use Rattle.sftp_file.specs.Outcomes.{attrs_outcome}
 
 -- The meaning of such a call, in any lane: it changes nothing.

@@ -20,8 +20,8 @@ use Rattle.plan_state.specs.Runners.{IsOwn, Meaning}
 use Rattle.plan_state.specs.declared.asking.Asking.{Asking}
 use Rattle.plan_state.specs.declared.asking.Asking.TheVariants.{Parts}
 use Rattle.plan_state.specs.declared.stage.Stage.TheVariants.{Asked}
-use Rattle.sftp_file.specs.declared.writing.Part.{Part}
-use Rattle.sftp_file.specs.declared.writing.Part.TheVariants as part
+use Rattle.sftp_file.specs.declared.whole_writes.Part.{Part}
+use Rattle.sftp_file.specs.declared.whole_writes.Part.TheVariants as part
 use Rattle.sftp_file.specs.Files.{FileValue, StartsOnFile, facts_of, file_at, one_slot}
 use Rattle.sftp_file.specs.Outcomes.{count_outcome, done_outcome}
 use Rattle.sftp_file.specs.Parts.{cut_at}

@@ -1,22 +1,30 @@
-//! An open file, and the calls on it that send no request.
-ghost use Rattle.std.specs.Prelude.{◌≡◌, ◌+◌, ◌<◌, ◌^◌, ℕ, [], not, ◌==◌, IfErr, OnOk, OnErr, IsSome};
+//! An open file, the calls on it that send no request, and those on its attributes.
+ghost use Rattle.std.specs.Prelude.{◌≡◌, ◌+◌, ◌<◌, ◌^◌, ℕ, [], not, ◌==◌, IfErr, OnOk, OnErr, IsSome, false, Some};
 ghost use Rattle.sftp_model.specs.declared.slot.Facts.{Facts};
 ghost use Rattle.sftp_model.specs.declared.slot.Site.{Site};
 ghost use Rattle.sftp_model.specs.declared.slot.Slot.TheVariants as slots;
 ghost use Rattle.sftp_model.specs.Slots.{has_grant, slot_at, with_slot};
-ghost use Rattle.plan_model.specs.FilePlans.{close_next, seek_next};
+ghost use Rattle.plan_model.specs.FilePlans.{close_next, seek_next, meta_next, set_len_next, set_next, sync_next};
 ghost use Rattle.plan_model.specs.Moves.{Answers, handle_of};
 ghost use Rattle.sftp_core.specs.Core.{record_at, core_after_release, core_after_retain, users_of, IsGrant};
 ghost use Rattle.sftp_core.specs.Info.{info_of};
-ghost use Rattle.sftp_file.specs.Files.{alone, facts_of, file_at, file_in};
+ghost use Rattle.sftp_file.specs.Files.{alone, facts_of, file_at, file_in, StartsOnFile};
 ghost use Rattle.sftp_file.specs.Closes.{ReleasesFile};
 ghost use Rattle.sftp_file.specs.Outcomes.{seek_outcome};
+ghost use Rattle.sftp_model.specs.Frames.{is_too_long, no_attributes};
+ghost use Rattle.sftp_model.specs.declared.request.Request.TheVariants as request;
+ghost use Rattle.plan_state.specs.Asked.{IsReady, request_of};
+ghost use Rattle.plan_state.specs.declared.asking.Asking.TheVariants as asking;
+ghost use Rattle.sftp_file.specs.Tells.{attrs_meaning};
+ghost use Rattle.sftp_file.specs.Settles.{settle_meaning};
 
 use crate::facts::facts;
-use crate::looks::sought;
-use crate::settling::{CloseCall, close_call};
+use crate::looks::{offers, sought};
+use crate::short_calls::{AttrsCall, CloseCall, Settling, StatusCall, Telling, close_call};
+use plan_state::{Asking, PendingCall};
 use sftp_core::{Core, Ended, Grant};
-use sftp_model::{Error, FileAt};
+use sftp_meta::{MetaData, Permissions};
+use sftp_model::{Error, Extensions, FileAt, FileAttrs, IoKind, Request};
 use std::io::SeekFrom;
 use std::marker::Model;
 
@@ -158,6 +166,152 @@ impl File {
             }
             Err(why) => Err(Error::IOError(why)),
         }
+    }
+
+    /// Asks for the attributes of the file (draft-ietf-secsh-filexfer-02, section 6.8).
+    ///
+    /// # Errors
+    ///
+    /// Checked in this order: `IOError(NotReadable)`; `BackgroundTaskFailure` if the core has recorded a fault.
+    /// `OutOfMemory` may come in place of any result. After an error nothing was submitted, and core and file are
+    /// unchanged.
+    pub fn start_metadata(&mut self, core: &mut Core) -> Result<AttrsCall, Error>
+        requires { IsReady core.old }
+        ensures starts { StartsOnFile attrs_meaning (alone self.old) (meta_next 0) self.old core.old core.new result }
+        ensures left { self.new ≡ self.old }
+    {
+        if !self.is_readable() {
+            return Err(Error::IOError(IoKind::NotReadable));
+        }
+        PendingCall::ask(core, self.fstat_request(), Telling {})
+    }
+
+    /// Returns the FSTAT of the file. It fits a frame, since a handle has at most 256 bytes.
+    fn fstat_request(&self) -> Asking
+        ensures is { result ≡ asking.Whole (request.Fstat self.now.grant.handle) }
+        ensures short { is_too_long (request_of result) ≡ false }
+    {
+        let handle = self.grant().handle();
+        let _short = handle.as_bytes();
+        Asking::Whole(Request::Fstat {
+            handle: handle.copied(),
+        })
+    }
+
+    /// Sets the attributes of the file to those that the metadata has (draft-ietf-secsh-filexfer-02, section 6.9).
+    ///
+    /// # Errors
+    ///
+    /// Checked in this order: `IOError(NotWritable)`; `BackgroundTaskFailure` if the core has recorded a fault.
+    /// `OutOfMemory` may come in place of any result. After an error nothing was submitted, and core and file are
+    /// unchanged.
+    pub fn start_set_metadata(
+        &mut self,
+        core: &mut Core,
+        metadata: MetaData,
+    ) -> Result<StatusCall, Error>
+        requires { IsReady core.old }
+        ensures starts { StartsOnFile settle_meaning (alone self.old) (set_next 0 metadata) self.old core.old core.new result }
+        ensures left { self.new ≡ self.old }
+    {
+        if !self.is_writable() {
+            return Err(Error::IOError(IoKind::NotWritable));
+        }
+        PendingCall::ask(
+            core,
+            self.fsetstat_request(metadata.into_inner()),
+            Settling {},
+        )
+    }
+
+    /// Sets the length of the file, in bytes, as `start_set_metadata` does.
+    ///
+    /// # Errors
+    ///
+    /// Those of `start_set_metadata`.
+    pub fn start_set_len(&mut self, core: &mut Core, size: u64) -> Result<StatusCall, Error>
+        requires { IsReady core.old }
+        ensures starts { StartsOnFile settle_meaning (alone self.old) (set_len_next 0 size) self.old core.old core.new result }
+        ensures left { self.new ≡ self.old }
+    {
+        let attrs = FileAttrs {
+            size: Some(size),
+            id: None,
+            permissions: None,
+            time: None,
+        };
+        self.start_set_metadata(core, MetaData::new(attrs))
+    }
+
+    /// Sets the permissions of the file, as `start_set_metadata` does.
+    ///
+    /// # Errors
+    ///
+    /// Those of `start_set_metadata`.
+    pub fn start_set_permissions(
+        &mut self,
+        core: &mut Core,
+        perm: Permissions,
+    ) -> Result<StatusCall, Error>
+        requires { IsReady core.old }
+        ensures starts { StartsOnFile settle_meaning (alone self.old)
+            (set_next 0 (record no_attributes { permissions = Some perm }))
+            self.old core.old core.new result }
+        ensures left { self.new ≡ self.old }
+    {
+        let attrs = FileAttrs {
+            size: None,
+            id: None,
+            permissions: Some(perm.as_raw().bits()),
+            time: None,
+        };
+        self.start_set_metadata(core, MetaData::new(attrs))
+    }
+
+    /// Asks the server to write the file's data to its disk (`fsync@openssh.com`, OpenSSH's PROTOCOL, section 4.6).
+    ///
+    /// # Errors
+    ///
+    /// Checked in this order: `UnsupportedExtension`; `IOError(NotWritable)`; `BackgroundTaskFailure` if the core has
+    /// recorded a fault. `OutOfMemory` may come in place of any result. After an error nothing was submitted, and core
+    /// and file are unchanged.
+    pub fn start_sync_all(&mut self, core: &mut Core) -> Result<StatusCall, Error>
+        requires { IsReady core.old }
+        ensures starts { StartsOnFile settle_meaning (alone self.old) (sync_next 0) self.old core.old core.new result }
+        ensures left { self.new ≡ self.old }
+    {
+        if !offers(&facts(core), Extensions::FSYNC) {
+            return Err(Error::UnsupportedExtension(Extensions::FSYNC));
+        }
+        if !self.is_writable() {
+            return Err(Error::IOError(IoKind::NotWritable));
+        }
+        PendingCall::ask(core, self.fsync_request(), Settling {})
+    }
+
+    /// Returns the FSETSTAT of these attributes. It fits a frame, since a handle has at most 256 bytes.
+    fn fsetstat_request(&self, attrs: FileAttrs) -> Asking
+        ensures is { result ≡ asking.Whole (request.Fsetstat self.now.grant.handle attrs) }
+        ensures short { is_too_long (request_of result) ≡ false }
+    {
+        let handle = self.grant().handle();
+        let _short = handle.as_bytes();
+        Asking::Whole(Request::Fsetstat {
+            handle: handle.copied(),
+            attrs,
+        })
+    }
+
+    /// Returns the request for a sync. It fits a frame, since a handle has at most 256 bytes.
+    fn fsync_request(&self) -> Asking
+        ensures is { result ≡ asking.Whole (request.Fsync self.now.grant.handle) }
+        ensures short { is_too_long (request_of result) ≡ false }
+    {
+        let handle = self.grant().handle();
+        let _short = handle.as_bytes();
+        Asking::Whole(Request::Fsync {
+            handle: handle.copied(),
+        })
     }
 
     /// Returns the same file for another user, at the same offset. It is closed once its last user has closed it.

@@ -7,7 +7,7 @@ ghost use Rattle.plan_state.specs.declared.poll.Poll.TheVariants as poll;
 ghost use Rattle.plan_state.specs.declared.stage.Stage.TheVariants as stage;
 ghost use Rattle.sftp_file.specs.Files.{IsHandleOfFile, FileValue};
 ghost use Rattle.sftp_file.specs.Opens.{open_meaning};
-ghost use Rattle.sftp_file.specs.declared.opening.Opening.{Opening};
+ghost use Rattle.sftp_file.specs.declared.opens.Opening.{Opening};
 
 /// The file that the poll of an open returns has the number of the open's ticket, and the handle of the HANDLE that
 /// answered it. So a later call of the same lane, with that reply at place 0, finds the file brought.

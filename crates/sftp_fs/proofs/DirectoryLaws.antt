@@ -16,7 +16,7 @@ use Rattle.plan_state.proofs.Keeping.{holds_at}
 use Rattle.sftp_file.specs.Closes.{stage_of_close}
 use Rattle.sftp_file.specs.Files.{facts_of}
 use Rattle.sftp_file.specs.Settles.{settle_meaning}
-use Rattle.sftp_file.specs.declared.settling.Settling.{Settling}
+use Rattle.sftp_file.specs.declared.short_calls.Settling.{Settling}
 use Rattle.sftp_fs.specs.Directories.{ClosesBy, ClosesDir, OpensFrom, close_dir_next, open_dir_next, opening_dir}
 use Rattle.sftp_fs.specs.PathStarts.{AsksFirst}
 use Rattle.sftp_fs.specs.declared.directory.OpeningDir.{OpeningDir}

@@ -102,7 +102,7 @@ use Rattle.sftp_fs.specs.WholeWrites.{
 }
 use Rattle.sftp_fs.specs.declared.fs_write.Writing.{Writing}
 use Rattle.sftp_fs.specs.declared.fs_write.Writing.TheVariants as writing
-use Rattle.sftp_fs.specs.declared.granting.Granting.{Granting}
+use Rattle.sftp_fs.specs.declared.grants.Granting.{Granting}
 use Rattle.sftp_fs.proofs.CallSteps.{ended_leaves}
 use Rattle.sftp_fs.proofs.WriteSteps.{closes_last, closes_only, spares_unchanged}
 

@@ -19,7 +19,7 @@ use Rattle.sftp_fs.specs.Grants.{grant_meaning}
 use Rattle.sftp_fs.specs.PathStarts.{AsksFirst, FirstAsks}
 use Rattle.sftp_fs.specs.WholeWrites.{WriteStarted, WritesFrom, writes_content}
 use Rattle.sftp_fs.specs.declared.fs_write.Writing.TheVariants as writing
-use Rattle.sftp_fs.specs.declared.granting.Granting.{Granting}
+use Rattle.sftp_fs.specs.declared.grants.Granting.{Granting}
 
 -- the OPEN is the first request of the plan
 opens_first : (path content cwd named : List ℕ) (m : Granting) (old : Core) (site : Site) (answers : Answers) → named

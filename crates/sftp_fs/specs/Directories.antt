@@ -39,7 +39,7 @@ use Rattle.plan_state.specs.Runners.{GoesBehind, Meaning}
 use Rattle.sftp_file.specs.Closes.{stage_of_close}
 use Rattle.sftp_file.specs.Files.{facts_of}
 use Rattle.sftp_file.specs.Settles.{settle_meaning}
-use Rattle.sftp_file.specs.declared.settling.Settling.{Settling}
+use Rattle.sftp_file.specs.declared.short_calls.Settling.{Settling}
 use Rattle.sftp_fs.specs.declared.directory.OpeningDir.{OpeningDir}
 
 -- ---- Opens

@@ -6,7 +6,7 @@ use Rattle.plan_model.specs.Moves.{Answers, Own}
 use Rattle.sftp_core.specs.Grant.{GrantValue}
 use Rattle.plan_state.specs.Runners.{Meaning}
 use Rattle.sftp_fs.specs.Directories.{WithHandle, granted_ended, granted_left}
-use Rattle.sftp_fs.specs.declared.granting.Granting.{Granting}
+use Rattle.sftp_fs.specs.declared.grants.Granting.{Granting}
 
 -- The meaning of such an OPEN, in any lane and for any use of the handle. The call returns the grant that came.
 abbrev pub grant_meaning : Meaning WithHandle Granting GrantValue

@@ -9,7 +9,7 @@ use Rattle.sftp_model.specs.declared.slot.Site.{Site}
 use Rattle.plan_model.specs.Moves.{Answers, Own, once_answered}
 use Rattle.plan_model.specs.PathPlans.{named_by}
 use Rattle.plan_state.specs.Runners.{Meaning}
-use Rattle.sftp_fs.specs.declared.naming.Naming.{Naming}
+use Rattle.sftp_fs.specs.declared.path_call.Naming.{Naming}
 
 -- The outcome of a call that returns a path.
 abbrev pub path_outcome : Result (List ℕ) Error → Outcome

@@ -6,7 +6,7 @@ ghost use Rattle.sftp_model.specs.Numbers.{MAX_TRANSFER_LEN};
 ghost use Rattle.plan_model.specs.GoodMoves.{FitsFacts};
 ghost use Rattle.sftp_model.specs.Frames.{is_too_long};
 ghost use Rattle.plan_model.specs.Moves.{offers};
-ghost use Rattle.plan_model.specs.PathPlans.{path_done, path_told};
+ghost use Rattle.plan_model.specs.PathPlans.{path_done, path_told, path_named};
 ghost use Rattle.sftp_core.specs.Core.{is_call};
 ghost use Rattle.sftp_core.specs.Info.{info_of};
 ghost use Rattle.plan_state.specs.Asked.{IsReady};
@@ -14,7 +14,9 @@ ghost use Rattle.sftp_file.specs.Files.{facts_of};
 ghost use Rattle.sftp_file.specs.Settles.{settle_meaning};
 ghost use Rattle.sftp_file.specs.Tells.{attrs_meaning};
 ghost use Rattle.sftp_fs.specs.PathStarts.{AsksFirst, IsPathPlan, MayAskFirst, PathPlan, StartsFrom};
+ghost use Rattle.sftp_fs.specs.Names.{name_meaning};
 
+use crate::path_call::{Naming, PathCall};
 use bitflags::Flags;
 use plan_state::{Asking, PendingCall, PlanRunner};
 use sftp_core::Core;
@@ -101,4 +103,15 @@ pub(crate) fn ask_attrs(core: &mut Core, request: Request) -> Result<AttrsCall, 
         → StartsFrom attrs_meaning plan cwd core.old core.new result }
 {
     ask(core, request, Telling {})
+}
+
+/// Submits a request whose NAME ends the call.
+pub(crate) fn ask_name(core: &mut Core, request: Request) -> Result<PathCall, Error>
+    requires ready { IsReady core.old }
+    requires call { is_call request ≡ true }
+    requires expects { expected.FirstName ≡ expected_of request }
+    ensures { (cwd : List ℕ) (plan : PathPlan) → IsPathPlan path_named request cwd (facts_of core.old) plan
+        → StartsFrom name_meaning plan cwd core.old core.new result }
+{
+    ask(core, request, Naming {})
 }

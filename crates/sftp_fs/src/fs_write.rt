@@ -16,7 +16,7 @@ ghost use Rattle.sftp_fs.specs.declared.fs_write.Writing.TheVariants as writing;
 
 use crate::asks::{ask, facts};
 use crate::fs::Fs;
-use crate::granting::Granting;
+use crate::grants::Granting;
 use crate::parts::WritingParts;
 use bitflags::Flags;
 use bytes::Bytes;

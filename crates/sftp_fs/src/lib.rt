@@ -2,19 +2,16 @@
 #![tactic(auto)]
 
 mod asks;
-mod attributes;
 mod dir_entry;
 mod directory;
 mod directory_builder;
 mod fs;
 mod fs_write;
-mod granting;
+mod grants;
 mod laws;
-mod linking;
-mod naming;
 mod parts;
+mod path_call;
 mod read_dir;
-mod removing;
 
 pub use asks::{ask, facts};
 pub use dir_entry::DirEntry;
@@ -22,8 +19,8 @@ pub use directory::{Dir, DirCall, OpeningDir};
 pub use directory_builder::DirBuilder;
 pub use fs::Fs;
 pub use fs_write::{FsWriteCall, close};
-pub use granting::Granting;
+pub use grants::Granting;
 pub use laws::listings_are_planned;
-pub use naming::{Naming, PathCall};
 pub use parts::WritingParts;
+pub use path_call::{Naming, PathCall};
 pub use read_dir::ReadDir;

@@ -68,7 +68,7 @@ use Rattle.plan_state.proofs.Sparing.{cancelled_spares, spares_also, spares_as, 
 use Rattle.sftp_fs.specs.Directories.{WithHandle, granted_left}
 use Rattle.sftp_fs.specs.Grants.{grant_meaning}
 use Rattle.sftp_fs.specs.WholeWrites.{IsOwned, core_after_close}
-use Rattle.sftp_fs.specs.declared.granting.Granting.{Granting}
+use Rattle.sftp_fs.specs.declared.grants.Granting.{Granting}
 use Rattle.sftp_fs.proofs.CallSteps.{ended_leaves}
 use Rattle.sftp_fs.proofs.WriteSteps.{closes_last}
 use Rattle.sftp_fs.proofs.WriteOpens.{granted_goes, granted_same, left_later, left_now, still}

@@ -50,7 +50,7 @@ use Rattle.sftp_fs.specs.Directories.{WithHandle, granted_left}
 use Rattle.sftp_fs.specs.Grants.{grant_meaning}
 use Rattle.sftp_fs.specs.WholeWrites.{closed_if}
 use Rattle.sftp_fs.specs.PathStarts.{AsksFirst, FirstAsks}
-use Rattle.sftp_fs.specs.declared.granting.Granting.{Granting}
+use Rattle.sftp_fs.specs.declared.grants.Granting.{Granting}
 use Rattle.sftp_fs.proofs.CallSteps.{ended_leaves}
 use Rattle.sftp_fs.proofs.WriteOpens.{granted_goes, granted_same, left_later, left_now, still}
 use Rattle.sftp_fs_read.specs.Reads.{ReadsValue, no_reads}

@@ -216,7 +216,7 @@ impl Download {
         }
         match self.ask_rest(core) {
             Ok(()) => self.ask_more(core),
-            Err(e) => Err(e),
+            Err(e) => Err(e), // not `?`, whose exit would speak of a converted error
         }
     }
 

@@ -9,7 +9,7 @@ use Rattle.plan_model.specs.Moves.{Answers, Plan}
 use Rattle.plan_state.specs.Calls.{CallValue, IsHeld, is_ended}
 use Rattle.sftp_file.specs.Files.{FileValue}
 use Rattle.sftp_file.specs.Gathers.{ReadAllValue, reading_all, with_buffer}
-use Rattle.sftp_file.specs.declared.gathering.ReadAllError.{ReadAllError}
+use Rattle.sftp_file.specs.declared.whole_reads.ReadAllError.{ReadAllError}
 use Rattle.sftp_file.proofs.GatherLaws.{held_with}
 use Rattle.sftp_fs.specs.WholeWrites.{WriteOpens, is_over as write_over}
 use Rattle.sftp_fs.specs.declared.fs_write.Writing.{Writing}

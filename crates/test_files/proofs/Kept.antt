@@ -17,7 +17,7 @@ use Rattle.plan_state.specs.declared.poll.Poll.{Poll}
 use Rattle.sftp_file.specs.Copies.{CopyValue, copy_meaning}
 use Rattle.sftp_file.specs.Files.{FileValue, file_at}
 use Rattle.sftp_file.specs.Gathers.{ReadAllValue, ReadsAll, reading_all}
-use Rattle.sftp_file.specs.declared.gathering.ReadAllError.{ReadAllError}
+use Rattle.sftp_file.specs.declared.whole_reads.ReadAllError.{ReadAllError}
 use Rattle.sftp_file.proofs.GatherLaws.{reads_held}
 use Rattle.sftp_file.specs.Writes.{WriteAllValue, writing_all}
 use Rattle.sftp_fs.specs.WholeWrites.{IsWriteHeld}

@@ -10,8 +10,8 @@ use Rattle.plan_state.specs.declared.asking.Asking.TheVariants.{Whole}
 use Rattle.plan_state.specs.declared.stage.Stage.{Stage}
 use Rattle.plan_state.specs.declared.stage.Stage.TheVariants.{Asked}
 use Rattle.plan_state.proofs.Keeping.{submitted_holds}
-use Rattle.sftp_file.specs.declared.settling.Settling.{Settling}
-use Rattle.sftp_file.specs.declared.telling.Telling.{Telling}
+use Rattle.sftp_file.specs.declared.short_calls.Settling.{Settling}
+use Rattle.sftp_file.specs.declared.short_calls.Telling.{Telling}
 use Rattle.sftp_file.specs.Settles.{settle_meaning}
 use Rattle.sftp_file.specs.Tells.{attrs_meaning}
 

@@ -33,7 +33,7 @@ use Rattle.sftp_link.specs.Views.{LinkView}
 use Rattle.plan_state.specs.Calls.{CallValue}
 use Rattle.plan_state.specs.declared.poll.Poll.TheVariants.{Pending, Ready}
 use Rattle.sftp_file.specs.Settles.{settle_meaning}
-use Rattle.sftp_file.specs.declared.settling.Settling.{Settling}
+use Rattle.sftp_file.specs.declared.short_calls.Settling.{Settling}
 use Rattle.sftp_fs.specs.Directories.{ClosesDir, OpensFrom, opening_dir}
 use Rattle.sftp_client.specs.Sessions.{SftpValue, with_core}
 use Rattle.sftp_fs.specs.Listings.{ListingAnswer, IsListing, ListingValue, PollsEntries, fresh_listing, given_up}

@@ -1,7 +1,7 @@
 use Rattle.std.proofs.Common.{List, subst}
 use Rattle.sftp_core.specs.Core.{Core}
 use Rattle.plan_state.specs.Calls.{CallValue, CancelsAwaited}
-use Rattle.sftp_file.specs.declared.telling.Telling.{Telling}
+use Rattle.sftp_file.specs.declared.short_calls.Telling.{Telling}
 use Rattle.example_client.specs.Sizes.{AreCallsAwaited}
 use Rattle.example_client.proofs.Asking.{awaited_less}
 use Rattle.example_client.proofs.sizes.give_up.Goals as goal

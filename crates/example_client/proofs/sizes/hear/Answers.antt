@@ -3,7 +3,7 @@ use Rattle.std.specs.Prelude.{Option}
 use Rattle.sftp_core.specs.Core.{Core}
 use Rattle.plan_state.specs.declared.poll.Poll.TheVariants.{Pending, Ready}
 use Rattle.plan_state.specs.Calls.{CallValue, CancelsAwaited, StepsByPlan}
-use Rattle.sftp_file.specs.declared.telling.Telling.{Telling}
+use Rattle.sftp_file.specs.declared.short_calls.Telling.{Telling}
 use Rattle.sftp_file.specs.Tells.{attrs_meaning}
 use Rattle.sftp_client.specs.Sessions.{with_core}
 use Rattle.example_client.specs.Sizes.{AreCallsAwaited, GoesBySteps, sizes_progress_of}
