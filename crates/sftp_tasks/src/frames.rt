@@ -127,6 +127,7 @@ impl Locked {
         ensures hands { HandingHello self.old self.new result }
         ensures no_fault { OnOk result (HasNoFault self.old.session) }
     {
+        // No `?`: it converts the error, and `hands` is by cases on the result.
         match self.session.phase() {
             Phase::Fresh => self.hand_out(),
             _ => match self.check() {
@@ -148,6 +149,7 @@ impl Locked {
         ensures no_fault { OnOk result (HasNoFault self.old.session) }
         ensures rises { self.old.counts.taken ≤ self.new.counts.taken }
     {
+        // No `?`: it converts the error, and `takes` is by cases on the result.
         match self.check() {
             Ok(()) => {}
             Err(e) => return Err(e),

@@ -132,6 +132,7 @@ impl Locked {
         ensures idles { DoesNothing nothing self.now.session result }
         ensures no_fault { OnOk result (HasNoFault self.now.session) }
     {
+        // No `?`: it converts the error, and `idles` is by cases on the result.
         match self.check() {
             Ok(()) => Ok(nothing),
             Err(e) => Err(e),
@@ -155,6 +156,7 @@ impl Locked {
         ensures no_fault { OnOk result (HasNoFault self.now.session) }
         ensures refused { IfErr result (λ e. RefusesCall e self.now.session self.now.session) }
     {
+        // No `?`: it converts the error, and `refused` is about the error itself.
         match self.check() {
             Ok(()) => Ok(self.counts.stage),
             Err(e) => Err(e),
@@ -173,6 +175,7 @@ impl Locked {
         ensures no_fault { OnOk result (HasNoFault self.old.session) }
         ensures refused { IfErr result (λ e. RefusesCall e self.old.session self.old.session × (self.new ≡ self.old)) }
     {
+        // No `?`: it converts the error, and `refused` is about the error itself.
         match self.check() {
             Ok(()) => {}
             Err(e) => return Err(e),
@@ -319,6 +322,7 @@ impl Locked {
         ensures no_fault { OnOk result (HasNoFault self.old.session) }
         ensures refused { IfErr result (λ e. RefusesToAdd e self.old.session self.new.session) }
     {
+        // No `?`: it converts the error, and `refused` is about the error itself.
         match self.may_add(lane, &call) {
             Ok(true) => {}
             Ok(false) => return Ok(false),
@@ -340,6 +344,7 @@ impl Locked {
         ensures submits { SubmitsCall lane call self.old.session self.new.session result }
         ensures no_fault { OnOk result (HasNoFault self.old.session) }
     {
+        // No `?`: it converts the error, and `submits` is by cases on the result.
         match self.push_call(lane, call) {
             Ok(true) => {}
             Ok(false) => return Ok(false),
@@ -357,6 +362,7 @@ impl Locked {
         ensures no_fault { OnOk result (HasNoFault self.now.session) }
         ensures refused { IfErr result (λ e. RefusesCall e self.now.session self.now.session) }
     {
+        // No `?`: it converts the error, and `refused` is about the error itself.
         match self.check() {
             Ok(()) => {}
             Err(e) => return Err(e),
@@ -380,6 +386,7 @@ impl Locked {
         ensures no_fault { OnOk result (HasNoFault self.old.session) }
         ensures refused { IfErr result (λ e. RefusesCall e self.old.session self.new.session) }
     {
+        // No `?`: it converts the error, and `refused` is about the error itself.
         match self.ended_calls(lane) {
             Ok(None) => {}
             Ok(Some(calls)) => return Ok(Polled::Ended(calls)),

@@ -86,6 +86,7 @@ pub(crate) fn send_hello<O: LinkOut, R: Wait>(
 {
     // The hello is no entry of the journal, so no receipt is missing.
     let (did, _) = seat.apply(rt, shared.alloc, &shared.shared, HandHello);
+    // No `?`: it converts the error, and `stops` is about the error itself.
     let Handed { chunk, frames } = match did {
         Ok(Some(handed)) => handed,
         Ok(None) => return Ok(false),

@@ -151,6 +151,7 @@ impl SharedSftp {
         ensures releases { ReleasesSeat seat.old.lane seat.old.receipts.items seat.new.receipts.items result seat.old.inner.me seat.new.inner.me }
     {
         let (did, copied) = seat.apply(rt, self.alloc, &self.shared, Release);
+        // No `?`: it converts the error, and `releases` is by cases on the result.
         match settle(did, copied) {
             Ok(true) => {}
             Ok(false) => return Ok(false),
@@ -195,6 +196,7 @@ impl SharedSftp {
         ensures stops { IfErr result (λ e. GreetStops e seat.old.inner.me seat.new.inner.me
             (O.LinkState.state out.old) (O.LinkState.state out.new) (I.LinkState.state input.old) (I.LinkState.state input.new)) }
     {
+        // No `?`: it converts the error, and `stops` is about the error itself.
         match send_hello(rt, self, seat, out) {
             Ok(true) => {}
             Ok(false) => return Ok(false),
@@ -222,6 +224,7 @@ impl SharedSftp {
     {
         for _ in rt.forever() {
             let seen = self.shared.changes(rt);
+            // No `?`: it converts the error, and `polls` is by cases on the result.
             let polled = match self.poll(rt, seat) {
                 Ok(polled) => polled,
                 Err(e) => return Err(e),
@@ -277,6 +280,7 @@ pub(crate) fn settle<T: Drop>(
 ) -> Result<T, Error>
     ensures { result ≡ with_receipt did copied }
 {
+    // No `?`: it converts the error, and the clause is an equation of the whole result.
     match did {
         Ok(did) => match copied {
             Ok(()) => Ok(did),
