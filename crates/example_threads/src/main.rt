@@ -29,6 +29,7 @@ const USAGE: &str = "example_threads unix SOCKET\n\
 /// - `sheet` runs eight lanes over replies that are laid out.
 /// - `runs COUNT` runs eight lanes this many times over the server in memory.
 fn main(rt: HostRuntime) -> ExitCode {
+    // No `?`: `main` returns an exit status.
     let done = match words_of(&rt) {
         Ok(words) => match words.as_slice() {
             [word] if word.as_str() == "--help" => rt

@@ -78,6 +78,7 @@ impl<L: Link> BufferedLink<L> {
         requires going { self.old.ended ≡ false }
         ensures { ReadsOver L.LinkState.state room.new self.old self.new result }
     {
+        // No `?`: it converts the error, and the clause is by cases on the result.
         match self.ahead.receive(self.alloc, &mut self.link, room) {
             Ok(n) => {
                 self.ended = n == 0;
@@ -114,6 +115,7 @@ impl<L: Link> LinkOut for BufferedLink<L> {
             }
             return Ok(bytes.len());
         }
+        // No `?`: it converts the error, and `did` is by cases on the result.
         match self.behind.pass(&mut self.link) {
             Ok(()) => self.link.send(bytes),
             Err(e) => Err(e),
@@ -138,6 +140,7 @@ impl<L: Link> LinkIn for BufferedLink<L> {
         if self.ahead.len() > 0 {
             return Ok(self.ahead.give(room));
         }
+        // No `?`: it converts the error, and `did` is by cases on the result.
         match self.behind.pass(&mut self.link) {
             Ok(()) => self.read_on(room),
             Err(e) => Err(e),

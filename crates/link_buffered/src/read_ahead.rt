@@ -71,6 +71,7 @@ impl ReadAhead {
         }
         self.given = 0;
         self.came = 0;
+        // No `?`: it converts the error, and the clause is by cases on the result.
         match link.recv(self.room.as_mut_slice()) {
             Ok(n) => {
                 self.came = n;
@@ -96,6 +97,7 @@ impl ReadAhead {
         if room.len() >= MAX_AHEAD {
             return link.recv(room);
         }
+        // No `?`: it converts the error, and the clause is by cases on the result.
         match self.fill(alloc, link) {
             Ok(_) => Ok(self.give(room)),
             Err(e) => Err(e),

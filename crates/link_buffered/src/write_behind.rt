@@ -55,6 +55,7 @@ impl WriteBehind {
         requires { (L.LinkState.state link.old).faults < 2 ^ 64 - 1 }
         ensures { PassesAll self.old self.new (L.LinkState.state link.old) (L.LinkState.state link.new) result }
     {
+        // No `?`: it converts the error, and the clause is by cases on the result.
         match pass_from(link, &self.bytes, &mut self.passed) {
             Ok(()) => {
                 self.bytes.clear();
@@ -74,6 +75,7 @@ fn pass_from<L: LinkOut>(link: &mut L, bytes: &[u8], passed: &mut usize) -> Resu
     ensures within { passed.new ≤ length bytes.now }
 {
     while *passed < bytes.len() {
+        // No `?`: it converts the error, and `passes` is by cases on the result.
         match link.send(&bytes[*passed..]) {
             Ok(n) => *passed += n,
             Err(e) => return Err(e),

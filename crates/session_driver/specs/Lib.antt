@@ -1,5 +1,5 @@
 pub mod Session
-pub mod NoLanes
+pub mod Bare
 pub mod Refusals
 pub mod Logs
 pub mod Ongoing

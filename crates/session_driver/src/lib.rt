@@ -3,7 +3,6 @@
 
 mod calls;
 mod driver;
-mod no_lanes;
 mod opening;
 mod runs;
 mod session;
@@ -11,7 +10,6 @@ mod turns;
 
 pub use calls::{AddsCalls, run_call};
 pub use driver::run_session;
-pub use no_lanes::NoLanes;
 pub use opening::open;
 pub use runs::{drain, let_go_lanes};
 pub use session::{Phase, RunsLanes, Stepped};

@@ -16,7 +16,7 @@ use ssh_encoding::OutOfMemory;
 
 /// The phase of a session's opening.
 ///
-/// Used in `crates/sftp_tasks/src/endings.rt`.
+/// Used in `crates/sftp_tasks/src/locked.rt`.
 #[derive(Clone, Copy, Debug, PartialEq, Eq)]
 pub enum Phase {
     /// The hello is in the queue.

@@ -154,6 +154,7 @@ fn finish_lane<R: Wait>(rt: &R, shared: &SharedSftp, seat: &mut Seat) -> Result<
     requires { IsReady shared.now.shared.table.shared.table_id seat.old }
     ensures { HasRun moves_none shared.now.shared.table.shared.table_id seat.old seat.new }
 {
+    // No `?`: each exit has an answer of its own, which is named by its arm.
     match shared.poll_wait(rt, seat) {
         Ok(_calls) => {}
         Err(e) => return Err(e),

@@ -17,7 +17,7 @@ use Rattle.session_model.specs.Readings.{count_submitted, count_ended, was_let_g
 use Rattle.session_driver.specs.Adding.{with_call}
 use Rattle.session_driver.specs.declared.session.Phase.{Phase}
 use Rattle.session_driver.specs.declared.session.Phase.TheVariants.{Fresh, Greeted, Asking, Queried, Failed, Open}
-use Rattle.session_driver.specs.NoLanes.{IsBare}
+use Rattle.session_driver.specs.Bare.{IsBare}
 use Rattle.session_driver.specs.Session.{IsFixed, IsLater}
 use Rattle.session_driver.proofs.Journals.{later_self, match_true}
 use Rattle.session_work.specs.declared.lanes.Lanes.{Lanes}

@@ -24,7 +24,7 @@ use Rattle.sftp_core.proofs.Elsewhere.{put_elsewhere, put_here}
 use Rattle.sftp_core.proofs.Sent.{get_sent}
 use Rattle.session_model.specs.declared.entry.Entry.{Entry}
 use Rattle.session_model.specs.Readings.{answer, still_open}
-use Rattle.session_driver.specs.NoLanes.{asked_core, asked_past}
+use Rattle.session_driver.specs.Bare.{asked_core, asked_past}
 use Rattle.session_driver.specs.Refusals.{refuses, refuses_reply, sent_at}
 use Rattle.sftp_lanes.proofs.OpeningSteps.{refuses_as}
 use Rattle.sftp_lanes.proofs.Plain.{told_as}

@@ -21,7 +21,7 @@ use Rattle.plan_model.specs.declared.call.Lane.{Lane}
 use Rattle.session_model.specs.declared.entry.Entry.{Entry}
 use Rattle.session_model.specs.Readings.{count_below}
 use Rattle.session_model.specs.Runs.{limits_query_sent}
-use Rattle.session_driver.specs.NoLanes.{asked_core, asked_past}
+use Rattle.session_driver.specs.Bare.{asked_core, asked_past}
 use Rattle.session_driver.specs.declared.session.Phase.{Phase}
 use Rattle.session_driver.specs.declared.session.Phase.TheVariants.{Fresh, Greeted, Asking, Queried, Open, Failed}
 use Rattle.session_work.specs.declared.lanes.Lanes.{Lanes}

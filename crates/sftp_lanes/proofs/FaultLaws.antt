@@ -12,7 +12,7 @@ use Rattle.session_model.specs.Calls.{Setting}
 use Rattle.session_model.specs.Readings.{count_submitted, was_kept}
 use Rattle.session_model.specs.Runs.{limits_query_sent}
 use Rattle.session_model.proofs.CallLaws.{may_next}
-use Rattle.session_driver.specs.NoLanes.{asked_past, offered_extensions}
+use Rattle.session_driver.specs.Bare.{asked_past, offered_extensions}
 use Rattle.session_driver.specs.declared.session.Phase.{Phase}
 use Rattle.session_driver.specs.declared.session.Phase.TheVariants.{Fresh, Greeted, Asking, Queried, Open, Failed}
 use Rattle.session_work.specs.declared.lanes.Lanes.{Lanes}

@@ -39,7 +39,7 @@ use Rattle.session_driver.specs.declared.session.Phase.{Phase}
 use Rattle.session_driver.specs.declared.session.Phase.TheVariants.{Asking, Failed, Fresh, Greeted, Open, Queried}
 use Rattle.session_driver.specs.Session.{IsFixed}
 use Rattle.session_driver.proofs.Bare.{idle_awaited, idle_unanswered, limits_in_core, takes_limits}
-use Rattle.session_driver.specs.NoLanes.{IsIdle as IsQuiet, IsOpen, asked_core, idle_core, offered_extensions}
+use Rattle.session_driver.specs.Bare.{IsIdle as IsQuiet, IsOpen, asked_core, idle_core, offered_extensions}
 use Rattle.session_laws.specs.Changes.{HasNoHistory, fresh_lane}
 use Rattle.session_laws.specs.Lanes.{CoreTied, LaneValue}
 use Rattle.session_laws.specs.Tables.{stand}

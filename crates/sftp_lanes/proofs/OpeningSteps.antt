@@ -16,7 +16,7 @@ use Rattle.session_model.specs.Calls.{Setting}
 use Rattle.session_model.specs.Journals.{IsFree, MayReply, MayTake}
 use Rattle.session_model.specs.Readings.{AskedRequest, count_submitted, count_sent, still_open, unsent_requests}
 use Rattle.session_model.specs.Runs.{limits_query_sent}
-use Rattle.session_driver.specs.NoLanes.{asked_past}
+use Rattle.session_driver.specs.Bare.{asked_past}
 use Rattle.session_driver.specs.Refusals.{refuses, refuses_reply, sent_at}
 use Rattle.session_driver.proofs.Bare.{GoesOn, may_take}
 use Rattle.sftp_lanes.specs.Seen.{AreIdleRuns, IsIdleRun, without_lanes}

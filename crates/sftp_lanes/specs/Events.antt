@@ -40,7 +40,7 @@ use Rattle.session_model.specs.Readings.{unsent_bytes}
 use Rattle.session_model.specs.Shown.{hello_frame}
 use Rattle.session_driver.specs.declared.session.Phase.{Phase}
 use Rattle.session_driver.specs.declared.session.Phase.TheVariants.{Fresh, Greeted, Asking, Queried, Open, Failed}
-use Rattle.session_driver.specs.NoLanes.{offered_extensions}
+use Rattle.session_driver.specs.Bare.{offered_extensions}
 use Rattle.session_driver.specs.Refusals.{refuses, refuses_hello}
 use Rattle.session_driver.specs.declared.session.Stepped.{Stepped}
 use Rattle.session_driver.specs.declared.session.Stepped.TheVariants as stepped

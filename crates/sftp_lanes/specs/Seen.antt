@@ -38,7 +38,7 @@ use Rattle.session_model.specs.Readings.{count_submitted, last_cancel, outcomes_
 use Rattle.session_model.specs.Settings.{facts_of}
 use Rattle.session_driver.specs.declared.session.Phase.{Phase}
 use Rattle.session_driver.specs.declared.session.Phase.TheVariants.{Fresh, Greeted, Asking, Queried, Open, Failed}
-use Rattle.session_driver.specs.NoLanes.{IsBare, offered_extensions}
+use Rattle.session_driver.specs.Bare.{IsBare, offered_extensions}
 use Rattle.session_laws.specs.Changes.{HasNoHistory}
 use Rattle.session_driver.specs.Session.{SessionInputs, IsFixed, IsFresh, SessionView}
 use Rattle.session_work.specs.declared.lanes.Lanes.{Lanes}

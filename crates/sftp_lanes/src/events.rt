@@ -146,6 +146,7 @@ impl Session {
         ensures left { OnErr result (HasFailed self.old self.new) }
         ensures some { OnErr result (takes_memory self.old.phase ≡ true) }
     {
+        // No `?`: these are tail calls, and at its exit `left` and `some` would be left to show.
         match self.phase {
             Phase::Fresh => match self.hand_hello() {
                 Ok(chunk) => Ok(Some(chunk)),
@@ -183,6 +184,7 @@ impl Session {
         ensures refused { IfErr result (λ e. IsFirst e (first_wrong self.old.phase (past_of self.old.work) (reply_at body.now))) }
         ensures kept { IfErr result (λ e. IsRefused e self.old self.new) }
     {
+        // No `?`: it converts the error, and `refused` and `kept` are about the error itself.
         match self.phase {
             Phase::Fresh => unreachable!(),
             Phase::Greeted => match self.take_hello(body) {

@@ -8,7 +8,7 @@ ghost use Rattle.session_model.specs.declared.entry.Entry.TheVariants as entry;
 ghost use Rattle.session_model.specs.declared.event.Event.TheVariants.{Submit};
 ghost use Rattle.session_model.specs.declared.event.Owner.TheVariants as owner;
 ghost use Rattle.sftp_model.specs.declared.request.Request.TheVariants as request;
-ghost use Rattle.session_driver.specs.NoLanes.{offered_extensions};
+ghost use Rattle.session_driver.specs.Bare.{offered_extensions};
 ghost use Rattle.sftp_lanes.specs.Seen.{facts_by};
 
 use bitflags::Flags;

@@ -66,6 +66,7 @@ fn take_frame<L: LinkIn>(
     let mut begun = false;
     while reader.need() > 0 {
         let wanted = reader.need().min(room.len());
+        // No `?`: it converts the error, and `took` is by cases on the result.
         match take_some(link, reader, &mut room[..wanted]) {
             Ok(true) => begun = true,
             Ok(false) => return Err(ended(begun)),
@@ -88,6 +89,7 @@ fn serve_frame<L: Link>(
     ensures served { ServedOne server.old server.new reader.new (L.LinkState.state link.old) (L.LinkState.state link.new) result }
     ensures room { length room.new ≡ length room.old }
 {
+    // No `?`: it converts the error, and `served` is by cases on the result.
     match take_frame(link, reader, room) {
         Ok(()) => {}
         Err(e) => return Err(e),

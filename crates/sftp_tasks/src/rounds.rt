@@ -74,6 +74,7 @@ pub fn flush_round<O: LinkOut, R: Wait>(
     ensures stops { IfErr result (λ e. FlushStops e seat.old.inner.me seat.new.inner.me (O.LinkState.state out.old) (O.LinkState.state out.new)) }
 {
     let (did, copied) = seat.apply(rt, shared.alloc, &shared.shared, HandOut);
+    // No `?`: it converts the error, and `stops` is about the error itself.
     let Handed { chunk, frames } = match did {
         Ok(Some(handed)) => handed,
         Ok(None) => return settle(Ok(false), copied),
@@ -111,6 +112,7 @@ pub fn read_round<I: LinkIn, R: Wait>(
     ensures stops { IfErr result (λ e. ReadStops e seat.old.inner.me seat.new.inner.me (I.LinkState.state input.old) (I.LinkState.state input.new)) }
 {
     let (may, looked) = seat.apply(rt, shared.alloc, &shared.shared, MayRead);
+    // No `?`: it converts the error, and `stops` is about the error itself.
     match may {
         Ok(true) => {}
         Ok(false) => return settle(Ok(false), looked),

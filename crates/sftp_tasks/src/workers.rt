@@ -78,6 +78,7 @@ fn flush_shift<O: LinkOut, R: Wait>(
     ensures only { AddsEntries (by_flush seat.old.lane) (claim_of seat.old.inner.me) (claim_of seat.new.inner.me) }
     ensures shift { FlushShift result (seat.old.inner.me, O.LinkState.state out.old) (seat.new.inner.me, O.LinkState.state out.new) }
 {
+    // No `?`: it converts the error, and `shift` is by cases on the result.
     match flush_round(rt, shared, seat, out) {
         Ok(true) => return Ok(Shift::Worked),
         Ok(false) => {}
@@ -103,6 +104,7 @@ fn read_shift<I: LinkIn, R: Wait>(
     ensures only { AddsEntries (by_read seat.old.lane) (claim_of seat.old.inner.me) (claim_of seat.new.inner.me) }
     ensures shift { ReadShift result (seat.old.inner.me, I.LinkState.state input.old) (seat.new.inner.me, I.LinkState.state input.new) }
 {
+    // No `?`: it converts the error, and `shift` is by cases on the result.
     match read_round(rt, shared, seat, input) {
         Ok(true) => return Ok(Shift::Worked),
         Ok(false) => {}
@@ -135,6 +137,7 @@ pub fn flush_worker<O: LinkOut, R: Wait + Clock>(
 {
     for _ in rt.forever() {
         let seen = shared.shared.changes(rt);
+        // No `?`: it converts the error, and `rounds` is by cases on the result.
         let shift = match flush_shift(rt, shared, seat, out) {
             Ok(shift) => shift,
             Err(e) => return Err(e),
@@ -169,6 +172,7 @@ pub fn read_worker<I: LinkIn, R: Wait>(
 {
     for _ in rt.forever() {
         let seen = shared.shared.changes(rt);
+        // No `?`: it converts the error, and `rounds` is by cases on the result.
         let shift = match read_shift(rt, shared, seat, input) {
             Ok(shift) => shift,
             Err(e) => return Err(e),
@@ -179,22 +183,4 @@ pub fn read_worker<I: LinkIn, R: Wait>(
         shared.rest(rt, shift, seen);
     }
     unreachable!()
-}
-
-impl SharedSftp {
-    /// Waits for a change after a shift without work.
-    fn rest<R: Wait>(&self, rt: &R, shift: Shift, seen: u64) {
-        if let Shift::Idle = shift {
-            self.shared.wait(rt, seen);
-        }
-    }
-
-    /// Waits for a change after a shift without work, at most for the flush interval, if there is one.
-    fn rest_briefly<R: Wait + Clock>(&self, rt: &R, shift: Shift, seen: u64) {
-        if self.flush_interval.is_zero() {
-            self.rest(rt, shift, seen);
-        } else if let Shift::Idle = shift {
-            self.shared.wait_for(rt, seen, self.flush_interval);
-        }
-    }
 }

@@ -1,6 +1,7 @@
 //! Tests of a session without lanes over scripted links. The bytes have the layout of draft-ietf-secsh-filexfer-02,
 //! sections 3, 4 and 7, and OpenSSH's PROTOCOL, section 4.8.
 
+use crate::no_lanes::NoLanes;
 use session_driver::*;
 use session_model::Turn;
 use sftp_link::{Scripted, ScriptedLink};

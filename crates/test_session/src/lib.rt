@@ -8,6 +8,8 @@ mod lanes;
 #[cfg(test)]
 mod map_server;
 #[cfg(test)]
+mod no_lanes;
+#[cfg(test)]
 mod script;
 #[cfg(test)]
 mod served;

@@ -2,7 +2,8 @@
 ghost use Rattle.std.specs.Prelude.{◌≡◌, [], IfOk};
 ghost use Rattle.sftp_map_server.specs.Unopened.{IsUnopened};
 
-use session_driver::{NoLanes, run_session};
+use crate::no_lanes::NoLanes;
+use session_driver::run_session;
 use session_model::Turn;
 use sftp_map_server::{MapServer, may_begin, new_server};
 use sftp_model::{Extensions, Limits, ServerConfig, SftpOptions};

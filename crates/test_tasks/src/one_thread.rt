@@ -81,6 +81,7 @@ pub(crate) fn exchange<R: Wait>(
     ensures own { (seat.new.inner.table_id ≡ seat.old.inner.table_id) × (seat.new.lane ≡ seat.old.lane) }
     ensures count { OnOk result (link.new.calls.faults ≡ 0) }
 {
+    // A match, and no `?`: for true `flushes` says what was counted, which `read_round` requires.
     match flush_round(rt, shared, seat, link) {
         Ok(true) => {}
         Ok(false) => return Ok(false),
@@ -173,19 +174,12 @@ fn settled<R: Wait + Clock>(
     requires share { 0 < (claim_of home.old.inner.me).share }
     requires count { (link.old.calls.faults ≡ 0) × (spare.old.calls.faults ≡ 0) }
 {
-    match shared.release(rt, home) {
-        Ok(true) => {}
-        Ok(false) => return Ok(false),
-        Err(e) => return Err(e),
+    if !shared.release(rt, home)? {
+        return Ok(false);
     }
-    match read_worker(rt, shared, home, link) {
-        Ok(()) => {}
-        Err(e) => return Err(e),
-    }
-    match flush_worker(rt, shared, home, spare) {
-        Ok(()) => Ok(true),
-        Err(e) => Err(e),
-    }
+    read_worker(rt, shared, home, link)?;
+    flush_worker(rt, shared, home, spare)?;
+    Ok(true)
 }
 
 /// Runs a lane from its first call to the end of the session. Returns how many calls ended, how many receipts its seat

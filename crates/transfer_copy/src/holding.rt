@@ -144,6 +144,7 @@ impl Holding {
         ensures ok { OnOk result (AsksFile core.old self.old request.now core.new self.new × KeepsApart self.old self.new core.old core.new) }
         ensures unchanged { OnErr result ((core.new ≡ core.old) × (self.new ≡ self.old)) }
     {
+        // No `?`: the answer is named by the arm `Ok`, and `unchanged` is about this one.
         match submit(core, request) {
             Ok(ticket) => {
                 self.file
@@ -241,6 +242,7 @@ impl Holding {
         if self.parts.reserve(1).is_err() {
             return Err(CopyError::OutOfMemory);
         }
+        // No `?`: the answer is named by the arm `Ok`, and `unchanged` is about this one.
         match submit(core, &request) {
             Ok(ticket) => {
                 self.parts.push_back_reserved(Part {
@@ -275,6 +277,7 @@ impl Holding {
         if self.parts.reserve(1).is_err() {
             return Err(CopyError::OutOfMemory);
         }
+        // No `?`: the answer is named by the arm `Ok`, and `unchanged` is about this one.
         match submit_write(core, grant.handle(), offset, bytes) {
             Ok(ticket) => {
                 self.parts.push_back_reserved(Part {
@@ -307,6 +310,7 @@ impl Holding {
         if self.parts.reserve(1).is_err() {
             return Err(CopyError::OutOfMemory);
         }
+        // No `?`: the answer is named by the arm `Ok`, and `unchanged` is about this one.
         match submit(core, &request) {
             Ok(ticket) => {
                 self.parts.push_back_reserved(Part {

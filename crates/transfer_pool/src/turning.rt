@@ -21,6 +21,7 @@ pub fn turn<L: Link>(sftp: &mut Sftp<L>) -> Result<(), Error>
     if let Some(fault) = sftp.core().fault() {
         return Err(Error::BackgroundTaskFailure(fault));
     }
+    // No `?`: it converts the error, and the clause is by cases on the result.
     match sftp.flush() {
         Ok(()) => match sftp.take() {
             Ok(_) => Ok(()),

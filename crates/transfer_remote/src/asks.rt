@@ -49,6 +49,7 @@ pub(crate) fn finish<L: Link, M: Alone>(
     requires under_way { IfOk started (IsUnderWay M.PlanRunner.meaning sftp.old.core) }
     ensures { FinishesCall L.LinkState.state M.PlanRunner.meaning started sftp.old sftp.new result }
 {
+    // No `?`: the clause is by cases on the result.
     match started {
         Ok(call) => await_call(sftp, call),
         Err(e) => Err(e.into()),

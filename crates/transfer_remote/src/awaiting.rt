@@ -13,6 +13,7 @@ use transfer_pool::turn;
 fn settled<V>(answer: Result<V, Error>) -> Result<V, RemoteError>
     ensures { IsSettled answer result }
 {
+    // No `?`: it converts the error, and the clause is by cases on the result.
     match answer {
         Ok(value) => Ok(value),
         Err(e) => Err(e.into()),
@@ -34,6 +35,7 @@ fn answer_of<L: Link, M: Alone>(
         if let Some(fault) = core.fault() {
             return Err(RemoteError::Remote(Error::BackgroundTaskFailure(fault)));
         }
+        // No `?`: it converts the error, and the clause is by cases on the result.
         match call.poll(core) {
             Poll::Ready(answer) => return settled(answer),
             Poll::Pending => match turn(sftp) {

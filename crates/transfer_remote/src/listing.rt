@@ -74,6 +74,7 @@ fn take_given(
 ) -> Result<bool, RemoteError>
     ensures { GrowsByGiven given walk.old walk.new result }
 {
+    // No `?`: it converts the error, and the clause is by cases on the result.
     match given {
         None => Ok(true),
         Some(Ok(entry)) => match add_entry(alloc, walk, &entry) {
@@ -97,6 +98,7 @@ fn list_step<L: Link>(
     ensures told { StepTold L.LinkState.state (record { session = sftp.old; listing = listing.old })
         (record { session = sftp.new; listing = listing.new }) walk.old walk.new result }
 {
+    // No `?`: it converts the error, and `told` is by cases on the result.
     match ready(sftp) {
         Ok(()) => {}
         Err(e) => return Err(e),
@@ -124,6 +126,7 @@ fn list_entries<L: Link>(
         (record { session = sftp.new; listing = listing.new }) walk.old walk.new result }
 {
     for _ in 0..u64::MAX {
+        // No `?`: it converts the error, and `told` is by cases on the result.
         match list_step(alloc, sftp, listing, walk) {
             Ok(true) => return Ok(()),
             Ok(false) => {}
@@ -139,6 +142,7 @@ fn open_folder<L: Link>(alloc: Global, sftp: &mut Sftp<L>, path: &[u8]) -> Resul
     ensures runs { RunsCall L.LinkState.state opening_dir (OpensFrom path.now []) sftp.old sftp.new result }
     ensures held { IfOk result (λ dir. IsGrant sftp.new.core dir) }
 {
+    // No `?`: it converts the error, and `runs` is by cases on the result.
     match ready(sftp) {
         Ok(()) => {
             let started = plain_paths(alloc).start_open_dir(alloc, sftp.core(), path);
@@ -165,6 +169,7 @@ fn list_closed<L: Link>(
     let listed = list_entries(alloc, sftp, &mut listing, walk);
     let closing = listing.start_close(sftp.core());
     let closed = await_call(sftp, closing);
+    // No `?`: it converts the error, and `told` is by cases on the result.
     match listed {
         Ok(()) => closed,
         Err(e) => Err(e),
@@ -188,6 +193,7 @@ pub fn list_remote<L: Link>(
     ensures told { FolderTold L.LinkState.state sftp.old sftp.new walk.old walk.new result }
 {
     let path = walk.folder().source.as_slice();
+    // No `?`: it converts the error, and `told` is by cases on the result.
     match open_folder(alloc, sftp, path) {
         Ok(dir) => list_closed(alloc, sftp, dir, walk),
         Err(e) => Err(e),

@@ -31,6 +31,7 @@ pub fn make_remote_folder<L: Link>(
     requires { IsGoing L.LinkState.state sftp.old }
     ensures { RunsCall L.LinkState.state settle_meaning (StartsFrom settle_meaning (mkdir_next path.now) []) sftp.old sftp.new result }
 {
+    // No `?`: it converts the error, and the clause is by cases on the result.
     match ready(sftp) {
         Ok(()) => {
             let started = plain_paths(alloc).start_create_dir(alloc, sftp.core(), path);
@@ -56,6 +57,7 @@ pub fn make_remote_link<L: Link>(
     requires { IsGoing L.LinkState.state sftp.old }
     ensures { RunsCall L.LinkState.state settle_meaning (StartsFrom settle_meaning (symlink_next names.now path.now) []) sftp.old sftp.new result }
 {
+    // No `?`: it converts the error, and the clause is by cases on the result.
     match ready(sftp) {
         Ok(()) => {
             let started = plain_paths(alloc).start_symlink(alloc, sftp.core(), names, path);
@@ -79,6 +81,7 @@ pub fn read_remote_link<L: Link>(
     requires { IsGoing L.LinkState.state sftp.old }
     ensures { RunsCall L.LinkState.state name_meaning (StartsFrom name_meaning (read_link_next path.now) []) sftp.old sftp.new result }
 {
+    // No `?`: it converts the error, and the clause is by cases on the result.
     match ready(sftp) {
         Ok(()) => {
             let started = plain_paths(alloc).start_read_link(alloc, sftp.core(), path);
@@ -103,6 +106,7 @@ pub fn remote_metadata<L: Link>(
     requires { IsGoing L.LinkState.state sftp.old }
     ensures { RunsCall L.LinkState.state attrs_meaning (StartsFrom attrs_meaning (stat_next path.now) []) sftp.old sftp.new result }
 {
+    // No `?`: it converts the error, and the clause is by cases on the result.
     match ready(sftp) {
         Ok(()) => {
             let started = plain_paths(alloc).start_metadata(alloc, sftp.core(), path);
@@ -127,6 +131,7 @@ pub fn set_remote_attrs<L: Link>(
     requires { IsGoing L.LinkState.state sftp.old }
     ensures { RunsCall L.LinkState.state settle_meaning (StartsFrom settle_meaning (set_attrs_next path.now attrs) []) sftp.old sftp.new result }
 {
+    // No `?`: it converts the error, and the clause is by cases on the result.
     match ready(sftp) {
         Ok(()) => {
             let metadata = MetaData::new(attrs);

@@ -14,7 +14,7 @@ use Rattle.sftp_model.specs.Frames.{frames_of}
 use Rattle.session_model.specs.Readings.{count_submitted}
 use Rattle.session_model.specs.Runs.{limits_query_sent}
 use Rattle.session_driver.specs.declared.session.Phase.TheVariants.{Asking, Queried}
-use Rattle.session_driver.specs.NoLanes.{offered_extensions}
+use Rattle.session_driver.specs.Bare.{offered_extensions}
 use Rattle.session_driver.specs.Session.{IsFixed, IsLater}
 use Rattle.session_driver.proofs.Journals.{later_self}
 use Rattle.session_work.specs.declared.lanes.Lanes.{Lanes}

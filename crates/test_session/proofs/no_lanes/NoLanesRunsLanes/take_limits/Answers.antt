@@ -10,9 +10,11 @@ use Rattle.session_model.specs.Journals.{MayTake}
 use Rattle.session_model.specs.Runs.{limits_query_sent}
 use Rattle.session_model.specs.Settings.{setting_of}
 use Rattle.session_driver.specs.declared.session.Phase.TheVariants.{Failed, Open}
-use Rattle.session_driver.specs.NoLanes.{offered_extensions, setting_in}
-use Rattle.session_driver.proofs.Bare.{bare_refused, queried_is, queried_first, came, may_take, opened_later}
-use Rattle.session_driver.proofs.no_lanes.NoLanesRunsLanes.take_limits.Goals as goal
+use Rattle.session_driver.specs.Bare.{offered_extensions}
+use Rattle.test_session.specs.NoLanes.{setting_in}
+use Rattle.session_driver.proofs.Bare.{queried_first, came, may_take}
+use Rattle.test_session.proofs.NoLanesLaws.{bare_refused, queried_is, opened_later}
+use Rattle.test_session.proofs.no_lanes.NoLanesRunsLanes.take_limits.Goals as goal
 
 pub invariant_of-self-in-Ok-Limits : goal.invariant_of-self-in-Ok-Limits
 invariant_of-self-in-Ok-Limits c =

@@ -1,6 +1,6 @@
 use Rattle.std.proofs.Common.{refl, inl}
-use Rattle.session_driver.proofs.Bare.{open_is, idle_first, takes_nothing}
-use Rattle.session_driver.proofs.no_lanes.NoLanesRunsLanes.take.Goals as goal
+use Rattle.test_session.proofs.NoLanesLaws.{open_is, idle_first, takes_nothing}
+use Rattle.test_session.proofs.no_lanes.NoLanesRunsLanes.take.Goals as goal
 
 pub unreachable-requires : goal.unreachable-requires
 unreachable-requires c =

@@ -1,5 +1,5 @@
 -- believed: offered_extensions
--- A session without lanes.
+-- A session before the first call of a lane.
 use Rattle.std.specs.Prelude.{◌≡◌, ◌⊎◌, true, false, List, [], ◌∷◌, Option, Some, None}
 use Rattle.sftp_model.specs.declared.options.SftpOptions.{SftpOptions}
 use Rattle.sftp_core.specs.declared.handshake.Handshake.TheVariants as core_phase
@@ -14,47 +14,16 @@ use Rattle.session_model.specs.declared.event.Owner.TheVariants as owner
 use Rattle.session_model.specs.declared.event.Event.TheVariants.{Submit, Take}
 use Rattle.session_model.specs.declared.entry.Entry.{Entry}
 use Rattle.session_model.specs.declared.entry.Entry.TheVariants as entry
-use Rattle.session_model.specs.Calls.{Setting}
-use Rattle.session_model.specs.Settings.{version_reply_of, setting_of}
+use Rattle.session_model.specs.Settings.{version_reply_of}
 use Rattle.sftp_model.specs.Lengths.{offers_limits}
-use Rattle.session_model.specs.Runs.{at_first, limits_query_sent}
+use Rattle.session_model.specs.Runs.{limits_query_sent}
 use Rattle.session_driver.specs.declared.session.Phase.{Phase}
 use Rattle.session_driver.specs.declared.session.Phase.TheVariants.{Fresh, Greeted, Asking, Queried, Open, Failed}
-use Rattle.session_driver.specs.Session.{SessionInputs, SessionView}
-
--- The view of a session without lanes.
-pub record SessionWithoutLanes : Type 0 where
-  pub options : SftpOptions
-  pub phase : Phase
-  pub version : Option Reply
-  pub past : List Entry
-
--- The session to which nothing has happened.
-abbrev pub fresh_session : SftpOptions → SessionWithoutLanes
-fresh_session options = record { options = options; phase = Fresh; version = None; past = [] }
-
-abbrev pub given_of : SessionWithoutLanes → SessionInputs
-given_of b = record { lanes = []; options = b.options }
 
 -- The extensions that VERSION offers.
 abbrev pub offered_extensions : Option Reply → Extensions
 offered_extensions (Some (reply.Version version extensions)) = extensions
 offered_extensions other = record { 0 = 0 }
-
-abbrev pub setting_in : SessionWithoutLanes → Setting
-setting_in b = setting_of [] b.options (offered_extensions b.version) b.past
-
--- The view that a caller has of the session.
-abbrev pub seen_in : SessionWithoutLanes → SessionView
-seen_in b = record {
-  given = given_of b;
-  setting = setting_in b;
-  phase = b.phase;
-  version = b.version;
-  progress =
-      at_first b.past;
-  work = 0;
-}
 
 -- The core with the query for limits in its queue.
 abbrev pub asked_core : SftpOptions → Extensions → Core

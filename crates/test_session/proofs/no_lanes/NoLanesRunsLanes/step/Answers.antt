@@ -1,6 +1,7 @@
 use Rattle.std.proofs.Common.{◌∙◌}
-use Rattle.session_driver.proofs.Bare.{open_is, idle_unanswered}
-use Rattle.session_driver.proofs.no_lanes.NoLanesRunsLanes.step.Goals as goal
+use Rattle.session_driver.proofs.Bare.{idle_unanswered}
+use Rattle.test_session.proofs.NoLanesLaws.{open_is}
+use Rattle.test_session.proofs.no_lanes.NoLanesRunsLanes.step.Goals as goal
 
 pub unreachable-requires : goal.unreachable-requires
 unreachable-requires c =

@@ -1,10 +1,11 @@
 //! Sessions without lanes.
 ghost use Rattle.std.specs.Prelude.{◌≡◌, ◌∷◌, [], IfOk, None, Some};
 ghost use Rattle.sftp_model.specs.Lengths.{offers_limits as offers};
-ghost use Rattle.session_driver.specs.NoLanes.{fresh_session, offered_extensions, asked_past};
+ghost use Rattle.session_driver.specs.Bare.{asked_past, offered_extensions};
+ghost use Rattle.test_session.specs.NoLanes.{fresh_session};
 
-use crate::session::{Phase, RunsLanes, Stepped};
 use bitflags::Flags;
+use session_driver::{Phase, RunsLanes, Stepped};
 use session_model::{Entry, Event, Owner};
 use sftp_core::{Chunk, Core, TakeError, Taken};
 use sftp_model::{Extensions, Reply, Request, SftpOptions, TryCopy};
@@ -28,7 +29,8 @@ pub struct NoLanes {
 
 impl Model for NoLanes {
     ghost use Rattle.std.specs.Prelude.{reverse};
-    ghost use Rattle.session_driver.specs.NoLanes.{SessionWithoutLanes, IsBare};
+    ghost use Rattle.session_driver.specs.Bare.{IsBare};
+    ghost use Rattle.test_session.specs.NoLanes.{SessionWithoutLanes};
 
     ghost Value = { SessionWithoutLanes };
 
@@ -79,7 +81,7 @@ fn query_entry() -> Entry
 }
 
 impl RunsLanes for NoLanes {
-    ghost use Rattle.session_driver.specs.NoLanes.{seen_in};
+    ghost use Rattle.test_session.specs.NoLanes.{seen_in};
 
     ghost seen = { λ s. seen_in s };
 

@@ -1,7 +1,8 @@
 use Rattle.std.proofs.Common.{◌∙◌, refl}
-use Rattle.session_driver.specs.NoLanes.{setting_in}
-use Rattle.session_driver.proofs.Bare.{open_is, idle_quiet, idle_unanswered}
-use Rattle.session_driver.proofs.no_lanes.NoLanesRunsLanes.is_done.Goals as goal
+use Rattle.test_session.specs.NoLanes.{setting_in}
+use Rattle.session_driver.proofs.Bare.{idle_unanswered}
+use Rattle.test_session.proofs.NoLanesLaws.{open_is, idle_quiet}
+use Rattle.test_session.proofs.no_lanes.NoLanesRunsLanes.is_done.Goals as goal
 
 pub returns : goal.returns
 returns c =

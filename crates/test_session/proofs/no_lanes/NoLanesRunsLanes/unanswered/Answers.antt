@@ -1,6 +1,7 @@
 use Rattle.std.proofs.Common.{◌∙◌}
-use Rattle.session_driver.proofs.Bare.{open_is, idle_quiet, idle_unanswered}
-use Rattle.session_driver.proofs.no_lanes.NoLanesRunsLanes.unanswered.Goals as goal
+use Rattle.session_driver.proofs.Bare.{idle_unanswered}
+use Rattle.test_session.proofs.NoLanesLaws.{open_is, idle_quiet}
+use Rattle.test_session.proofs.no_lanes.NoLanesRunsLanes.unanswered.Goals as goal
 
 pub returns : goal.returns
 returns c =
