@@ -24,6 +24,3 @@ pub use pipeline::Core;
 pub use sftp_model::{Fault, Limits};
 pub use ssh_encoding::OutOfMemory;
 pub use tokens::{Grant, Polled, Taken, Ticket};
-
-#[cfg(test)]
-mod tests;

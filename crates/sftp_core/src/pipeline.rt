@@ -23,8 +23,6 @@ use std::marker::Model;
 mod parts;
 mod queue;
 mod replies;
-#[cfg(test)]
-mod seats;
 mod tickets;
 
 /// The protocol of one session without its link: it numbers requests, queues their frames, and passes each reply to the
