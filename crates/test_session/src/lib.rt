@@ -12,6 +12,4 @@ mod script;
 #[cfg(test)]
 mod served;
 #[cfg(test)]
-mod shapes;
-#[cfg(test)]
 mod text;
