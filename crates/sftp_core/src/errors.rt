@@ -12,7 +12,7 @@ use thiserror::Error;
 
 /// The reason why a request was not submitted. The core is unchanged.
 ///
-/// Example: `crates/sftp_core/src/tests/seats.rt`.
+/// Used in `crates/plan_state/src/asking.rt`.
 #[derive(Clone, Copy, Debug, PartialEq, Eq, Error)]
 pub enum SubmitError {
     /// An allocation failed.

@@ -10,7 +10,7 @@ pub const MAX_IDS: u32 = 2_147_483_648;
 
 /// The facts that a session knows about its server once the greeting is over.
 ///
-/// Example: `crates/sftp_core/src/tests/calls.rt`.
+/// Used in `crates/sftp_lanes/src/session.rt`.
 #[derive(Clone, Copy, Debug, PartialEq, Eq)]
 pub struct Info {
     /// The extensions that the server offers.

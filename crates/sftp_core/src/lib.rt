@@ -22,6 +22,3 @@ pub use pipeline::{Core, Ended};
 pub use sftp_model::{Fault, Limits};
 pub use ssh_encoding::OutOfMemory;
 pub use tokens::{Grant, Polled, Taken, Ticket};
-
-#[cfg(test)]
-mod tests;

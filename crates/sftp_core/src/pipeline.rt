@@ -29,8 +29,6 @@ use std::marker::Model;
 use std::mem;
 
 mod replies;
-#[cfg(test)]
-mod seats;
 
 /// The protocol of one session without its link: it numbers requests, queues their frames, and passes each reply to the
 /// one request with its id (draft-ietf-secsh-filexfer-02, sections 3 to 7).

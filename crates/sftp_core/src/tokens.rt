@@ -40,7 +40,7 @@ impl Ticket {
 
 /// The name of one HANDLE reply, and one user of its handle. A contract sees it as the id and the handle.
 ///
-/// Example: `crates/sftp_core/src/tests/seats.rt`.
+/// Used in `crates/sftp_fs/src/granting.rt`.
 #[must_use]
 pub struct Grant {
     pub(crate) id: u32,
@@ -78,7 +78,7 @@ impl Grant {
 
 /// The result of a poll.
 ///
-/// Example: `crates/sftp_core/src/tests/seats.rt`.
+/// Used in `crates/plan_state/src/told.rt`.
 pub enum Polled {
     /// The reply, which was no HANDLE.
     Reply(Reply),

@@ -98,11 +98,9 @@ fn told(alloc: Global, body: &[u8]) -> Result<(bool, usize, Option<Fault>), Fail
     Ok((known, session.journal().len(), session.fault()))
 }
 
-/// Tests that the server is known once VERSION was taken, and that the first fault stays.
+/// Tests that a server of another version is not known, and that the first fault stays.
 #[test]
-fn sessions(rt: HostRuntime) -> Result<(), Fail> {
-    let known = told(rt.alloc(), b"\x02\x00\x00\x00\x03")?;
-    assert!(rt; known == (true, 1, Some(Fault::Link)));
+fn a_version_is_refused(rt: HostRuntime) -> Result<(), Fail> {
     let refused = told(rt.alloc(), b"\x02\x00\x00\x00\x04")?;
     assert!(rt; refused == (false, 1, Some(Fault::Protocol { version: 4 })));
     Ok(())
@@ -178,37 +176,9 @@ fn counts(session: &Session) -> (usize, usize, bool) {
     )
 }
 
-/// Returns which calls can be added to a session with one empty lane: to that lane, to the next one, with a slot that
-/// doesn't exist, and to the lane once it was released.
-fn additions(session: &mut Session) -> Result<[bool; 4], OutOfMemory> {
-    let here = session.can_add(0, &Call::Close { slot: 15 });
-    let next = session.can_add(1, &Call::Close { slot: 15 });
-    let outside = session.can_add(0, &Call::Close { slot: 16 });
-    let_go(session)?;
-    let gone = session.can_add(0, &Call::Close { slot: 15 });
-    Ok([here, next, outside, gone])
-}
-
-/// Tests that slots are below 16, that there is one lane, and that a lane that was released takes no call.
-#[test]
-fn a_session_tells_which_calls_can_be_added(rt: HostRuntime) -> Result<(), Fail> {
-    let mut session = with_lane(rt.alloc())?.ok_or("an empty lane may not run")?;
-    assert!(rt; additions(&mut session)? == [true, false, false, false]);
-    Ok(())
-}
-
-/// Tests that a call that is added before VERSION waits until the session is open. The journal has its entry, its end,
-/// and the release; the call has ended before it can be cancelled.
-#[test]
-fn a_call_is_added(rt: HostRuntime) -> Result<(), Fail> {
-    let path = ByteText::new(Vec::from_slice(rt.alloc(), b"a")?);
-    let session = with_lane(rt.alloc())?.ok_or("an empty lane may not run")?;
-    let session = run(session, path);
-    assert!(rt; counts(&session) == (3, 1, true));
-    Ok(())
-}
-
-/// Tests that a session is made on one thread, runs in another, and comes back.
+/// Tests that a session is made on one thread, runs in another, and comes back. A call that is added before VERSION waits
+/// until the session is open. The journal has its entry, its end, and the release; the call has ended before it can be
+/// cancelled.
 #[test]
 fn a_session_moves_between_threads(rt: HostRuntime) -> Result<(), Fail> {
     let path = ByteText::new(Vec::from_slice(rt.alloc(), b"a")?);

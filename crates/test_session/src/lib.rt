@@ -14,6 +14,4 @@ mod script;
 #[cfg(test)]
 mod served;
 #[cfg(test)]
-mod shapes;
-#[cfg(test)]
 mod text;

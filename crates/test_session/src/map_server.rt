@@ -3,7 +3,7 @@
 
 use sftp_link::{LinkIn, send_all};
 use sftp_map_server::{MapServer, may_begin};
-use sftp_model::{Choice, Extensions, Limits, ServerConfig};
+use sftp_model::{Choice, Extensions, ServerConfig};
 use sftp_values::{ByteText, Items};
 use std::alloc::Global;
 use std::test::Fail;
@@ -14,55 +14,28 @@ const PLAIN: ServerConfig = ServerConfig {
     cut: 0,
 };
 
-const LIMITED: ServerConfig = ServerConfig {
-    extensions: Extensions::FSYNC,
-    limits: Some(Limits {
-        packet_len: 1,
-        read_len: 2,
-        write_len: 3,
-        open_handles: 4,
-    }),
-    cut: 0,
-};
-
 const HELLO: &[u8] = b"\0\0\0\x05\x01\0\0\0\x03";
 
 const VERSION: &[u8] = b"\0\0\0\x05\x02\0\0\0\x03";
 
-/// VERSION 3 with `fsync@openssh.com` and `limits@openssh.com`, `1` each.
-const VERSION_WITH_LIMITS: &[u8] = b"\0\0\0\x3a\x02\0\0\0\x03\0\0\0\x11fsync@openssh.com\0\0\0\x011\
-\0\0\0\x12limits@openssh.com\0\0\0\x011";
-
-/// OPEN of `a` to read, under the ids 1 to 3.
+/// OPEN of `a` to read, under the ids 1 and 2.
 const OPEN_1: &[u8] = b"\0\0\0\x12\x03\0\0\0\x01\0\0\0\x01a\0\0\0\x01\0\0\0\0";
 
 const OPEN_2: &[u8] = b"\0\0\0\x12\x03\0\0\0\x02\0\0\0\x01a\0\0\0\x01\0\0\0\0";
 
-const OPEN_3: &[u8] = b"\0\0\0\x12\x03\0\0\0\x03\0\0\0\x01a\0\0\0\x01\0\0\0\0";
-
-/// HANDLE of the numbers 0 to 2, under the ids 1 to 3.
+/// HANDLE of the number 0, under the id 1.
 const HANDLE_1: &[u8] = b"\0\0\0\x0d\x66\0\0\0\x01\0\0\0\x04\0\0\0\0";
 
-const HANDLE_2: &[u8] = b"\0\0\0\x0d\x66\0\0\0\x02\0\0\0\x04\0\0\0\x01";
-
-const HANDLE_3: &[u8] = b"\0\0\0\x0d\x66\0\0\0\x03\0\0\0\x04\0\0\0\x02";
-
-/// READ of the handle 0 from its start, under the id 4: of 9 bytes, of 1048275, and of 1048276.
+/// READ of the handle 0 from its start, under the id 4: of 9 bytes, and of 1048276.
 const READ: &[u8] = b"\0\0\0\x19\x05\0\0\0\x04\0\0\0\x04\0\0\0\0\0\0\0\0\0\0\0\0\0\0\0\x09";
-
-const READ_MOST: &[u8] =
-    b"\0\0\0\x19\x05\0\0\0\x04\0\0\0\x04\0\0\0\0\0\0\0\0\0\0\0\0\0\x0f\xfe\xd3";
 
 const READ_TOO_MUCH: &[u8] =
     b"\0\0\0\x19\x05\0\0\0\x04\0\0\0\x04\0\0\0\0\0\0\0\0\0\0\0\0\0\x0f\xfe\xd4";
 
 const CONTENT: &[u8] = b"\0\0\0\x0e\x67\0\0\0\x04\0\0\0\x05hello";
 
-/// The query for limits, under the id 5, the answer to it, and STATUS 8 to it.
+/// The query for limits, under the id 5, and STATUS 8 to it.
 const QUERY: &[u8] = b"\0\0\0\x1b\xc8\0\0\0\x05\0\0\0\x12limits@openssh.com";
-
-const LIMITS: &[u8] = b"\0\0\0\x25\xc9\0\0\0\x05\0\0\0\0\0\0\0\x01\0\0\0\0\0\0\0\x02\
-\0\0\0\0\0\0\0\x03\0\0\0\0\0\0\0\x04";
 
 const NO_LIMITS: &[u8] = b"\0\0\0\x11\x65\0\0\0\x05\0\0\0\x08\0\0\0\0\0\0\0\0";
 
@@ -77,19 +50,14 @@ fn text(alloc: Global, bytes: &[u8]) -> Result<ByteText, Fail> {
 }
 
 /// Returns a server of the file `a` with the content `hello`.
-fn hello_server(
-    alloc: Global,
-    config: ServerConfig,
-    choices: &[Choice],
-    picks: &[u32],
-) -> Result<MapServer, Fail> {
+fn hello_server(alloc: Global, choices: &[Choice]) -> Result<MapServer, Fail> {
     let choices = Items::new(Vec::from_slice(alloc, choices)?);
-    let picks = Items::new(Vec::from_slice(alloc, picks)?);
+    let picks = Items::new(Vec::new(alloc));
     let files = [(text(alloc, b"a")?, text(alloc, b"hello")?)];
     if !may_begin(alloc, &files, &[])? {
         return Err(Fail::new("it may not begin"));
     }
-    Ok(MapServer::new(alloc, &files, config, choices, picks)?)
+    Ok(MapServer::new(alloc, &files, PLAIN, choices, picks)?)
 }
 
 fn takes(server: &mut MapServer, frames: &[&[u8]]) -> bool {
@@ -129,140 +97,6 @@ fn does(server: &mut MapServer, exchanges: &[Exchange]) -> bool {
     true
 }
 
-/// Returns true if a server of one file makes these exchanges.
-fn hello_server_does(
-    alloc: Global,
-    config: ServerConfig,
-    choices: &[Choice],
-    picks: &[u32],
-    exchanges: &[Exchange],
-) -> Result<bool, Fail> {
-    let mut server = hello_server(alloc, config, choices, picks)?;
-    Ok(does(&mut server, exchanges))
-}
-
-/// The end of the link: bytes that are sent then have no answer, and the replies that wait are still given.
-const ENDS: &[(&str, Exchange)] = &[
-    ("nothing yet", (&[], &[END, END])),
-    ("a hello", (&[HELLO], &[VERSION, END])),
-    ("a request before the hello", (&[OPEN_1, HELLO], &[END])),
-    ("a second hello", (&[HELLO, HELLO, OPEN_1], &[VERSION, END])),
-    (
-        "a length of 0",
-        (
-            &[HELLO, OPEN_1, b"\0\0\0\0", OPEN_2],
-            &[VERSION, HANDLE_1, END],
-        ),
-    ),
-    (
-        "a length of 1048576",
-        (
-            &[HELLO, OPEN_1, b"\0\x10\0\0", OPEN_2],
-            &[VERSION, HANDLE_1, END],
-        ),
-    ),
-    (
-        "the greatest length",
-        (&[HELLO, b"\xff\xff\xff\xff", OPEN_1], &[VERSION, END]),
-    ),
-    (
-        "a type that is none",
-        (
-            &[HELLO, b"\0\0\0\x05\x63\0\0\0\x01", OPEN_1],
-            &[VERSION, END],
-        ),
-    ),
-    (
-        "a byte behind the handle of a CLOSE",
-        (
-            &[
-                HELLO,
-                b"\0\0\0\x0e\x04\0\0\0\x01\0\0\0\x04\0\0\0\0\0",
-                OPEN_1,
-            ],
-            &[VERSION, END],
-        ),
-    ),
-    (
-        "a READ of more than a DATA can bring",
-        (
-            &[HELLO, OPEN_1, READ_MOST, READ_TOO_MUCH, OPEN_2],
-            &[VERSION, HANDLE_1, CONTENT, END],
-        ),
-    ),
-];
-
-#[test]
-fn the_link_ends(rt: HostRuntime) -> Result<(), Fail> {
-    for (title, exchange) in ENDS {
-        let same = hello_server_does(rt.alloc(), PLAIN, &[], &[], &[*exchange])?;
-        assert!(rt; same, "at {title}");
-    }
-    Ok(())
-}
-
-/// Picks, and the exchanges of a server that has limits to report.
-const PICKS: &[(&str, &[u32], &[Exchange])] = &[
-    (
-        "no pick: the order of the requests",
-        &[],
-        &[(
-            &[HELLO, OPEN_1, OPEN_2],
-            &[VERSION_WITH_LIMITS, HANDLE_1, HANDLE_2, END],
-        )],
-    ),
-    (
-        "VERSION uses none",
-        &[1],
-        &[(
-            &[HELLO, OPEN_1, OPEN_2],
-            &[VERSION_WITH_LIMITS, HANDLE_2, HANDLE_1, END],
-        )],
-    ),
-    (
-        "the limits use none, and come before what waits",
-        &[1],
-        &[
-            (&[HELLO], &[VERSION_WITH_LIMITS]),
-            (&[OPEN_1, OPEN_2, QUERY], &[LIMITS, HANDLE_2, HANDLE_1, END]),
-        ],
-    ),
-    (
-        "none is used where nothing waits",
-        &[1],
-        &[
-            (&[], &[END]),
-            (&[HELLO], &[VERSION_WITH_LIMITS, END, END]),
-            (&[OPEN_1, OPEN_2], &[HANDLE_2, HANDLE_1, END]),
-        ],
-    ),
-    (
-        "one is used where one reply waits",
-        &[0, 1],
-        &[
-            (&[HELLO, OPEN_1], &[VERSION_WITH_LIMITS, HANDLE_1]),
-            (&[OPEN_2, OPEN_3], &[HANDLE_3, HANDLE_2, END]),
-        ],
-    ),
-    (
-        "modulo the count of those that wait",
-        &[5, 1, 9],
-        &[(
-            &[HELLO, OPEN_1, OPEN_2, OPEN_3],
-            &[VERSION_WITH_LIMITS, HANDLE_3, HANDLE_2, HANDLE_1, END],
-        )],
-    ),
-];
-
-#[test]
-fn replies_come_as_picked(rt: HostRuntime) -> Result<(), Fail> {
-    for (title, picks, exchanges) in PICKS {
-        let same = hello_server_does(rt.alloc(), LIMITED, &[], picks, exchanges)?;
-        assert!(rt; same, "at {title}");
-    }
-    Ok(())
-}
-
 const NO_CHOICE: Choice = Choice { refuse: 0, cap: 0 };
 
 /// The second request is refused, and the next two get at most two bytes and one; the query takes no choice.
@@ -291,59 +125,8 @@ const CHOSEN: &[Exchange] = &[
 
 #[test]
 fn each_request_takes_a_choice(rt: HostRuntime) -> Result<(), Fail> {
-    assert!(rt; hello_server_does(rt.alloc(), PLAIN, CHOICES, &[], CHOSEN)?);
-    Ok(())
-}
-
-/// Cuts, and the exchanges of a server that moves at most this many bytes a call. A piece never continues into a reply
-/// that waits; a reply that is given at once follows the frame that is being given.
-const CUTS: &[(u32, &[Exchange])] = &[
-    (
-        4,
-        &[(
-            &[HELLO, OPEN_1],
-            &[
-                b"\0\0\0\x05",
-                b"\x02\0\0\0",
-                b"\x03",
-                b"\0\0\0\x0d",
-                b"\x66\0\0\0",
-                b"\x01\0\0\0",
-                b"\x04\0\0\0",
-                b"\0",
-                END,
-            ],
-        )],
-    ),
-    (
-        9,
-        &[
-            (&[HELLO, OPEN_1], &[VERSION, b"\0\0\0\x0d\x66\0\0\0\x01"]),
-            (
-                &[QUERY],
-                &[
-                    b"\0\0\0\x04\0\0\0\0\0",
-                    b"\0\0\x11\x65\0\0\0\x05\0",
-                    b"\0\0\x08\0\0\0\0\0\0",
-                    b"\0\0",
-                    END,
-                ],
-            ),
-        ],
-    ),
-];
-
-#[test]
-fn calls_are_cut(rt: HostRuntime) -> Result<(), Fail> {
-    for (cut, exchanges) in CUTS {
-        let config = ServerConfig {
-            extensions: Extensions::LIMITS,
-            limits: None,
-            cut: *cut,
-        };
-        let same = hello_server_does(rt.alloc(), config, &[], &[], exchanges)?;
-        assert!(rt; same, "at {cut}");
-    }
+    let mut server = hello_server(rt.alloc(), CHOICES)?;
+    assert!(rt; does(&mut server, CHOSEN));
     Ok(())
 }
 
@@ -418,23 +201,5 @@ fn tree_is_served(alloc: Global) -> Result<bool, Fail> {
 #[test]
 fn files_and_directories_are_served(rt: HostRuntime) -> Result<(), Fail> {
     assert!(rt; tree_is_served(rt.alloc())?);
-    Ok(())
-}
-
-/// Returns true if a server of one file starts with the parents of its name.
-fn parent_is_listed(alloc: Global) -> Result<bool, Fail> {
-    let none = Items::new(Vec::new(alloc));
-    let picks = Items::new(Vec::new(alloc));
-    let files = [(text(alloc, b"/x/../b/a")?, text(alloc, b"")?)];
-    if !may_begin(alloc, &files, &[])? {
-        return Ok(false);
-    }
-    let server = MapServer::new(alloc, &files, PLAIN, none, picks)?;
-    Ok(has_file(&server, 0, b"b/a", b"") && has_dir(&server, 0, b"b") && server.dir_count() == 1)
-}
-
-#[test]
-fn parents_are_listed(rt: HostRuntime) -> Result<(), Fail> {
-    assert!(rt; parent_is_listed(rt.alloc())?);
     Ok(())
 }

@@ -1,6 +1,5 @@
 //! Tests of the data types of RFC 4251.
 mod labels;
-mod laws;
 mod lists;
 mod numbers;
 mod readers;

@@ -47,12 +47,14 @@ fn is_itself<T: Hash + Same>(value: &T) -> bool {
 
 #[test]
 fn traits(rt: HostRuntime) {
-    assert!(rt; is_itself(&RawPermissions::all()));
-    assert!(rt; is_itself(&Permissions::default()));
-    assert!(rt; is_itself(&RawFileType::Directory));
-    assert!(rt; is_itself(&FileType::from(RawFileType::Directory)));
-    assert!(rt; is_itself(&UnixTimeStamp::default()));
-    assert!(rt; is_same(&of_mode(0o644), &of_mode(0o644)));
+    assert!(rt;
+        is_itself(&RawPermissions::all())
+            && is_itself(&Permissions::default())
+            && is_itself(&RawFileType::Directory)
+            && is_itself(&FileType::from(RawFileType::Directory))
+            && is_itself(&UnixTimeStamp::default())
+            && is_same(&of_mode(0o644), &of_mode(0o644))
+    );
 }
 
 fn is_refused(alloc: Global, seconds: u64, text: &str) -> Result<bool, Fail> {

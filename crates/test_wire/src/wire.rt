@@ -2,4 +2,3 @@
 mod frames;
 mod replies;
 mod requests;
-mod values;

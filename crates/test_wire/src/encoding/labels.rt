@@ -3,7 +3,7 @@ ghost use Rattle.std.specs.Prelude.{List, ℕ, Ok, Err, if◌then◌else◌, len
 ghost use Rattle.std.specs.String.{string_bytes};
 ghost use Rattle.ssh_encoding.specs.declared.error.Error.TheVariants as errors;
 
-use crate::encoding::values::{is_refused, is_spelled};
+use crate::encoding::values::is_spelled;
 use ssh_encoding::*;
 use std::alloc::Global;
 use std::test::Fail;
@@ -35,12 +35,5 @@ impl Label for Name {
 #[test]
 fn label(rt: HostRuntime) -> std::result::Result<(), Fail> {
     assert!(rt; is_spelled::<Name>(rt.alloc(), b"\0\0\0\x03ssh")?);
-    Ok(())
-}
-
-#[test]
-fn no_label(rt: HostRuntime) -> std::result::Result<(), Fail> {
-    let refusal = Error::Label(LabelError::new(rt.alloc(), "")?);
-    assert!(rt; is_refused::<Name>(rt.alloc(), b"\0\0\0\0", &refusal)?);
     Ok(())
 }

@@ -20,14 +20,6 @@ impl Absorb for Kept {
 }
 
 #[test]
-fn vector(rt: HostRuntime) -> std::result::Result<(), Fail> {
-    let mut vec = Vec::new(rt.alloc());
-    vec.write(b"ab")?;
-    assert!(rt; vec.as_slice() == b"ab".as_slice());
-    Ok(())
-}
-
-#[test]
 fn buffer(rt: HostRuntime) -> std::result::Result<(), Fail> {
     let mut buffer = BytesMut::new(rt.alloc());
     buffer.write(b"ab")?;
