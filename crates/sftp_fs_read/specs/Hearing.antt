@@ -12,10 +12,10 @@ use Rattle.plan_state.specs.Calls.{IsUnfinished}
 use Rattle.plan_state.specs.Keeping.{KeepsGrants, SparesOthers}
 use Rattle.sftp_fs_read.specs.Reads.{EndsBy, ReadsValue}
 use Rattle.sftp_fs_read.specs.Tickets.{AreUnderWay, IsNoneOf, TellsReads, polled_all}
-use Rattle.sftp_fs_read.specs.declared.hearing.First.{First}
-use Rattle.sftp_fs_read.specs.declared.hearing.First.TheVariants as first
-use Rattle.sftp_fs_read.specs.declared.hearing.Heard.{Heard}
-use Rattle.sftp_fs_read.specs.declared.hearing.Heard.TheVariants as heard
+use Rattle.sftp_fs_read.specs.declared.replies.First.{First}
+use Rattle.sftp_fs_read.specs.declared.replies.First.TheVariants as first
+use Rattle.sftp_fs_read.specs.declared.replies.Heard.{Heard}
+use Rattle.sftp_fs_read.specs.declared.replies.Heard.TheVariants as heard
 
 -- ---- The first reply
 

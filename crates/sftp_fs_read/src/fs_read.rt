@@ -18,8 +18,8 @@ ghost use Rattle.sftp_fs_read.specs.Tickets.{AreTickets, AreUnderWay, core_witho
 ghost use Rattle.sftp_fs_read.specs.WholeReads.{CancelsRead, DecidesNextMove, FsReadValue, IsReadHeld, IsUnopened, MayRead, ReadOn, ReadsFrom, is_over, read_answer_of};
 ghost use Rattle.sftp_fs_read.specs.declared.fs_read.Whole.TheVariants as whole;
 
-use crate::hearing::{Heard, hear};
 use crate::reads::Reads;
+use crate::replies::{Heard, hear};
 use crate::tickets::{Unasked, abandon_all, submit_read};
 use bitflags::Flags;
 use bytes::BytesMut;

@@ -2,8 +2,8 @@
 #![tactic(auto)]
 
 mod fs_read;
-mod hearing;
 mod reads;
+mod replies;
 mod tickets;
 
 pub use fs_read::{FsReadCall, StartRead};

@@ -26,7 +26,7 @@ const MAX_PLACE: u64 = 8796093022208;
 
 /// The READs of a whole read, after its OPEN at place 1.
 ///
-/// Used in `crates/sftp_fs_read/src/hearing.rt`.
+/// Used in `crates/sftp_fs_read/src/replies.rt`.
 #[derive(Drop)]
 pub struct Reads {
     facts: Facts,

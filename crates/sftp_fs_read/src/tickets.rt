@@ -22,7 +22,7 @@ pub enum Unasked {
 
 /// The answer of a core to a READ.
 ///
-/// Used in `crates/sftp_fs_read/src/hearing.rt`.
+/// Used in `crates/sftp_fs_read/src/replies.rt`.
 pub enum Answer {
     /// The reply that was taken.
     Came(Reply),

@@ -1,7 +1,7 @@
 use Rattle.std.proofs.Common.{◌≡◌, List, ℕ, ◌∷◌, subst, rules}
 use Rattle.sftp_fs_read.specs.Hearing.{TakesReplies}
 use Rattle.sftp_fs_read.proofs.HearLaws.{hears_more}
-use Rattle.sftp_fs_read.proofs.hearing.hear.Goals as goal
+use Rattle.sftp_fs_read.proofs.replies.hear.Goals as goal
 
 pub loop-ticket-preserved : goal.loop-ticket-preserved
 loop-ticket-preserved c =
