@@ -2,6 +2,7 @@ mod HasLaws
 pub mod PairLaws
 pub mod NameLaws
 pub mod PutLaws
+mod HandleChanges
 pub mod ChangeLaws
 pub mod LossLaws
 pub mod WellFormedLaws
