@@ -5,6 +5,7 @@ mod Parts
 pub mod Rounds
 pub mod Settled
 pub mod Bare
+pub mod BareReplies
 mod Loops
 pub mod Whole
 mod Asking
