@@ -106,7 +106,8 @@ pub last_within : (grant bound : ℕ) (w : Window) (a : Answered) (r : ReadAt) (
 last_within grant bound w a r got code message language bytes site facts y answered waiting head next came four is =
     record {
       answers = none;
-      within = subst (λ (x : Reply). ReadsWithin facts (window_plan [] (Some bound) (answered_more w x) site facts [] none))
+      within = subst (λ (x : Reply). ReadsWithin facts (window_plan [] (Some bound) (answered_more w x) site facts []
+          none))
           (sym is)
           (subst (λ (x : Window). ReadsWithin facts (window_plan [] (Some bound)
           (answered_more x (reply.Status code message language)) site facts [] none)) (sym shape)
