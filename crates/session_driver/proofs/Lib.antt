@@ -5,7 +5,6 @@ mod Parts
 pub mod Rounds
 pub mod Settled
 pub mod Bare
-pub mod BareReplies
 mod Loops
 pub mod Whole
 mod Asking

@@ -147,12 +147,11 @@ module _ {S : Type 0} where
     past = stopped.past;
     is = subst (λ (w : SessionView). RunSoFar w.setting schedule stopped.past) (sym stopped.holds)
         (stopped.is.so_far opened.opens opened.begun);
-    so_far = subst (λ (w : SessionView). IsSoFar before.seen.given w.version w.setting stopped.past)
-        (sym stopped.holds) (
-          later_on a.seen.setting [] a.seen.progress.past stopped.past opened.later stopped.is.later,
-          still_fixed before.seen.given a.seen.version a.seen.progress.past stopped.past a.seen.setting opened.fixed
-              opened.opens stopped.is.later,
-        );
+    so_far = subst (λ (w : SessionView). IsSoFar before.seen.given w.version w.setting stopped.past) (sym stopped.holds) (
+      later_on a.seen.setting [] a.seen.progress.past stopped.past opened.later stopped.is.later,
+      still_fixed before.seen.given a.seen.version a.seen.progress.past stopped.past a.seen.setting opened.fixed
+          opened.opens stopped.is.later,
+    );
     same = ap (λ (w : SessionView). w.given) stopped.holds ∙ opened.same;
     ahead = stopped.ahead;
     log = shown_stop a.seen.version c.seen.version a.seen.progress.past stopped.past c.link.ended e before.link.log

@@ -38,8 +38,7 @@ use Rattle.session_model.specs.Settings.{facts_of, version_reply_of, limits_told
 use Rattle.session_driver.specs.declared.session.Phase.{Phase}
 use Rattle.session_driver.specs.declared.session.Phase.TheVariants.{Asking, Failed, Fresh, Greeted, Open, Queried}
 use Rattle.session_driver.specs.Session.{IsFixed}
-use Rattle.session_driver.proofs.Bare.{idle_awaited, idle_unanswered, takes_limits}
-use Rattle.session_driver.proofs.BareReplies.{limits_in_core}
+use Rattle.session_driver.proofs.Bare.{idle_awaited, idle_unanswered, limits_in_core, takes_limits}
 use Rattle.session_driver.specs.NoLanes.{IsIdle as IsQuiet, IsOpen, asked_core, idle_core, offered_extensions}
 use Rattle.session_laws.specs.Changes.{HasNoHistory, fresh_lane}
 use Rattle.session_laws.specs.Lanes.{CoreTied, LaneValue}

@@ -18,8 +18,7 @@ use Rattle.session_model.specs.Readings.{AskedRequest, count_submitted, count_se
 use Rattle.session_model.specs.Runs.{limits_query_sent}
 use Rattle.session_driver.specs.NoLanes.{asked_past}
 use Rattle.session_driver.specs.Refusals.{refuses, refuses_reply, sent_at}
-use Rattle.session_driver.proofs.Bare.{GoesOn}
-use Rattle.session_driver.proofs.BareReplies.{may_take}
+use Rattle.session_driver.proofs.Bare.{GoesOn, may_take}
 use Rattle.sftp_lanes.specs.Seen.{AreIdleRuns, IsIdleRun, without_lanes}
 use Rattle.sftp_lanes.proofs.FaultLaws.{none_asked}
 use Rattle.sftp_lanes.proofs.Plain.{Told, told, told_as}

@@ -11,7 +11,7 @@ use Rattle.session_model.specs.Runs.{limits_query_sent}
 use Rattle.session_model.specs.Settings.{setting_of}
 use Rattle.session_driver.specs.declared.session.Phase.TheVariants.{Failed, Open}
 use Rattle.session_driver.specs.NoLanes.{offered_extensions, setting_in}
-use Rattle.session_driver.proofs.BareReplies.{bare_refused, queried_is, queried_first, came, may_take, opened_later}
+use Rattle.session_driver.proofs.Bare.{bare_refused, queried_is, queried_first, came, may_take, opened_later}
 use Rattle.session_driver.proofs.no_lanes.NoLanesRunsLanes.take_limits.Goals as goal
 
 pub invariant_of-self-in-Ok-Limits : goal.invariant_of-self-in-Ok-Limits

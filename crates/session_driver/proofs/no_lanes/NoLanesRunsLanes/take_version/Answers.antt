@@ -6,7 +6,7 @@ use Rattle.std.proofs.lemmas.List.{reverse-append}
 use Rattle.session_model.specs.Settings.{version_reply_of, setting_of}
 use Rattle.session_model.specs.declared.entry.Entry.{Entry}
 use Rattle.session_driver.specs.NoLanes.{offered_extensions, asked_past}
-use Rattle.session_driver.proofs.BareReplies.{greeted_is, greets, opened_idle}
+use Rattle.session_driver.proofs.Bare.{greeted_is, greets, opened_idle}
 use Rattle.session_driver.proofs.no_lanes.NoLanesRunsLanes.take_version.Goals as goal
 
 pub invariant_of-self-in-Ok-Version : goal.invariant_of-self-in-Ok-Version

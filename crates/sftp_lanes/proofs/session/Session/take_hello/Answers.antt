@@ -17,7 +17,7 @@ use Rattle.session_model.specs.Settings.{version_reply_of}
 use Rattle.session_driver.specs.declared.session.Phase.TheVariants.{Greeted, Open}
 use Rattle.session_driver.specs.NoLanes.{asked_past, idle_core, offered_extensions}
 use Rattle.session_driver.specs.Session.{IsLater}
-use Rattle.session_driver.proofs.BareReplies.{asked_is, greets, opened_idle}
+use Rattle.session_driver.proofs.Bare.{asked_is, greets, opened_idle}
 use Rattle.session_driver.proofs.Journals.{later_self}
 use Rattle.session_work.proofs.FaultLaws.{refused_so_far}
 use Rattle.session_work.specs.declared.lanes.Lanes.{Lanes}

@@ -16,7 +16,7 @@ use Rattle.session_model.specs.Readings.{answer, count_submitted}
 use Rattle.session_model.specs.Runs.{limits_query_sent}
 use Rattle.session_driver.specs.declared.session.Phase.TheVariants.{Open, Queried}
 use Rattle.session_driver.specs.NoLanes.{offered_extensions}
-use Rattle.session_driver.proofs.BareReplies.{came, queried_first}
+use Rattle.session_driver.proofs.Bare.{came, queried_first}
 use Rattle.sftp_lanes.specs.Events.{told_limits}
 use Rattle.sftp_lanes.specs.Seen.{HasCalls, IsInPhase, IsIdleRun, setting_by}
 use Rattle.session_work.specs.declared.lanes.Lanes.{Lanes}
