@@ -2,7 +2,6 @@ mod HasLaws
 pub mod PairLaws
 pub mod NameLaws
 pub mod PutLaws
-mod HandleChanges
 pub mod ChangeLaws
 pub mod LossLaws
 pub mod WellFormedLaws
