@@ -36,8 +36,7 @@ first_asked plan (b ∷ past) answers a later (before, earlier, asks, none, stay
     by_rest : (own : Own) → oldest_first past ≡ own → ((d : ℕ × Request) (rest : Own) → oldest_first past ≡ d ∷ rest
         → (x : Answers) × (plan [] x ≡ Ask d.1)) → (x : Answers) × (plan [] x ≡ Ask a.1)
     by_rest [] none first =
-        let same : b ≡ a =
-        (let e : b ∷ [] ≡ a ∷ later = subst (λ (o : Own). o ++ b ∷ [] ≡ a ∷ later) none is in cc) in (
+        let same : b ≡ a = (let e : b ∷ [] ≡ a ∷ later = subst (λ (o : Own). o ++ b ∷ [] ≡ a ∷ later) none is in cc) in (
           before,
           subst (λ (o : Own). plan o before ≡ Ask a.1) none
               (subst (λ (x : ℕ × Request). plan (oldest_first past) before ≡ Ask x.1) same asks),
