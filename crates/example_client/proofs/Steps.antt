@@ -11,7 +11,7 @@ use Rattle.sftp_core.specs.Table.{asks_handle}
 use Rattle.plan_state.specs.Keeping.{KeepsHeld}
 use Rattle.plan_state.specs.Runners.{Meaning}
 use Rattle.sftp_model.specs.declared.slot.FileAt.{FileAt}
-use Rattle.plan_state.proofs.Keeping.{grant_kept}
+use Rattle.plan_state.proofs.OthersKept.{grant_kept}
 use Rattle.sftp_file.specs.Files.{FileValue, StartsOnFile}
 use Rattle.sftp_file.specs.Reads.{ReadValue, read_meaning}
 use Rattle.sftp_file.specs.Writes.{WriteAllValue, writing_all}

@@ -11,4 +11,5 @@ mod WrittenLengths
 mod OrderLaws
 mod JobCalls
 mod RunParts
+mod GoodCopies
 pub mod GoodLaws

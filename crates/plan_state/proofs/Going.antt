@@ -10,7 +10,8 @@ use Rattle.sftp_core.specs.Core.{Core, after_poll, record_at, reply_in}
 use Rattle.plan_state.specs.declared.stage.Stage.{Stage}
 use Rattle.plan_state.specs.declared.stage.Stage.TheVariants.{Ended, Ready, Asked, Came, Unsent}
 use Rattle.plan_state.proofs.Grants.{told_gives, told_holds}
-use Rattle.plan_state.proofs.Keeping.{ended_idle, idle_others, keeps_same}
+use Rattle.plan_state.proofs.Keeping.{keeps_same}
+use Rattle.plan_state.proofs.OthersKept.{ended_idle, idle_others}
 use Rattle.plan_state.specs.Runners.{HandsGrantOn, GoesBehind, IsOwn, Meaning}
 use Rattle.plan_state.specs.declared.runner.Then.TheVariants as then
 use Rattle.plan_state.specs.declared.asking.Asking.{Asking}

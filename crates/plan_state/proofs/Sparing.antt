@@ -18,7 +18,15 @@ use Rattle.plan_state.specs.declared.stage.Stage.TheVariants.{Ended, Ready, Unse
 use Rattle.plan_state.specs.declared.told.Told.{Told}
 use Rattle.plan_state.specs.declared.told.Told.TheVariants as told
 use Rattle.plan_state.proofs.Grants.{brought_apart, owns_none}
-use Rattle.plan_state.proofs.Keeping.{cancelled_keeps_grants, cancelled_on, cancels_by, polled_keeps_grants, polled_on, submitted_keeps, ticket_apart}
+use Rattle.plan_state.proofs.OthersKept.{
+  cancelled_keeps_grants,
+  cancelled_on,
+  cancels_by,
+  polled_keeps_grants,
+  polled_on,
+  submitted_keeps,
+  ticket_apart,
+}
 
 -- ---- composed
 

@@ -70,7 +70,7 @@ impl Stage {
     }
 
     /// Cancels the call: a reply that has come, or comes later, is dropped, and its handle is closed.
-    #[tactic(auto, using(crate::proofs::Keeping::cancels_by))]
+    #[tactic(auto, using(crate::proofs::OthersKept::cancels_by))]
     pub(crate) fn cancel(self, core: &mut Core)
         requires ticket { (ticket : ℕ) → self ≡ Asked ticket → IsTrue (is_ticket (record_at core.old ticket)) }
         requires counted { (told : ToldValue) → self ≡ Came told → IsCounted core.old told }

@@ -68,7 +68,8 @@ kept_from {T = T} read setup right bytes r kept from now t h =
 
 -- the source was not read
 pub memory_unread : {T : Type 0} (read : List ℕ → ReadAs T) (setup : T → Script)
-    (right : Option Serving → T → List ℕ → Type 0) (why : ProgramFailure) (kept : Option Serving) (from now : SourceView)
+    (right : Option Serving → T → List ℕ → Type 0) (why : ProgramFailure) (kept : Option Serving)
+    (from now : SourceView)
     (to : SinkView) → GivesBytes (Err why) from now → kept ≡ None
     → EndsInMemory read setup right (Err why) kept from now to to
 memory_unread read setup right SourceFailed kept from now to g none =
@@ -126,7 +127,8 @@ outside source sink dial = record { source = source; sink = sink; dial = dial }
 -- the source was not read
 pub link_unread : {T History : Type 0} (read : List ℕ → ReadAs T)
     (right : Option LastLink → T → Answered → List ℕ → Type 0) (dialled : List ℕ → History → History) (path : List ℕ)
-    (why : ProgramFailure) (from now : SourceView) (to : SinkView) (dial : DialView History) → GivesBytes (Err why) from now
+    (why : ProgramFailure) (from now : SourceView) (to : SinkView) (dial : DialView History)
+    → GivesBytes (Err why) from now
     → EndsOverLink read right dialled path (Err why) (outside from to dial) (outside now to dial)
 link_unread read right dialled path SourceFailed from now to dial g =
     record { wrote = nothing_new to.written; dial = refl; source_cause = g.cause; sink_cause = refl; dial_cause = refl }
@@ -148,7 +150,8 @@ read_whole read bytes from now long t h = (h.0, gave_value read bytes h.0 from n
 -- there was no reply
 pub link_unanswered : {T History : Type 0} (read : List ℕ → ReadAs T)
     (right : Option LastLink → T → Answered → List ℕ → Type 0) (dialled : List ℕ → History → History)
-    (path bytes : List ℕ) (why : ProgramFailure) (from now : SourceView) (to : SinkView) (dial dial_now : DialView History)
+    (path bytes : List ℕ) (why : ProgramFailure) (from now : SourceView) (to : SinkView)
+    (dial dial_now : DialView History)
     → Read bytes from now → now.faults ≡ from.faults
     → RepliesAt read right dialled path bytes (Err why) dial dial_now
     → EndsOverLink read right dialled path (Err why) (outside from to dial) (outside now to dial_now)

@@ -22,13 +22,8 @@ use Rattle.run_ending_laws.proofs.AloneTurns.{
   far_more,
   Goes1,
   step_rests,
-  step_waits,
-  step_has,
-  flush_keeps,
-  flush_waits,
-  take_rests,
-  take_waits,
 }
+use Rattle.run_ending_laws.proofs.AloneReplies.{step_waits, step_has, flush_keeps, flush_waits, take_rests, take_waits}
 
 -- the lane rests or waits, and so many of its calls have ended, or all
 abbrev pub IsAt : List Call → ℕ → Told → Type 0

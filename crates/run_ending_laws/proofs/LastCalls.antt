@@ -31,10 +31,11 @@ use Rattle.run_laws.specs.NameCalls.{all_keep_off, may_own, writes}
 use Rattle.run_laws.specs.ReadsBack.{IsAlone, call_in, calls_in}
 use Rattle.run_laws.specs.RoundTrips.{IsOneLanes, WritesWhole, outcome_at}
 use Rattle.run_laws.proofs.CallEnds.{EndedByPlan, call_ended}
-use Rattle.run_laws.proofs.CallRequests.{IsAsked, asked_own, avoids_plain, may_hold, own_held, own_writes, passes_so}
+use Rattle.run_laws.proofs.CallRequests.{IsAsked, asked_own, may_hold, own_held}
+use Rattle.run_laws.proofs.AvoidedNames.{avoids_plain, own_writes, passes_so}
 use Rattle.run_laws.proofs.LaneCalls.{all_more, each_is, plain_path}
 use Rattle.run_laws.proofs.OffRequests.{is_still, told_apart}
-use Rattle.run_laws.proofs.ReadsBackLaws.{AreHandedIn, call_is}
+use Rattle.run_laws.proofs.HandedLanes.{AreHandedIn, call_is}
 use Rattle.run_laws.proofs.RoundTripLaws.{lane_keeps_off}
 use Rattle.run_ending_laws.proofs.CallKinds.{plain_uncancelled}
 use Rattle.run_ending_laws.proofs.Uncancelled.{run_cancels_none, uncancelled}

@@ -1,5 +1,6 @@
 mod Alone
 mod AloneTurns
+mod AloneReplies
 mod FourTurns
 mod CallKinds
 mod Uncancelled

@@ -25,7 +25,7 @@ use Rattle.run_laws.proofs.CallEnds.{EndedByPlan, call_ended}
 use Rattle.run_laws.proofs.LaneCalls.{all_more, each_is, plain_path}
 use Rattle.run_laws.proofs.OffRequests.{is_still}
 use Rattle.run_laws.proofs.PlainRuns.{plain_calls, run_plain}
-use Rattle.run_laws.proofs.ReadsBackLaws.{AreHandedIn, call_is}
+use Rattle.run_laws.proofs.HandedLanes.{AreHandedIn, call_is}
 use Rattle.run_laws.proofs.SentLaws.{AreAll, AreKnown, all_sent}
 use Rattle.run_laws.proofs.ServedSteps.{run_of}
 use Rattle.run_ending_laws.specs.Claims.{AreClaimed, NameClaims, claims_sum}

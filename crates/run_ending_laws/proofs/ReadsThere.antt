@@ -31,7 +31,7 @@ use Rattle.run_laws.specs.Steps.{ChooseOnly, HasBytes, RefuseNone, RefusesNone, 
 use Rattle.run_laws.proofs.BackLaws.{read_opens}
 use Rattle.run_laws.proofs.CutLaws.{chosen_parts}
 use Rattle.run_laws.proofs.LaneCalls.{each_is}
-use Rattle.run_laws.proofs.ReadsBackLaws.{call_is}
+use Rattle.run_laws.proofs.HandedLanes.{call_is}
 use Rattle.run_laws.proofs.RoundTripLaws.{reads_first}
 use Rattle.run_laws.proofs.ServedSteps.{none_refused, run_chosen, run_of}
 use Rattle.run_laws.proofs.StepLaws.{steps_well_formed}

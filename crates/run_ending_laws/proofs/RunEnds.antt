@@ -15,7 +15,7 @@ use Rattle.session_model.proofs.WholeRunLaws.{Keeps, closes_keep, drains_pass, e
 use Rattle.run_laws.specs.ReadsBack.{call_in, calls_in}
 use Rattle.run_laws.specs.RoundTrips.{outcome_at}
 use Rattle.run_laws.proofs.CallEnds.{outcomes_count}
-use Rattle.run_laws.proofs.ReadsBackLaws.{AreHandedIn}
+use Rattle.run_laws.proofs.HandedLanes.{AreHandedIn}
 use Rattle.run_ending_laws.proofs.AloneTurns.{got_beyond}
 
 idle_lets_go : (s : Setting) (n : ℕ) (before now : RunProgress) (lane : ℕ) → LetsGoTo s n before now

@@ -427,7 +427,8 @@ run_flushed s config choices first now turns past lane k slot file buffer bytes 
 
     within : (place : ℕ) → HasRequest (w ∷ t.written) place → HasRequest (asked_in c.back) place
     within place has =
-        elim (all.complete place lane k (below_has (count_sent past) place (w ∷ t.written) below has) (mine place has)) [
+        elim (all.complete place lane k (below_has (count_sent past) place (w ∷ t.written) below has)
+        (mine place has)) [
           | inl seen ↦ absurd seen
           | inr there ↦ elim (has_parts c.front c.back place (subst (λ (l : List Step). HasRequest (asked_in l) place)
               c.is there)) [

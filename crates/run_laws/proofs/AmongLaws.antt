@@ -178,9 +178,11 @@ among_by past hi m lo from answers grant_of elsewhere name grant all [] (a ∷ l
     within sub own_use others = absurd (within a.0 (inl refl))
 among_by past hi m lo from answers grant_of elsewhere name grant all (s ∷ steps) [] le above rising known rising' known'
     within sub own_use others = (
-      others s known.0.1 (let lt : lo < s.place = above.0 in omega (arith, le, lt)) known.0.0 (λ h. sub s.place above.0 h),
+      others s known.0.1 (let lt : lo < s.place = above.0 in omega (arith, le, lt)) known.0.0
+          (λ h. sub s.place above.0 h),
       among_by past hi m s.place from answers grant_of elsewhere name grant all steps []
-          (let lt : lo < s.place = above.0 in omega (arith, le, lt)) rising.0 rising.1 known.1 tt tt (λ place h. absurd h)
+          (let lt : lo < s.place = above.0 in omega (arith, le, lt)) rising.0 rising.1 known.1 tt tt
+          (λ place h. absurd h)
           (λ place lt h. sub place (let low : lo < s.place = above.0 in omega (arith, low, lt)) h) own_use others,
     )
 among_by past hi m lo from answers grant_of elsewhere name grant all (s ∷ steps) (a ∷ later) le above rising known
@@ -287,7 +289,8 @@ call_on past n hi grant_of elsewhere name lane c first later xs steps ys s all i
         let lt : place < hi = below place h in
         let above : first.0 < place = later_above past lane c place first later is h in
         let one : s.place ≡ first.0 = at_first in
-        elim (all.complete place lane c (omega (arith, lt, le)) (has_call past lane c place (first ∷ later) is (inr h))) [
+        elim (all.complete place lane c (omega (arith, lt, le))
+        (has_call past lane c place (first ∷ later) is (inr h))) [
           | inl none ↦ absurd none
           | inr has ↦ elim (has_parts xs (s ∷ (steps ++ ys)) place has) [
             | inl left ↦ absurd (let low : place < s.place = known_has past s.place place (asked_in xs)

@@ -45,6 +45,8 @@ use Rattle.run_laws.proofs.PartMoves.{
   sync_goes,
   copy_goes,
   seek_goes,
+}
+use Rattle.run_laws.proofs.ContentMoves.{
   was_read_goes,
   missing_goes,
   was_written_goes,

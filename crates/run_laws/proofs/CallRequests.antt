@@ -1,4 +1,4 @@
--- What the requests of a lane are that alone has to do with a name, and of lanes that keep off it.
+-- The requests of a lane that alone uses a name, and of lanes that keep off it.
 use Rattle.std.proofs.Common.{
   ◌≡◌,
   ◌<◌,
@@ -27,7 +27,7 @@ use Rattle.std.proofs.Common.{
 }
 use Rattle.std.specs.Prelude.{◌⊎◌, ◌||◌}
 use Rattle.std.specs.List.{list_all}
-use Rattle.std.proofs.lemmas.Bool.{and_parts, both_ways, eq-eqb, eqb-true, false_from_ne_true, ne_eqb, or_right}
+use Rattle.std.proofs.lemmas.Bool.{and_parts, eq-eqb, eqb-true, ne_eqb, or_right}
 use Rattle.std.proofs.lemmas.Bool.Decides.{eqb_tells}
 use Rattle.sftp_model.specs.declared.flags.OpenFlags.{OpenFlags}
 use Rattle.sftp_model.specs.declared.reply.Reply.TheVariants as reply
@@ -36,8 +36,8 @@ use Rattle.sftp_model.specs.declared.request.Request.TheVariants as request
 use Rattle.sftp_model.specs.declared.slot.Facts.{Facts}
 use Rattle.sftp_model.specs.declared.slot.Move.TheVariants.{Ask}
 use Rattle.sftp_model.specs.declared.slot.Site.{Site}
-use Rattle.machine_model.proofs.NameLaws.{handles_tell, names_tell}
-use Rattle.machine_model.specs.Components.{Name, components, same_name}
+use Rattle.machine_model.proofs.NameLaws.{handles_tell}
+use Rattle.machine_model.specs.Components.{Name}
 use Rattle.sftp_model.specs.OpenOptions.{flags_of}
 use Rattle.sftp_model.specs.declared.open_options.OpenOptions.{OpenOptions}
 use Rattle.plan_model.specs.FilePlans.{open_request}
@@ -61,21 +61,18 @@ use Rattle.session_model.proofs.CallLaws.{next_submit}
 use Rattle.session_model.proofs.CallsSoFar.{calls_so_far}
 use Rattle.session_model.proofs.RequestLaws.{asked_other}
 use Rattle.run_laws.specs.Bearing.{is_handle_reply, grant_used_at, used_in}
-use Rattle.run_laws.specs.GrantUses.{WritesBy}
-use Rattle.run_laws.specs.InJournals.{PassesAt, is_of_call, is_open_of, opens_at}
-use Rattle.run_laws.specs.Sparing.{AvoidsName}
+use Rattle.run_laws.specs.InJournals.{is_of_call}
 use Rattle.run_laws.proofs.OpenLaws.{open_is}
 use Rattle.run_laws.proofs.OwnLaws.{own_listed}
 use Rattle.run_laws.proofs.SentLaws.{AreKnown, IsAt}
 use Rattle.run_laws.proofs.UsedLaws.{asked_there, front_of, some_is}
 use Rattle.run_laws.specs.NameCalls.{all_keep_off, is_buffered, may_own}
-use Rattle.run_laws.specs.RoundTrips.{WritesWhole}
 use Rattle.run_laws.proofs.BufferedMoves.{buffer_asks_none, flush_asks_none, open_asks_once}
 use Rattle.run_laws.proofs.CallMoves.{call_goes}
 use Rattle.run_laws.proofs.PartMoves.{GoesSo, IsAnySite, IsByHandle}
 use Rattle.run_laws.proofs.LaneCalls.{all_before, all_more, call_stays, each_is, plain_path, plain_site}
 use Rattle.run_laws.proofs.LaneDirectories.{directory_at, directory_now, off_before, off_there}
-use Rattle.run_laws.proofs.OffRequests.{IsHarmless, IsOff, call_off, handle_off, is_still, on_paths_harmless}
+use Rattle.run_laws.proofs.OffRequests.{IsHarmless, IsOff, call_off, is_still, on_paths_harmless}
 use Rattle.run_laws.proofs.WholeMoves.{IsRead, IsWriteBy, read_asks, write_asks}
 use Rattle.plan_model.specs.CallPlans.{next}
 
@@ -92,15 +89,27 @@ pub record Split (past : List Entry) (place : ℕ) (a : AskedRequest) : Type 0 w
   pub is : more ++ entry.Event (Submit a.by a.id a.request) ∷ before ≡ past
   pub at : count_submitted before ≡ place
 
-split_later : (past : List Entry) (e : Entry) (place : ℕ) (a : AskedRequest) → Split past place a → Split (e ∷ past) place a
-split_later past e place a t = record { more = e ∷ t.more; before = t.before; is = ap (λ (l : List Entry). e ∷ l) t.is; at = t.at }
+split_later : (past : List Entry) (e : Entry) (place : ℕ) (a : AskedRequest) → Split past place a
+    → Split (e ∷ past) place a
+split_later past e place a t = record {
+  more = e ∷ t.more;
+  before = t.before;
+  is = ap (λ (l : List Entry). e ∷ l) t.is;
+  at = t.at;
+}
 
 pub split_at : (past : List Entry) (place : ℕ) (a : AskedRequest) → asked_at past place ≡ Some a → Split past place a
 split_at [] place a e = absurd cc
 split_at (entry.Event (Submit by id r) ∷ past) place a e =
     elim (eqb_tells place (count_submitted past)) [
       | inl t ↦ (let same = some_is (record { by = by; id = id; request = r }) a (rw t.0 at e) in
-          record { more = []; before = past; is = ap (λ (x : AskedRequest). entry.Event (Submit x.by x.id x.request) ∷ past) (sym same); at = sym t.1 })
+          record {
+            more = [];
+            before = past;
+            is = ap (λ (x : AskedRequest). entry.Event (Submit x.by x.id x.request) ∷
+                past) (sym same);
+            at = sym t.1;
+          })
       | inr t ↦ split_later past (entry.Event (Submit by id r)) place a (split_at past place a (rw t.0 at e))
     ]
 split_at (x ∷ past) place a e = split_later past x place a (split_at past place a e)
@@ -111,11 +120,13 @@ asked_grows (entry.Event (Submit by id r) ∷ more) past = let le = asked_grows 
 asked_grows (_ ∷ more) past = asked_grows more past
 
 -- requests stay where they were asked
-asked_stays : (more past : List Entry) (place : ℕ) (a : AskedRequest) → asked_at past place ≡ Some a → asked_at (more ++ past) place ≡ Some a
+asked_stays : (more past : List Entry) (place : ℕ) (a : AskedRequest) → asked_at past place ≡ Some a
+    → asked_at (more ++ past) place ≡ Some a
 asked_stays [] past place a e = e
 asked_stays (entry.Event (Submit by id r) ∷ more) past place a e =
     let le = asked_grows more past in
-    let lt = asked_there past place a e in asked_other (more ++ past) by id place r (omega (arith, le, lt)) ∙ asked_stays more past place a e
+    let lt = asked_there past place a e in asked_other (more ++ past) by id place r (omega (arith, le, lt))
+    ∙ asked_stays more past place a e
 asked_stays (_ ∷ more) past place a e = asked_stays more past place a e
 
 -- and the grant whose handle one bears
@@ -123,15 +134,17 @@ used_stays : (s : Setting) (more past : List Entry) (place g : ℕ) (h : List �
     → grant_used_at s past place h ≡ Some g → grant_used_at s (more ++ past) place h ≡ Some g
 used_stays s [] past place g h lt e = e
 used_stays s (entry.Event (Submit by id r) ∷ more) past place g h lt e =
-    let le = asked_grows more past in rw (ne_eqb place (count_submitted (more ++ past)) (λ same. omega (arith, same, le, lt))) (used_stays s more past place g h lt e)
+    let le = asked_grows more past in rw (ne_eqb place (count_submitted (more ++ past))
+    (λ same. omega (arith, same, le, lt))) (used_stays s more past place g h lt e)
 used_stays s (_ ∷ more) past place g h lt e = used_stays s more past place g h lt e
 
 -- ---- what one request is
 
 -- the request at a place writes by the handle of a grant that an OPEN of this path was given
-abbrev WritesAt : Setting → List Entry → ℕ → List ℕ → Request → Type 0
+abbrev pub WritesAt : Setting → List Entry → ℕ → List ℕ → Request → Type 0
 WritesAt s past place path (request.Write h offset content) =
-    (g : ℕ) × ((grant_used_at s past place h ≡ Some g) × ((b : AskedRequest) × ((asked_at past g ≡ Some b) × (b.request ≡ open_request to_replace path))))
+    (g : ℕ) × ((grant_used_at s past place h ≡ Some g) × ((b : AskedRequest)
+    × ((asked_at past g ≡ Some b) × (b.request ≡ open_request to_replace path))))
 WritesAt s past place path other = ⊥
 
 -- a call that the lane may make
@@ -145,10 +158,12 @@ pub held_still : (name : Name) (c : Call) → may_hold name c ≡ true → is_st
 held_still name (call.Cwd path) e = absurd cc
 held_still name other e = refl
 
--- a call asks an OPEN of its path, and then READs, or WRITEs by what it opened; or it is no such call, and does the name no harm
-abbrev IsAskOf : Name → Setting → List Entry → ℕ → Call → Request → Type 0
+-- a call asks an OPEN of its path, and then READs, or WRITEs by what it opened; or it is no such call, and does the
+-- name no harm
+abbrev pub IsAskOf : Name → Setting → List Entry → ℕ → Call → Request → Type 0
 IsAskOf name s past place (call.FsRead path bound) r = (r ≡ open_request to_read path) ⊎ IsRead r
-IsAskOf name s past place (call.FsWrite path bytes) r = (r ≡ open_request to_replace path) ⊎ WritesAt s past place path r
+IsAskOf name s past place (call.FsWrite path bytes) r = (r ≡ open_request to_replace path)
+    ⊎ WritesAt s past place path r
 IsAskOf name s past place (call.OpenFile slot options path) r = r ≡ open_request (flags_of options) path
 IsAskOf name s past place (call.BufWriteAll slot bytes) r = IsByHandle r
 IsAskOf name s past place other r = IsHarmless name r
@@ -166,7 +181,11 @@ pub first_asked : (plan : Plan) (requests : Own) (answers : Answers) (first : �
 first_asked plan [] answers first later asks are = absurd cc
 first_asked plan (a ∷ past) answers first later (before, earlier, is, none, stays) are =
     elim (front_of (oldest_first past) a first later are) [
-      | inl new ↦ (before, subst (λ (x : ℕ × Request). plan [] before ≡ Ask x.1) new.1 (subst (λ (l : Own). plan l before ≡ Ask a.1) new.0 is))
+      | inl new ↦ (
+        before,
+        subst (λ (x : ℕ × Request). plan [] before ≡ Ask x.1) new.1
+            (subst (λ (l : Own). plan l before ≡ Ask a.1) new.0 is),
+      )
       | inr old ↦ first_asked plan past before first old.0 earlier old.1
     ]
 
@@ -178,10 +197,12 @@ first_known past n requests first later known are = (subst (AreKnown past n) are
 -- a WRITE by the handle that the first request of its call was granted uses this grant
 used_first : (s : Setting) (past : List Entry) (lane k id : ℕ) (h : List ℕ) (offset : ℕ) (content : List ℕ)
     (first : ℕ × Request) (later : Own) → own past lane k ≡ first ∷ later → answer past first.0 ≡ Some (reply.Handle h)
-    → grant_used_at s (entry.Event (Submit (owner.Call lane k) id (request.Write h offset content)) ∷ past) (count_submitted past) h ≡ Some first.0
+    → grant_used_at s (entry.Event (Submit (owner.Call lane k) id (request.Write h offset content)) ∷ past)
+    (count_submitted past) h ≡ Some first.0
 used_first s past lane k id h offset content first later are came =
     rw (eq-eqb (count_submitted past) (count_submitted past) refl)
-    (ap (λ (o : Own). used_in s past lane o h) are ∙ by_test (is_handle_reply (answer past first.0) h) (ap (λ x. is_handle_reply x h) came ∙ (handles_tell h h).1 refl))
+    (ap (λ (o : Own). used_in s past lane o h) are ∙ by_test (is_handle_reply (answer past first.0) h)
+    (ap (λ x. is_handle_reply x h) came ∙ (handles_tell h h).1 refl))
   where
     other : Option ℕ
     other = used_in s past lane [] h
@@ -201,9 +222,11 @@ asks_next : (name : Name) (s : Setting) (past : List Entry) (lane id : ℕ) (r :
     → list_all (may_hold name) (lane_calls s past lane) ≡ true
     → move_at (current s past lane) (site_of s past lane) s.facts (own past lane (count_ended past lane)) (answer past)
     ≡ Some (Ask r)
-    → IsAsked name s (entry.Event (Submit (owner.Call lane (count_ended past lane)) id r) ∷ past) lane (count_ended past lane) (count_submitted past) r
+    → IsAsked name s (entry.Event (Submit (owner.Call lane (count_ended past lane)) id r) ∷ past) lane
+    (count_ended past lane) (count_submitted past) r
 asks_next name s past lane id r j w m =
-    let d = move_is (current s past lane) (site_of s past lane) s.facts (own past lane (count_ended past lane)) (answer past) r m in
+    let d = move_is (current s past lane) (site_of s past lane) s.facts (own past lane (count_ended past lane))
+    (answer past) r m in
     by_call d.0 d.1.0 d.1.1 (each_is (may_hold name) (lane_calls s past lane) (count_ended past lane) d.0 w d.1.0)
   where
     now : Request → List Entry
@@ -221,15 +244,18 @@ asks_next name s past lane id r j w m =
     -- an OPEN that was asked is one of the call's path
     opens : (flags : OpenFlags) (path : List ℕ) (q : Request) →
         ask_path (open_request flags (from_directory site path)) site ≡ Ask q → q ≡ open_request flags path
-    opens flags path q e = open_is flags (from_directory site path) site q e ∙ ap (open_request flags) (plain_path s past lane path still)
+    opens flags path q e = open_is flags (from_directory site path) site q e
+        ∙ ap (open_request flags) (plain_path s past lane path still)
 
     -- the first request of a whole write is such an OPEN, which stands at its place
     first_open : (path bytes : List ℕ) (first : ℕ × Request) (later : Own) → current s past lane
         ≡ Some (call.FsWrite path bytes) → own past lane k ≡ first ∷ later
         → (b : AskedRequest) × ((asked_at past first.0 ≡ Some b) × (b.request ≡ open_request to_replace path))
     first_open path bytes first later is are =
-        let plans : GoesByPlan s past lane (call.FsWrite path bytes) = calls_so_far s past lane (call.FsWrite path bytes) j is in
-        let f = first_asked (next (call.FsWrite path bytes) site s.facts) plans.requests (answer past) first later plans.so_far.asked (plans.are ∙ are) in
+        let plans : GoesByPlan s past lane (call.FsWrite path bytes) =
+        calls_so_far s past lane (call.FsWrite path bytes) j is in
+        let f = first_asked (next (call.FsWrite path bytes) site s.facts) plans.requests (answer past) first later
+        plans.so_far.asked (plans.are ∙ are) in
         let at : IsAt past first = first_known past (count_submitted past) (own past lane k) first later
         (own_listed past lane k).1 are in (at.0, (at.1.0, at.1.1 ∙ opens to_replace path first.1 f.1))
 
@@ -241,8 +267,16 @@ asks_next name s past lane id r j w m =
         let f = first_open path bytes first later is are in (
           first.0,
           (
-            used_first s past lane k id handle offset content first later are (came ∙ ap (λ (x : List ℕ). Some (reply.Handle x)) (sym by)),
-            (f.0, (asked_other past (owner.Call lane k) id first.0 (request.Write handle offset content) (asked_there past first.0 f.0 f.1.0) ∙ f.1.0, f.1.1)),
+            used_first s past lane k id handle offset content first later are
+                (came ∙ ap (λ (x : List ℕ). Some (reply.Handle x)) (sym by)),
+            (
+              f.0,
+              (
+                asked_other past (owner.Call lane k) id first.0 (request.Write handle offset content)
+                    (asked_there past first.0 f.0 f.1.0) ∙ f.1.0,
+                f.1.1,
+              ),
+            ),
           ),
         )
     by_request path bytes first later h other is are came by = absurd by
@@ -257,51 +291,78 @@ asks_next name s past lane id r j w m =
         → IsAskOf name s (now r) (count_submitted past) (call.FsWrite path bytes) r
     by_own_write path bytes [] is are e = inl (opens to_replace path r e)
     by_own_write path bytes (first ∷ later) is are e =
-        let x = write_asks path bytes site s.facts first later (answer past) r e in inr (by_request path bytes first later x.0 r is are x.1.0 x.1.1)
+        let x = write_asks path bytes site s.facts first later (answer past) r e in
+        inr (by_request path bytes first later x.0 r is are x.1.0 x.1.1)
 
     by_own_open : (slot : ℕ) (options : OpenOptions) (path : List ℕ) (o : Own)
         → next (call.OpenFile slot options path) site s.facts o (answer past) ≡ Ask r → r
         ≡ open_request (flags_of options) path
     by_own_open slot options path [] e = open_is (flags_of options) path site r e
-    by_own_open slot options path (first ∷ later) e = absurd (open_asks_once slot options path site s.facts first later (answer past) r e)
+    by_own_open slot options path (first ∷ later) e = absurd (open_asks_once slot options path site s.facts first later
+        (answer past) r e)
 
     by_call : (c : Call) → current s past lane ≡ Some c → next c site s.facts (own past lane k) (answer past) ≡ Ask r
         → may_hold name c ≡ true → IsAsked name s (now r) lane k (count_submitted past) r
-    by_call (call.FsRead path bound) is e owns = record { c = call.FsRead path bound; is = is; asks = by_own_read path bound (own past lane k) e }
-    by_call (call.FsWrite path bytes) is e owns = record { c = call.FsWrite path bytes; is = is; asks = by_own_write path bytes (own past lane k) is refl e }
+    by_call (call.FsRead path bound) is e owns = record {
+      c = call.FsRead path bound;
+      is = is;
+      asks =
+          by_own_read path bound (own past lane k) e;
+    }
+    by_call (call.FsWrite path bytes) is e owns = record {
+      c = call.FsWrite path bytes;
+      is = is;
+      asks =
+          by_own_write path bytes (own past lane k) is refl e;
+    }
     by_call (call.OpenFile slot options path) is e owns = record
         { c = call.OpenFile slot options path; is = is; asks = by_own_open slot options path (own past lane k) e }
     by_call (call.BufWriteAll slot bytes) is e owns =
         record {
           c = call.BufWriteAll slot bytes;
           is = is;
-          asks = subst (GoesSo IsByHandle IsAnySite) e (call_goes IsByHandle IsAnySite (call.BufWriteAll slot bytes) site
+          asks = subst (GoesSo IsByHandle IsAnySite) e (call_goes IsByHandle IsAnySite (call.BufWriteAll slot bytes)
+              site
               s.facts (own past lane k) (answer past) (λ q x. x) tt (λ other left x y b. tt) tt);
         }
-    by_call (call.Buffer slot len) is e owns = absurd (buffer_asks_none slot len site s.facts (own past lane k) (answer past) r e)
-    by_call (call.BufFlush slot) is e owns = absurd (flush_asks_none slot site s.facts (own past lane k) (answer past) r e)
+    by_call (call.Buffer slot len) is e owns = absurd (buffer_asks_none slot len site s.facts (own past lane k)
+        (answer past) r e)
+    by_call (call.BufFlush slot) is e owns = absurd (flush_asks_none slot site s.facts (own past lane k) (answer past) r
+        e)
     by_call other is e owns = record {
       c = other;
       is = is;
       asks =
-          on_paths_harmless name other site s.facts (own past lane k) (answer past) r (plain_site s past lane still) owns
+          on_paths_harmless name other site s.facts (own past lane k) (answer past) r (plain_site s past lane still)
+          owns
           e;
     }
 
-writes_stay : (s : Setting) (more past : List Entry) (place : ℕ) (path : List ℕ) (r : Request) → place < count_submitted past
+writes_stay : (s : Setting) (more past : List Entry) (place : ℕ) (path : List ℕ) (r : Request)
+    → place < count_submitted past
     → WritesAt s past place path r → WritesAt s (more ++ past) place path r
-writes_stay s more past place path (request.Write h offset content) lt w =
-    (w.0, (used_stays s more past place w.0 h lt w.1.0, (w.1.1.0, (asked_stays more past w.0 w.1.1.0 w.1.1.1.0, w.1.1.1.1))))
+writes_stay s more past place path (request.Write h offset content) lt w = (
+  w.0,
+  (
+    used_stays s more past place w.0 h lt w.1.0,
+    (
+      w.1.1.0,
+      (asked_stays more past w.0 w.1.1.0 w.1.1.1.0, w.1.1.1.1),
+    ),
+  ),
+)
 writes_stay s more past place path other lt w = absurd w
 
 asks_stay : (name : Name) (s : Setting) (more past : List Entry) (place : ℕ) (c : Call) (r : Request)
     → place < count_submitted past → IsAskOf name s past place c r → IsAskOf name s (more ++ past) place c r
 asks_stay name s more past place (call.FsRead path bound) r lt x = x
 asks_stay name s more past place (call.FsWrite path bytes) r lt (inl e) = inl e
-asks_stay name s more past place (call.FsWrite path bytes) r lt (inr w) = inr (writes_stay s more past place path r lt w)
+asks_stay name s more past place (call.FsWrite path bytes) r lt (inr w) =
+    inr (writes_stay s more past place path r lt w)
 asks_stay name s more past place other r lt x = x
 
-asked_grow : (name : Name) (s : Setting) (more past : List Entry) (lane k place : ℕ) (r : Request) → place < count_submitted past
+asked_grow : (name : Name) (s : Setting) (more past : List Entry) (lane k place : ℕ) (r : Request)
+    → place < count_submitted past
     → IsAsked name s past lane k place r → IsAsked name s (more ++ past) lane k place r
 asked_grow name s more past lane k place r lt a = record {
   c = a.c;
@@ -339,11 +400,13 @@ asked_own name s past lane k place a j w e mine =
         subst (λ (y : ℕ). list_all (may_hold name) (lane_calls s before y) ≡ true) (sym at_lane)
         (all_before (may_hold name) s more now lane w) in
         let next_is : IsAsked name s now l n (count_submitted before) r =
-        subst (λ (x : ℕ). IsAsked name s (entry.Event (Submit (owner.Call l x) id r) ∷ before) l x (count_submitted before) r)
+        subst (λ (x : ℕ). IsAsked name s (entry.Event (Submit (owner.Call l x) id r) ∷ before) l x
+        (count_submitted before) r)
         (sym may.0) (asks_next name s before l id r so_far.1 first may.1)
         in
         asked_grow name s more now lane k (count_submitted before) r (omega arith)
-        (subst (λ (x : ℕ). IsAsked name s now lane x (count_submitted before) r) at_call (subst (λ (y : ℕ). IsAsked name s now y n (count_submitted before) r) at_lane next_is))
+        (subst (λ (x : ℕ). IsAsked name s now lane x (count_submitted before) r) at_call
+        (subst (λ (y : ℕ). IsAsked name s now y n (count_submitted before) r) at_lane next_is))
     by_owner more before owner.Setup id r j w at = absurd cc
     by_owner more before owner.Close id r j w at = absurd cc
 
@@ -360,7 +423,8 @@ off_asked name s past lane k place a j off e mine =
     by_lane : (before : List Entry) (l id : ℕ) (r : Request) → IsJournal s before
         → all_keep_off name [] (lane_calls s before l) ≡ true → move_of s before l ≡ Some (Ask r) → IsOff name r
     by_lane before l id r j off m =
-        let d = move_is (current s before l) (site_of s before l) s.facts (own before l (count_ended before l)) (answer before) r m in
+        let d = move_is (current s before l) (site_of s before l) s.facts (own before l (count_ended before l))
+        (answer before) r m in
         call_off name d.0 (site_of s before l) s.facts (own before l (count_ended before l)) (answer before) r
         (directory_at [] (lane_calls s before l) (count_ended before l)) (directory_now s before l j)
         (off_there name [] (lane_calls s before l) (count_ended before l) d.0 off d.1.0) d.1.1
@@ -380,102 +444,3 @@ off_asked name s past lane k place a j off e mine =
         (sym at_lane) (off_before name s more now lane off)) may.1
     by_owner more before owner.Setup id r j off at = absurd cc
     by_owner more before owner.Close id r j off at = absurd cc
-
--- ---- names that requests avoid, and pass by
-
-read_avoids : (name : Name) (r : Request) → IsRead r → AvoidsName name r
-read_avoids name (request.Read handle offset len) x = record { denotes = λ d. d; moves = λ old to d. absurd d }
-read_avoids name other x = absurd x
-
-write_avoids : (s : Setting) (past : List Entry) (name : Name) (place : ℕ) (path : List ℕ) (r : Request) → WritesAt s past place path r → AvoidsName name r
-write_avoids s past name place path (request.Write handle offset content) x = record { denotes = λ d. d; moves = λ old to d. absurd d }
-write_avoids s past name place path other x = absurd x
-
-open_avoids : (name : Name) (flags : OpenFlags) (path : List ℕ) (r : Request) → r ≡ open_request flags path → is_open_of name r ≡ false → AvoidsName name r
-open_avoids name flags path r e plain =
-    let apart : same_name (components path) name ≡ false = sym (ap (is_open_of name) e) ∙ plain in
-    subst (AvoidsName name) (sym e) (record {
-      denotes = λ d. both_ways (same_name (components path) name) apart
-          ((names_tell (components path) name).1 d.1);
-      moves = λ old to d. absurd d;
-    })
-
--- a request that isn't an OPEN of the name avoids it
-pub avoids_plain : (s : Setting) (past : List Entry) (name : Name) (place : ℕ) (c : Call) (r : Request)
-    → IsAskOf name s past place c r → is_open_of name r ≡ false → AvoidsName name r
-avoids_plain s past name place (call.FsRead path bound) r (inl e) plain = open_avoids name to_read path r e plain
-avoids_plain s past name place (call.FsRead path bound) r (inr x) plain = read_avoids name r x
-avoids_plain s past name place (call.FsWrite path bytes) r (inl e) plain = open_avoids name to_replace path r e plain
-avoids_plain s past name place (call.FsWrite path bytes) r (inr x) plain = write_avoids s past name place path r x
-avoids_plain s past name place (call.OpenFile slot options path) r x plain = open_avoids name (flags_of options) path r x plain
-avoids_plain s past name place (call.BufWriteAll slot bytes) r x plain = (handle_off name r x).0
-avoids_plain s past name place other r x plain = x.0.0
-
--- the call may make or empty the name's file by its path, or write to what it opened
-abbrev pub MayWrite : Name → Call → Type 0
-MayWrite name (call.FsWrite path bytes) = components path ≡ name
-MayWrite name (call.OpenFile slot options path) = Unit {0}
-MayWrite name (call.BufWriteAll slot bytes) = Unit {0}
-MayWrite name other = ⊥
-
--- a call that the lane may make where it buffers nothing is none but a whole write
-pub own_writes : (name : Name) (c : Call) → may_own name c ≡ true → MayWrite name c → WritesWhole name c
-own_writes name (call.FsWrite path bytes) e w = w
-own_writes name (call.OpenFile slot options path) e w = absurd cc
-own_writes name (call.BufWriteAll slot bytes) e w = absurd cc
-own_writes name other e w = w
-
--- what a call asks that doesn't write the name avoids it
-avoids_so : (s : Setting) (past : List Entry) (name : Name) (place : ℕ) (c : Call) (r : Request)
-    → IsAskOf name s past place c r → (MayWrite name c → ⊥) → AvoidsName name r
-avoids_so s past name place (call.FsRead path bound) r (inl e) spares =
-    subst (AvoidsName name) (sym e) (record { denotes = λ d. (let both : false ≡ true = d.0 in cc); moves = λ old to d. absurd d })
-avoids_so s past name place (call.FsRead path bound) r (inr x) spares = read_avoids name r x
-avoids_so s past name place (call.FsWrite path bytes) r (inl e) spares =
-    subst (AvoidsName name) (sym e) (record { denotes = λ d. spares d.1; moves = λ old to d. absurd d })
-avoids_so s past name place (call.FsWrite path bytes) r (inr x) spares = write_avoids s past name place path r x
-avoids_so s past name place (call.OpenFile slot options path) r x spares = absurd (spares tt)
-avoids_so s past name place (call.BufWriteAll slot bytes) r x spares = absurd (spares tt)
-avoids_so s past name place other r x spares = x.0.0
-
-read_writes_none : (r : Request) (h : List ℕ) → IsRead r → WritesBy r h → ⊥
-read_writes_none (request.Read handle offset len) h x w = w
-read_writes_none other h x w = x
-
-open_writes_none : (flags : OpenFlags) (path : List ℕ) (r : Request) (h : List ℕ) → r ≡ open_request flags path → WritesBy r h → ⊥
-open_writes_none flags path r h e w = subst (λ (q : Request). WritesBy q h) e w
-
--- and writes by no handle that an OPEN of the name was granted
-writes_so : (s : Setting) (past : List Entry) (name : Name) (place : ℕ) (c : Call) (r : Request) (h : List ℕ)
-    (grant : ℕ) → IsAskOf name s past place c r → (MayWrite name c → ⊥) → WritesBy r h → grant_used_at s past place h
-    ≡ Some grant
-    → opens_at name (asked_at past grant) ≡ false
-writes_so s past name place (call.FsRead path bound) r h grant (inl e) spares w uses = absurd (open_writes_none to_read path r h e w)
-writes_so s past name place (call.FsRead path bound) r h grant (inr x) spares w uses = absurd (read_writes_none r h x w)
-writes_so s past name place (call.FsWrite path bytes) r h grant (inl e) spares w uses = absurd (open_writes_none to_replace path r h e w)
-writes_so s past name place (call.FsWrite path bytes) r h grant (inr x) spares w uses = by_request r x w
-  where
-    by_request : (q : Request) → WritesAt s past place path q → WritesBy q h → opens_at name (asked_at past grant) ≡ false
-    by_request (request.Write handle offset content) at same =
-        let both : Some at.0 ≡ Some grant = sym at.1.0 ∙ (ap (grant_used_at s past place) same ∙ uses) in
-        let there : asked_at past grant ≡ Some at.1.1.0 = subst (λ (g : ℕ). asked_at past g ≡ Some at.1.1.0) (some_is at.0 grant both) at.1.1.1.0 in
-        ap (opens_at name) there ∙ (ap (is_open_of name) at.1.1.1.1
-        ∙ false_from_ne_true (same_name (components path) name)
-        (λ t. spares ((names_tell (components path) name).0 t)))
-    by_request other at same = absurd at
-writes_so s past name place (call.OpenFile slot options path) r h grant x spares w uses = absurd (spares tt)
-writes_so s past name place (call.BufWriteAll slot bytes) r h grant x spares w uses = absurd (spares tt)
-writes_so s past name place other r h grant x spares w uses = absurd (x.1 h w)
-
--- what a call asks that doesn't write the name passes it by
-pub passes_so : (s : Setting) (past : List Entry) (name : Name) (lane k place : ℕ) (a : AskedRequest) → asked_at past place
-    ≡ Some a → (x : IsAsked name s past lane k place a.request) → (MayWrite name x.c → ⊥) → PassesAt s past name place
-passes_so s past name lane k place a e x spares =
-    record {
-      avoids = λ b at. subst (λ (y : AskedRequest). AvoidsName name y.request) (same b at) (avoids_so s past name place x.c a.request x.asks spares);
-      writes = λ b h grant at w uses. writes_so s past name place x.c a.request h grant x.asks spares
-          (subst (λ (y : AskedRequest). WritesBy y.request h) (sym (same b at)) w) uses;
-    }
-  where
-    same : (b : AskedRequest) → asked_at past place ≡ Some b → a ≡ b
-    same b at = some_is a b (sym e ∙ at)

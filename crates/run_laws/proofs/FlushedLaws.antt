@@ -47,7 +47,8 @@ use Rattle.run_laws.specs.Listings.{site_at}
 use Rattle.run_laws.proofs.PlainRuns.{IsPlain, run_plain}
 use Rattle.run_laws.specs.RoundTrips.{outcome_at}
 use Rattle.run_laws.proofs.CallEnds.{EndsAt, ends_at}
-use Rattle.run_laws.proofs.CallRequests.{IsAsked, MayWrite, asked_own, avoids_plain, may_hold, passes_so}
+use Rattle.run_laws.proofs.CallRequests.{IsAsked, asked_own, may_hold}
+use Rattle.run_laws.proofs.AvoidedNames.{MayWrite, avoids_plain, passes_so}
 use Rattle.run_laws.proofs.CallSites.{answer_since, given_call, journal_at, outcome_at_end, own_since, plain_at, plan_done}
 use Rattle.plan_model.specs.CallPlans.{next}
 

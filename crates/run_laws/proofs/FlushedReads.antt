@@ -25,7 +25,8 @@ use Rattle.run_laws.specs.Steps.{AreAllowed, FeignsNoEnd}
 use Rattle.run_laws.proofs.AnewBack.{anew_back}
 use Rattle.run_laws.proofs.AnewRuns.{with_call_well}
 use Rattle.run_laws.proofs.BufferedBears.{bears_there}
-use Rattle.run_laws.proofs.CallRequests.{MayWrite, may_hold}
+use Rattle.run_laws.proofs.CallRequests.{may_hold}
+use Rattle.run_laws.proofs.AvoidedNames.{MayWrite}
 use Rattle.run_laws.proofs.FlushedLaws.{FlushedCalls, IsFlushed, held_passes, is_flushed}
 use Rattle.run_laws.proofs.OwnLaws.{has_call}
 use Rattle.run_laws.proofs.PlainRuns.{run_plain}

@@ -16,8 +16,10 @@ mod BufferedBears
 mod BufferedSites
 pub mod CallEnds
 mod PartMoves
+mod ContentMoves
 mod CallMoves
 pub mod CallRequests
+pub mod AvoidedNames
 mod CallSites
 pub mod CutLaws
 mod DeferredLaws
@@ -56,6 +58,7 @@ pub mod Placed
 pub mod PlainRuns
 mod PutLaws
 pub mod ReadLaws
+pub mod HandedLanes
 pub mod ReadsBackLaws
 pub mod RoundTripLaws
 mod RunBackLaws

@@ -34,7 +34,7 @@ use Rattle.run_laws.proofs.ListedLaws.{run_lists}
 use Rattle.run_laws.proofs.OpenedLaws.{WritesByGrant, opens_plain}
 use Rattle.run_laws.proofs.PlainRuns.{IsPlain, run_plain}
 use Rattle.run_laws.proofs.PutLaws.{run_puts}
-use Rattle.run_laws.proofs.ReadsBackLaws.{call_is, handed_in, outcome_is, test_between}
+use Rattle.run_laws.proofs.HandedLanes.{call_is, handed_in, outcome_is, test_between}
 
 pub run_lists_directories : (lanes : List Lane) (options : SftpOptions) (extensions : Extensions) (turns : List Turn)
     (past : List Entry) (config : ServerConfig) (choices : List Choice) (tree left : FileTree)

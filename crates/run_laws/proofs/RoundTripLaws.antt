@@ -73,7 +73,8 @@ use Rattle.run_laws.specs.RoundTrips.{HasGot, HasRead, HasWritten, IsOneLanes, N
 use Rattle.run_laws.proofs.CallEnds.{EndedByPlan, call_ended}
 use Rattle.run_laws.proofs.FlushedLaws.{held_passes}
 use Rattle.run_laws.proofs.OffRequests.{is_still}
-use Rattle.run_laws.proofs.CallRequests.{IsAsked, asked_own, avoids_plain, may_hold, off_asked, own_held, own_writes}
+use Rattle.run_laws.proofs.CallRequests.{IsAsked, asked_own, may_hold, off_asked, own_held}
+use Rattle.run_laws.proofs.AvoidedNames.{avoids_plain, own_writes}
 use Rattle.run_laws.proofs.LaneCalls.{all_more, all_own_still, each_is, plain_path}
 
 -- ---- a call that made no request

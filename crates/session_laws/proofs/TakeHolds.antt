@@ -116,7 +116,8 @@ take_holds s past lane id p a b r ts gs dues j is h =
         holder) [
           | inl has ↦ absurd (let owned = slots_owned s past lane g j
               (held_less (current s past lane) (own past lane (count_ended past lane)) (site_of s past lane) g has) in
-              let clash : ◌≡◌ {A = Bool} false true = ap is_granted (sym (ap (answer past) same ∙ waited)) ∙ owned.0 in cc)
+              let clash : ◌≡◌ {A = Bool} false true = ap is_granted (sym (ap (answer past) same ∙ waited)) ∙ owned.0 in
+              cc)
           | inr asks ↦ asks
         ]
 

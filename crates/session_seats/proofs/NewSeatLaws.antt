@@ -263,7 +263,8 @@ module _ {S : Type 0} (shown : S → Shown) (m p : Me S View) (h : HasTaken show
           names = ap (λ b. lane_in (if b then Some (seat_name (number_of m) (next_lane names h.now.seats)) else
               name_at h.now.seats (length h.now.seats))) (eq-eqb (length h.now.seats) (length h.now.seats) refl);
           made = own_none h.now.seats h.now.log h.took.lawful.named;
-          given = let there = h.took.there in gave-others (number_of m) (length h.now.seats) (next_lane names h.now.seats)
+          given = let there = h.took.there in gave-others (number_of m) (length h.now.seats)
+              (next_lane names h.now.seats)
               h.now.seats (λ same. absurd (omega arith)) ∙ gave_none (length h.now.seats) h.now.seats (omega arith)
               (omega arith) h.took.lawful.seated;
         }

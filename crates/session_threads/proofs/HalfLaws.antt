@@ -160,7 +160,8 @@ module _ {G : Ghosts Locked} (z : TableId) (hello : Reply) (olds news : List (Se
           → AllClaimsMove s q p.now.log (claims_of (home' ∷ sender' ∷ reader' ∷ []))
       three_move told = (
         seat_moves s q z p.now moves_none home home' (idle_moves s q (claim_by home').number) h
-            (from_test s q moves_none (claim_by home').number 0 (idle_moves s q (claim_by home').number) _ moved) told.0,
+            (from_test s q moves_none (claim_by home').number 0 (idle_moves s q (claim_by home').number) _ moved)
+            told.0,
         (
           seat_moves s q z p.now takes_none sender sender' (sender_moves s q) sends (nothing_made _ _ is_sender.new)
               told.1.0,

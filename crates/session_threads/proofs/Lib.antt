@@ -1,6 +1,7 @@
 mod MoveLaws
 mod FaultLaws
 mod RunLaws
+mod RunReports
 mod HalfLaws
 mod CountLaws
 mod OpenedLaws

@@ -14,7 +14,7 @@ use Rattle.session_threads.specs.Reports.{Ended, SendsHelloFirst, RunsOf, RunsSh
 use Rattle.session_threads.specs.RunEnds.{IsEnded}
 use Rattle.session_threads.specs.Running.{IsOf, SameMade}
 use Rattle.session_threads.proofs.HalfLaws.{halves_show}
-use Rattle.session_threads.proofs.RunLaws.{runs_made}
+use Rattle.session_threads.proofs.RunReports.{runs_made}
 
 pub runs_if : (lanes : List Lane) (options : SftpOptions) (first last : Sight) (r : Result SharedReport Error)
     → IsOf lanes options first → SameMade first last

@@ -42,4 +42,5 @@ mod LettingGo
 mod OneByOne
 mod Spending
 mod Growth
+mod EntrySpends
 mod TurnSpends

@@ -85,7 +85,8 @@ use Rattle.session_work.proofs.AskRests.{Midway, asked_rests, midway_self, relea
 use Rattle.session_work.proofs.Awaiting.{handles_awaited, none_own, own_awaited, holds_named}
 use Rattle.session_work.proofs.EndRests.{ended_rests, goes_rest, waits_rest}
 use Rattle.session_work.proofs.TurnLaws.{bears}
-use Rattle.session_work.proofs.TurnSpends.{AskMoves, SpendsOn, turn_spends}
+use Rattle.session_work.proofs.TurnSpends.{turn_spends}
+use Rattle.session_work.proofs.EntrySpends.{AskMoves, SpendsOn}
 use Rattle.session_work.proofs.Turned.{turns_keep}
 
 -- ---- the core after a poll
@@ -143,14 +144,15 @@ others_left : (past : List Entry) (lane k q : ℕ) (v : LaneValue) (r : Running)
     → IsRising (ticket_places v.tickets) → v.running ≡ Some r → awaited_place r v.site ≡ Some q
     → slice_get (ticket_places v.tickets) k ≡ Some q
     → (p : ℕ) → is_in p (without_index k (ticket_places v.tickets)) ≡ true → IsTransferAt past p
-others_left past lane k q v r a rise was looks here p has = elim (a.only p (in_left (ticket_places v.tickets) k p has)) [
-  | inl mine ↦ absurd (let at : awaited_place r v.site ≡ Some p = own_awaited r v.site p (ap own_place (sym was) ∙ mine)
-      in
-      let same : q ≡ p = (let e : ◌≡◌ {A = Option ℕ} (Some q) (Some p) = sym looks ∙ at in cc) in
-      let clash : false ≡ true = sym (without_self (ticket_places v.tickets) k q rise here)
-      ∙ (ap (λ (n : ℕ). is_in n (without_index k (ticket_places v.tickets))) same ∙ has) in cc)
-  | inr t ↦ t
-]
+others_left past lane k q v r a rise was looks here p has =
+    elim (a.only p (in_left (ticket_places v.tickets) k p has)) [
+      | inl mine ↦ absurd (let at : awaited_place r v.site ≡ Some p =
+          own_awaited r v.site p (ap own_place (sym was) ∙ mine) in
+          let same : q ≡ p = (let e : ◌≡◌ {A = Option ℕ} (Some q) (Some p) = sym looks ∙ at in cc) in
+          let clash : false ≡ true = sym (without_self (ticket_places v.tickets) k q rise here)
+          ∙ (ap (λ (n : ℕ). is_in n (without_index k (ticket_places v.tickets))) same ∙ has) in cc)
+      | inr t ↦ t
+    ]
 
 -- ---- a call that waits for a reply that a slot awaits
 

@@ -98,7 +98,8 @@ done_tied s past c new lanes lane now o h d j calm none ec et eg ee goes =
       tied = λ next. subst (λ (ds : List ℕ). AreDueGrants s (e ∷ past) ds
           × SessionTied s (e ∷ past) new (with_lane lanes lane (ended_lane now now.site)) ds) due (
             end_dues s past lane o v.tickets v.grants j d h.holds none,
-            subst (λ (x : Core). SessionTied s (e ∷ past) x (with_lane lanes lane (ended_lane now now.site)) dues) (sym ec)
+            subst (λ (x : Core). SessionTied s (e ∷ past) x (with_lane lanes lane (ended_lane now now.site)) dues)
+                (sym ec)
                 (subst (λ (x : LaneValue). SessionTied s (e ∷ past) c (with_lane lanes lane x) dues) same
                 (tied_at s (e ∷ past) c lanes lane (ended_lane v now.site) dues
                 (end_holding s past c lanes lane o now.site h next) (goes.1 j calm))),

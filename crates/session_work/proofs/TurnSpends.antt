@@ -1,21 +1,39 @@
 -- A turn of a lane leaves its session with no more ids than its lanes may keep.
-use Rattle.std.proofs.Common.{◌≡◌, ◌<◌, ◌≤◌, ◌+◌, ℕ, Bool, true, false, List, [], ◌∷◌, ◌++◌, Option, Some, None, refl, ap, sym, ◌∙◌, subst, arith, inl, inr}
+use Rattle.std.proofs.Common.{
+  ◌≡◌,
+  ◌<◌,
+  ◌≤◌,
+  ◌+◌,
+  ℕ,
+  Bool,
+  true,
+  false,
+  List,
+  [],
+  ◌∷◌,
+  Option,
+  Some,
+  None,
+  refl,
+  ap,
+  sym,
+  ◌∙◌,
+  subst,
+  arith,
+  inl,
+  inr,
+}
 use Rattle.std.specs.Prelude.{◌⊎◌, length, slice_get}
-use Rattle.std.proofs.lemmas.Bool.Decides.{eqb_tells}
-use Rattle.std.proofs.lemmas.List.{length-append}
-use Rattle.sftp_model.specs.declared.outcome.Outcome.{Outcome}
 use Rattle.sftp_model.specs.declared.reply.Reply.{Reply}
 use Rattle.sftp_model.specs.declared.reply.Reply.TheVariants as reply
 use Rattle.sftp_model.specs.declared.request.Request.{Request}
 use Rattle.sftp_model.specs.declared.slot.Site.{Site}
-use Rattle.sftp_model.specs.declared.slot.Move.TheVariants.{Ask, Wait, Done}
+use Rattle.sftp_model.specs.declared.slot.Move.TheVariants.{Ask}
 use Rattle.sftp_core.specs.Core.{Core, record_at}
 use Rattle.sftp_core.specs.declared.id_record.IdRecord.TheVariants.{Granted}
 use Rattle.sftp_core.specs.Table.{handle_in_reply}
 use Rattle.plan_model.specs.Moves.{Own}
-use Rattle.plan_model.specs.RequestCounts.{work}
 use Rattle.plan_runner.specs.declared.next.Asked.{Asked as Ask_of}
-use Rattle.plan_runner.specs.declared.next.Asked.TheVariants as ask
 use Rattle.plan_runner.specs.declared.next.Next.{Next}
 use Rattle.plan_runner.specs.declared.next.Next.TheVariants as step
 use Rattle.plan_runner.specs.declared.next.Running.{Running}
@@ -24,7 +42,6 @@ use Rattle.plan_runner.specs.Asking.{
   BeginsAsking,
   GoesOnAsking,
   GoesOnBy,
-  IsNoClose,
   LooksForReply,
   OwnOn,
   ReadsOn,
@@ -35,33 +52,25 @@ use Rattle.plan_runner.specs.Asking.{
 }
 use Rattle.plan_runner.specs.Runners.{awaited_place}
 use Rattle.plan_runner.specs.Pending.{own_place, reads_under}
-use Rattle.plan_window.specs.declared.window.ReadAt.{ReadAt}
 use Rattle.plan_model.specs.declared.call.Call.{Call}
-use Rattle.session_model.specs.declared.event.Event.TheVariants.{End}
 use Rattle.session_model.specs.declared.entry.Entry.{Entry}
-use Rattle.session_model.specs.declared.entry.Entry.TheVariants as entry
-use Rattle.session_model.specs.Readings.{AskedRequest, answer, count_submitted, asked_at, count_ended, own}
+use Rattle.session_model.specs.Readings.{answer, count_submitted, asked_at, count_ended, own}
 use Rattle.session_model.specs.Calls.{Setting, current, move_at, move_of, site_of}
 use Rattle.session_model.specs.Grants.{is_asked_by, is_grant, is_granted}
-use Rattle.session_model.specs.Journals.{IsJournal}
-use Rattle.session_model.proofs.CallLaws.{ended_end}
-use Rattle.session_model.proofs.HolderLaws.{own_asked}
-use Rattle.session_laws.specs.Changes.{ended_lane, with_lane}
+use Rattle.session_laws.specs.Changes.{with_lane}
 use Rattle.session_laws.specs.Lanes.{AtTied, Held, LaneTied, LaneValue, Ticketed, ticket_places}
 use Rattle.session_laws.specs.Places.{is_in}
 use Rattle.session_laws.specs.Running.{own_request}
-use Rattle.session_laws.proofs.HandleLaws.{first_stands, grant_expected}
 use Rattle.session_laws.proofs.HoldLaws.{of_in, ticket_index}
 use Rattle.session_laws.proofs.LaneLaws.{grants_count, replies_agree}
 use Rattle.session_laws.proofs.PlaceLaws.{at_in}
-use Rattle.session_laws.specs.Budgets.{CallSpends, IsLast, LaneSpends, KeepsIdBudget, budget, budget_of, in_hand, kept_ids, makes_many, spending_of, stands_in, used_in}
+use Rattle.session_laws.specs.Budgets.{CallSpends, KeepsIdBudget, kept_ids, makes_many, stands_in}
 use Rattle.session_laws.specs.Rest.{AtRest, LaneAsks}
 use Rattle.session_laws.proofs.AskedLaws.{awaits_own, granted_own}
-use Rattle.session_laws.proofs.BudgetLaws.{spending_end, spending_mine, spending_submit, spends_end, spends_step, spends_with, with_request}
-use Rattle.session_laws.proofs.KeptLaws.{kept_ask, kept_polled, kept_released}
+use Rattle.session_laws.proofs.BudgetLaws.{spends_with}
+use Rattle.session_laws.proofs.KeptLaws.{kept_polled}
 use Rattle.session_work.specs.Rests.{AsksFew}
 use Rattle.session_work.specs.Turning.{
-  AsksOrCloses,
   IsActive,
   SettlesMove,
   TurnBegins,
@@ -90,149 +99,19 @@ use Rattle.session_work.proofs.Growth.{
   widened_grows,
 }
 use Rattle.session_work.proofs.OneByOne.{is_whole, one_by_one}
-use Rattle.session_work.proofs.Spending.{after_none, asked_call, awaited_first, opened_none, own_no_window}
+use Rattle.session_work.proofs.Spending.{after_none, awaited_first, opened_none, own_no_window}
+use Rattle.session_work.proofs.EntrySpends.{
+  SpendsOn,
+  AskMoves,
+  submits_kept,
+  asks_kept,
+  only_one,
+  asked_spends,
+  went_spends,
+  done_spends,
+  held_by,
+}
 use Rattle.plan_model.specs.CallPlans.{next}
-
--- ---- what is so behind a turn
-
--- behind a turn's entry no more ids are kept than may be
-abbrev pub SpendsOn : Setting → List Entry → Core → (ℕ → LaneValue) → ℕ → LaneValue → Moved → Type 0
-SpendsOn s past new lanes lane now moved.Waits = KeepsIdBudget s past new (with_lane lanes lane now)
-SpendsOn s past new lanes lane now moved.Went = KeepsIdBudget s past new (with_lane lanes lane now)
-SpendsOn s past new lanes lane now (moved.Asked id q) = KeepsIdBudget s (own_request past lane id q ∷ past) new (with_lane lanes lane now)
-SpendsOn s past new lanes lane now (moved.Ended o) = KeepsIdBudget s (entry.Event (End lane (count_ended past lane) o) ∷ past) new
-    (with_lane lanes lane (ended_lane now now.site))
-
--- what a turn asked is the lane's move
-abbrev pub AskMoves : Setting → List Entry → ℕ → Moved → Type 0
-AskMoves s past lane (moved.Asked id q) = move_of s past lane ≡ Some (Ask q)
-AskMoves s past lane other = Unit {0}
-
--- ---- what the core keeps
-
-submits_kept : (old new : Core) (tickets now : List Ticketed) (grants held : List Held) (place : ℕ) (a : Ask_of)
-    (id : ℕ) (q : Request) → IsNoClose a → AsksOrCloses old new tickets now grants held place a id q → kept_ids new ≤ kept_ids old + 1
-submits_kept old new tickets now grants held place (ask.Close g) id q plain x = absurd plain
-submits_kept old new tickets now grants held place other id q plain x = subst (λ (y : Core). kept_ids y ≤ kept_ids old + 1) (sym x.core) (kept_ask old id q true)
-
-asks_kept : (old new : Core) (tickets now : List Ticketed) (grants held : List Held) (place : ℕ) (a : Ask_of) (id : ℕ)
-    (q : Request) → ((k : ℕ) (h : Held) → slice_get grants k ≡ Some h → record_at old h.grant.id
-    ≡ Some (Granted h.grant.handle 1))
-    → AsksOrCloses old new tickets now grants held place a id q → kept_ids new ≤ kept_ids old + 1
-asks_kept old new tickets now grants held place (ask.Close g) id q stands x =
-    (let same = kept_released old x.grant (stands x.k (record { place = g; grant = x.grant }) x.here) in let is = ap kept_ids x.core in omega (arith, same, is))
-asks_kept old new tickets now grants held place other id q stands x = submits_kept old new tickets now grants held place other id q tt x
-
--- ---- a HANDLE comes to the first request of its call
-
-only_one : (s : Setting) (past : List Entry) (lane p : ℕ) (a : AskedRequest) → IsJournal s past → asked_at past p ≡ Some a
-    → is_grant past p ≡ true → is_asked_by (asked_at past p) lane (count_ended past lane) ≡ true
-    → IsLast (own past lane (count_ended past lane)) p → length (own past lane (count_ended past lane)) ≡ 1
-only_one s past lane p a j there grant mine last = by_front last.prefix refl
-  where
-    all : Own
-    all = own past lane (count_ended past lane)
-
-    by_front : (prefix : Own) → last.prefix ≡ prefix → length all ≡ 1
-    by_front [] is = (let whole : all ≡ (p, last.request) ∷ [] = last.is ∙ ap (λ (f : Own). f ++ (p, last.request) ∷ []) is in ap length whole)
-    by_front (b ∷ prefix) is =
-        absurd (let in_front : stands_in last.prefix b.0 ≡ true = ap (λ (f : Own). stands_in f b.0) is ∙ self b prefix in
-        let below : b.0 < p = last.below b.0 in_front in
-        let whole : all ≡ (b ∷ prefix) ++ (p, last.request) ∷ [] = last.is ∙ ap (λ (f : Own). f ++ (p, last.request) ∷ []) is in
-        let in_all : stands_in all b.0 ≡ true = ap (λ (f : Own). stands_in f b.0) whole ∙ self b (prefix ++ (p, last.request) ∷ []) in
-        let asks : is_asked_by (asked_at past b.0) lane (count_ended past lane) ≡ true = own_asked past lane (count_ended past lane) b.0 in_all in
-        let first : p ≤ b.0 = first_stands s past lane (count_ended past lane) p b.0 a j there (grant_expected s past p a j grant there) mine asks in
-        omega (arith, below, first))
-      where
-        self : (x : ℕ × Request) (rest : Own) → stands_in (x ∷ rest) x.0 ≡ true
-        self x rest = elim (eqb_tells x.0 x.0) [
-          | inl t ↦ rw t.0 refl
-          | inr t ↦ absurd (t.1 refl)
-        ]
-
--- ---- the entries of a turn
-
-asked_spends : (s : Setting) (past : List Entry) (core new : Core) (lanes : ℕ → LaneValue) (lane id : ℕ) (c : Call)
-    (q : Request) (a : Ask_of) (r : Running) (now : LaneValue) (opened : Option ℕ) (reads : List ReadAt) (old : Site)
-    (d : ℕ) → KeepsIdBudget s past core lanes → lane < length s.lanes → current s past lane ≡ Some c
-    → length (own past lane (count_ended past lane)) < work c s.facts
-    → AsksOrDefers opened (count_submitted past) reads old now.site a r
-    → AskGrows s.facts c (own past lane (count_ended past lane)) (lanes lane).running (count_submitted past, q) r d → now.running
-    ≡ Some r → kept_ids new ≤ kept_ids core + d
-    → KeepsIdBudget s (own_request past lane id q ∷ past) new (with_lane lanes lane now)
-asked_spends s past core new lanes lane id c q a r now opened reads old d x there is few asks grows was less =
-    spends_step s past after core new lanes lane d 0 now there (λ l ne. spending_submit s past l lane (count_ended past lane) id q (lanes l).running ne)
-    (subst (LaneSpends s.facts) (sym mine_is) holds) used (omega (arith, less)) x
-  where
-    after : List Entry
-    after = own_request past lane id q ∷ past
-
-    mine : Own
-    mine = own past lane (count_ended past lane)
-
-    mine_is : spending_of s after lane now.running ≡ with_request (spending_of s past lane (lanes lane).running) (count_submitted past, q) (Some r)
-    mine_is = ap (λ (o : Option Running). spending_of s after lane o) was ∙ spending_mine s past lane id q (lanes lane).running (Some r)
-
-    holds : LaneSpends s.facts (with_request (spending_of s past lane (lanes lane).running) (count_submitted past, q) (Some r))
-    holds d r1 is1 some =
-        (let call : c ≡ d = (let both : ◌≡◌ {A = Option Call} (Some c) (Some d) = sym is ∙ is1 in cc) in
-        let run : r ≡ r1 = cc some in
-        subst (λ (x1 : Call). CallSpends s.facts x1 (mine ++ (count_submitted past, q) ∷ []) r1) call
-        (subst (λ (x1 : Running). CallSpends s.facts c (mine ++ (count_submitted past, q) ∷ []) x1) run
-        (asked_call s.facts c past lane (count_ended past lane) q a r asks.awaits few grows.kind grows.reads)))
-
-    used : used_in s.facts (spending_of s past lane (lanes lane).running) + d ≤ used_in s.facts (spending_of s after lane now.running) + 0
-    used =
-        (let most : budget_of s.facts (current s past lane) ≡ budget c s.facts = ap (budget_of s.facts) is in
-        let more : length (mine ++ (count_submitted past, q) ∷ []) ≡ length mine + 1 = length-append mine ((count_submitted past, q) ∷ []) in
-        let hand : in_hand (budget_of s.facts (current s past lane)) (lanes lane).running (length mine) + d ≤ in_hand
-        (budget_of s.facts (current s past lane)) (Some r) (length (mine ++ (count_submitted past, q) ∷ [])) =
-        subst (λ (n : ℕ). in_hand n (lanes lane).running (length mine) + d ≤ in_hand n (Some r) (length (mine ++ (count_submitted past, q) ∷ []))) (sym most)
-        (subst (λ (n : ℕ). in_hand (budget c s.facts) (lanes lane).running (length mine) + d ≤ in_hand (budget c s.facts) (Some r) n) (sym more) grows.hand) in
-        let same = ap (used_in s.facts) mine_is in
-        omega (arith, hand, same))
-
-went_spends : (s : Setting) (past : List Entry) (core new : Core) (lanes : ℕ → LaneValue) (lane : ℕ) (c : Call)
-    (r : Running) (now : LaneValue) (e : ℕ) → KeepsIdBudget s past core lanes → lane < length s.lanes → current s past lane
-    ≡ Some c
-    → WaitGrows s.facts c (own past lane (count_ended past lane)) (lanes lane).running r e → now.running ≡ Some r
-    → kept_ids new + e ≤ kept_ids core → KeepsIdBudget s past new (with_lane lanes lane now)
-went_spends s past core new lanes lane c r now e x there is grows was less =
-    spends_step s past past core new lanes lane 0 e now there (λ l ne. refl) holds used (omega (arith, less)) x
-  where
-    mine : Own
-    mine = own past lane (count_ended past lane)
-
-    holds : LaneSpends s.facts (spending_of s past lane now.running)
-    holds d r1 is1 some =
-        (let call : c ≡ d = (let both : ◌≡◌ {A = Option Call} (Some c) (Some d) = sym is ∙ is1 in cc) in
-        let run : r ≡ r1 = (let both : ◌≡◌ {A = Option Running} (Some r) (Some r1) = sym was ∙ some in cc) in
-        subst (λ (x1 : Call). CallSpends s.facts x1 mine r1) call (subst (λ (x1 : Running). CallSpends s.facts c mine x1) run grows.spends))
-
-    used : used_in s.facts (spending_of s past lane (lanes lane).running) + 0 ≤ used_in s.facts (spending_of s past lane now.running) + e
-    used =
-        (let most : budget_of s.facts (current s past lane) ≡ budget c s.facts = ap (budget_of s.facts) is in
-        let hand : in_hand (budget_of s.facts (current s past lane)) (lanes lane).running (length mine) ≤ in_hand
-        (budget_of s.facts (current s past lane)) now.running (length mine) + e =
-        subst (λ (n : ℕ). in_hand n (lanes lane).running (length mine) ≤ in_hand n now.running (length mine) + e) (sym most)
-        (subst (λ (o : Option Running). in_hand (budget c s.facts) (lanes lane).running (length mine) ≤ in_hand
-        (budget c s.facts) o (length mine) + e) (sym was) grows.hand) in
-        omega (arith, hand))
-
-done_spends : (s : Setting) (past : List Entry) (core new : Core) (lanes : ℕ → LaneValue) (lane : ℕ) (c : Call)
-    (o : Outcome) (now : LaneValue) → KeepsIdBudget s past core lanes → lane < length s.lanes → current s past lane ≡ Some c
-    → kept_ids new ≤ kept_ids core
-    → KeepsIdBudget s (entry.Event (End lane (count_ended past lane) o) ∷ past) new (with_lane lanes lane (ended_lane now now.site))
-done_spends s past core new lanes lane c o now x there is less =
-    spends_end s past (entry.Event (End lane (count_ended past lane) o) ∷ past) core new lanes lane c
-    (ended_lane now now.site) there is (λ l ne. spending_end s past l lane (count_ended past lane) o (lanes l).running ne)
-    refl (ended_end past lane (count_ended past lane) o) refl less x
-
--- what the lane's call is, where it runs
-held_by : (s : Setting) (past : List Entry) (core : Core) (lanes : ℕ → LaneValue) (lane : ℕ) (c : Call) (r : Running)
-    → KeepsIdBudget s past core lanes → lane < length s.lanes → current s past lane ≡ Some c → (lanes lane).running ≡ Some r
-    → CallSpends s.facts c (own past lane (count_ended past lane)) r
-held_by s past core lanes lane c r x there is was = x.each lane there c r is was
 
 -- ---- each kind of turn
 
@@ -240,7 +119,8 @@ begun_spends : (s : Setting) (past : List Entry) (core new : Core) (lanes : ℕ 
     (c : Call) (now : LaneValue) (m : Moved) → AtRest s past core lanes begun → lane < length s.lanes
     → current s past lane ≡ Some c → AsksFew s past lane c → AskMoves s past lane m
     → TurnBegins c s.facts (count_submitted past) core new (lanes lane) now m → SpendsOn s past new lanes lane now m
-begun_spends s past core new lanes begun lane c now m h there is few move x = by_answer x.answer m x.asks x.own x.settles move
+begun_spends s past core new lanes begun lane c now m h there is few move x =
+    by_answer x.answer m x.asks x.own x.settles move
   where
     v : LaneValue
     v = lanes lane
@@ -254,17 +134,21 @@ begun_spends s past core new lanes begun lane c now m h there is few move x = by
     none : mine ≡ []
     none = (subst (λ (o : Option Running). AtTied s past lane o v.site) x.was l.goes.runs).0
 
-    stands : (k : ℕ) (g : Held) → slice_get v.grants k ≡ Some g → record_at core g.grant.id ≡ Some (Granted g.grant.handle 1)
+    stands : (k : ℕ) (g : Held) → slice_get v.grants k ≡ Some g → record_at core g.grant.id
+        ≡ Some (Granted g.grant.handle 1)
     stands k g got = grants_count s past core lanes [] lane k g h.between.tied there got
 
     by_answer : (n : Next) (m : Moved) → BeginsAsking None (count_submitted past) v.site now.site n
-        → (makes_many c ≡ true → OwnOn (count_submitted past) n) → SettlesMove core new v.tickets now.tickets v.grants now.grants
+        → (makes_many c ≡ true → OwnOn (count_submitted past) n)
+        → SettlesMove core new v.tickets now.tickets v.grants now.grants
         now.running (count_submitted past) n m → AskMoves s past lane m
         → SpendsOn s past new lanes lane now m
     by_answer (step.Ask a r) (moved.Asked id q) asks own_on settles move =
-        asked_spends s past core new lanes lane id c q a r now None [] v.site 1 h.between.spends there is (few q move) asks
+        asked_spends s past core new lanes lane id c q a r now None [] v.site 1 h.between.spends there is (few q move)
+        asks
         (subst (λ (o : Option Running). AskGrows s.facts c mine o (count_submitted past, q) r 1) (sym x.was)
-        (begins_grow s.facts c mine (count_submitted past) q r none own_on (opened_none r None asks.keeps refl))) settles.1
+        (begins_grow s.facts c mine (count_submitted past) q r none own_on (opened_none r None asks.keeps refl)))
+        settles.1
         (asks_kept core new v.tickets now.tickets v.grants now.grants (count_submitted past) a id q stands settles.0)
     by_answer (step.Ask a r) moved.Waits asks own_on settles move = absurd settles
     by_answer (step.Ask a r) moved.Went asks own_on settles move = absurd settles
@@ -277,13 +161,15 @@ begun_spends s past core new lanes begun lane c now m h there is few move x = by
         (let same = ap kept_ids settles.0.core in omega (arith, same)))
     by_answer (step.Done o) m asks own_on settles move =
         subst (λ (y : Moved). SpendsOn s past new lanes lane now y) (sym settles.2)
-        (done_spends s past core new lanes lane c o now h.between.spends there is (let same = ap kept_ids settles.0.core in omega (arith, same)))
+        (done_spends s past core new lanes lane c o now h.between.spends there is
+        (let same = ap kept_ids settles.0.core in omega (arith, same)))
 
 replied_spends : (s : Setting) (past : List Entry) (core new : Core) (lanes : ℕ → LaneValue) (begun : ℕ → Bool)
     (lane : ℕ) (c : Call) (now : LaneValue) (m : Moved) → AtRest s past core lanes begun → lane < length s.lanes
     → current s past lane ≡ Some c → AsksFew s past lane c → AskMoves s past lane m
     → TurnReplied c s.facts (count_submitted past) core new (lanes lane) now m → SpendsOn s past new lanes lane now m
-replied_spends s past core new lanes begun lane c now m h there is few move x = by_answer x.answer m x.asks x.by x.settles move
+replied_spends s past core new lanes begun lane c now m h there is few move x =
+    by_answer x.answer m x.asks x.by x.settles move
   where
     v : LaneValue
     v = lanes lane
@@ -297,8 +183,10 @@ replied_spends s past core new lanes begun lane c now m h there is few move x = 
     holds : CallSpends s.facts c mine x.running
     holds = held_by s past core lanes lane c x.running h.between.spends there is x.was
 
-    polled : (kept_ids x.between ≤ kept_ids core) × (handle_in_reply x.reply ≡ None → kept_ids x.between + 1 ≤ kept_ids core)
-    polled = subst (λ (y : Core). (kept_ids y ≤ kept_ids core) × (handle_in_reply x.reply ≡ None → kept_ids y + 1 ≤ kept_ids core))
+    polled : (kept_ids x.between ≤ kept_ids core) × (handle_in_reply x.reply ≡ None
+        → kept_ids x.between + 1 ≤ kept_ids core)
+    polled = subst (λ (y : Core). (kept_ids y ≤ kept_ids core)
+        × (handle_in_reply x.reply ≡ None → kept_ids y + 1 ≤ kept_ids core))
         (sym x.spent.core) (kept_polled core x.spent.ticket x.reply x.spent.came)
 
     spent : Ticketed
@@ -308,46 +196,60 @@ replied_spends s past core new lanes begun lane c now m h there is few move x = 
     has = at_in (ticket_places v.tickets) x.spent.k x.awaits (ticket_index v.tickets x.spent.k spent x.spent.here)
 
     -- a HANDLE came to the call's first request, which is its last
-    first : (handle : List ℕ) → handle_in_reply x.reply ≡ Some handle → (own_place (Some x.running) ≡ Some x.awaits) × (length mine ≡ 1)
+    first : (handle : List ℕ) → handle_in_reply x.reply ≡ Some handle → (own_place (Some x.running) ≡ Some x.awaits)
+        × (length mine ≡ 1)
     first handle some =
         (let got : answer past x.awaits ≡ Some x.reply = sym (replies_agree s past core lanes [] lane x.spent.k spent
         h.between.tied there x.spent.here) ∙ x.spent.came in
         let grant : is_grant past x.awaits ≡ true = ap is_granted got ∙ brought x.reply handle some in
         let a : LaneAsks past lane v = h.between.asks lane there in
-        let awaits : own_place v.running ≡ Some x.awaits = granted_own s past lane x.awaits v h.between.good.run a has grant in
+        let awaits : own_place v.running ≡ Some x.awaits = granted_own s past lane x.awaits v h.between.good.run a has
+        grant in
         let mine_at : own_place (Some x.running) ≡ Some x.awaits = ap own_place (sym x.was) ∙ awaits in
-        let asker : is_asked_by (asked_at past x.awaits) lane (count_ended past lane) ≡ true = awaits_own past lane x.awaits v l.ends a awaits in
-        let who = of_in past lane (ticket_places v.tickets) x.awaits l.holds.tied_of has in
-        (mine_at, only_one s past lane x.awaits who.0 h.between.good.run who.1.0 grant asker (holds.last x.awaits mine_at)))
+        let asker : is_asked_by (asked_at past x.awaits) lane (count_ended past lane) ≡ true =
+        awaits_own past lane x.awaits v l.ends a awaits in
+        let who = of_in past lane (ticket_places v.tickets) x.awaits l.holds.tied_of has in (
+          mine_at,
+          only_one s past lane x.awaits who.0 h.between.good.run who.1.0 grant asker
+              (holds.last x.awaits mine_at),
+        ))
       where
         brought : (y : Reply) (handle : List ℕ) → handle_in_reply y ≡ Some handle → is_granted (Some y) ≡ true
         brought (reply.Handle other) handle e = refl
         brought other handle e = absurd cc
 
     asked_by : (a : Ask_of) (r : Running) (id : ℕ) (q : Request)
-        → AsksOrDefers (opened_after x.running (Some x.reply)) (count_submitted past) (reads_under (Some x.running)) v.site
+        → AsksOrDefers (opened_after x.running (Some x.reply)) (count_submitted past) (reads_under (Some x.running))
+        v.site
         now.site a r → GoesOnBy x.running (Some x.reply) (count_submitted past) s.facts (step.Ask a r)
         → now.running ≡ Some r → kept_ids new ≤ kept_ids x.between + 1 → move_of s past lane ≡ Some (Ask q)
         → KeepsIdBudget s (own_request past lane id q ∷ past) new (with_lane lanes lane now)
     asked_by a r id q asks by was less move = by_brought (handle_in_reply x.reply) refl
       where
-        on : (d : ℕ) → AskGrows s.facts c mine (Some x.running) (count_submitted past, q) r d → kept_ids new ≤ kept_ids core + d
+        on : (d : ℕ) → AskGrows s.facts c mine (Some x.running) (count_submitted past, q) r d
+            → kept_ids new ≤ kept_ids core + d
             → KeepsIdBudget s (own_request past lane id q ∷ past) new (with_lane lanes lane now)
         on d grows le =
             asked_spends s past core new lanes lane id c q a r now (opened_after x.running (Some x.reply))
             (reads_under (Some x.running)) v.site d h.between.spends there is (few q move) asks
-            (subst (λ (o : Option Running). AskGrows s.facts c mine o (count_submitted past, q) r d) (sym x.was) grows) was le
+            (subst (λ (o : Option Running). AskGrows s.facts c mine o (count_submitted past, q) r d) (sym x.was) grows)
+            was le
 
-        by_brought : (b : Option (List ℕ)) → handle_in_reply x.reply ≡ b → KeepsIdBudget s (own_request past lane id q ∷ past) new (with_lane lanes lane now)
+        by_brought : (b : Option (List ℕ)) → handle_in_reply x.reply ≡ b
+            → KeepsIdBudget s (own_request past lane id q ∷ past) new (with_lane lanes lane now)
         by_brought (Some handle) some =
             (let f = first handle some in let le = polled.0 in
-            on 1 (granted_grows s.facts c mine x.running x.reply (count_submitted past) q a r x.awaits f.0 f.1 by) (omega (arith, less, le)))
+            on 1 (granted_grows s.facts c mine x.running x.reply (count_submitted past) q a r x.awaits f.0 f.1 by)
+            (omega (arith, less, le)))
         by_brought None none =
             (let le = polled.1 none in
-            on 0 (plain_grows s.facts c mine x.running v.site x.reply (count_submitted past) q a r x.awaits holds x.looks none asks.keeps by) (omega (arith, less, le)))
+            on 0 (plain_grows s.facts c mine x.running v.site x.reply (count_submitted past) q a r x.awaits holds
+            x.looks none asks.keeps by) (omega (arith, less, le)))
 
-    waits_by : (r : Running) → LooksForReply (opened_after x.running (Some x.reply)) (reads_under (Some x.running)) now.site r
-        → GoesOnBy x.running (Some x.reply) (count_submitted past) s.facts (step.Wait r) → now.running ≡ Some r → new ≡ x.between
+    waits_by : (r : Running) → LooksForReply (opened_after x.running (Some x.reply)) (reads_under (Some x.running))
+        now.site r
+        → GoesOnBy x.running (Some x.reply) (count_submitted past) s.facts (step.Wait r) → now.running ≡ Some r → new
+        ≡ x.between
         → KeepsIdBudget s past new (with_lane lanes lane now)
     waits_by r looks by was same =
         elim (plain_waits s.facts c mine x.running v.site now.site x.reply (count_submitted past) x.awaits
@@ -356,23 +258,27 @@ replied_spends s past core new lanes begun lane c now m h there is few move x = 
           | inr grows ↦ on 1 grows.1 (let le = polled.1 grows.0 in let eq = ap kept_ids same in omega (arith, le, eq))
         ]
       where
-        on : (e : ℕ) → WaitGrows s.facts c mine (Some x.running) r e → kept_ids new + e ≤ kept_ids core → KeepsIdBudget s past new (with_lane lanes lane now)
+        on : (e : ℕ) → WaitGrows s.facts c mine (Some x.running) r e → kept_ids new + e ≤ kept_ids core
+            → KeepsIdBudget s past new (with_lane lanes lane now)
         on e grows le = went_spends s past core new lanes lane c r now e h.between.spends there is
             (subst (λ (o : Option Running). WaitGrows s.facts c mine o r e) (sym x.was) grows) was le
 
         plain : (handle_in_reply x.reply ≡ None) ⊎ (is_window x.running ≡ false)
         plain = by_brought (handle_in_reply x.reply) refl
           where
-            by_brought : (b : Option (List ℕ)) → handle_in_reply x.reply ≡ b → (handle_in_reply x.reply ≡ None) ⊎ (is_window x.running ≡ false)
+            by_brought : (b : Option (List ℕ)) → handle_in_reply x.reply ≡ b → (handle_in_reply x.reply ≡ None)
+                ⊎ (is_window x.running ≡ false)
             by_brought None e = inl e
             by_brought (Some handle) e = inr (own_no_window x.running x.awaits (first handle e).0)
 
     by_answer : (n : Next) (m : Moved) → GoesOnAsking (opened_after x.running (Some x.reply)) (count_submitted past)
-        (reads_under (Some x.running)) v.site now.site n → GoesOnBy x.running (Some x.reply) (count_submitted past) s.facts n
+        (reads_under (Some x.running)) v.site now.site n → GoesOnBy x.running (Some x.reply) (count_submitted past)
+        s.facts n
         → SettlesMove x.between new x.tickets now.tickets x.grants now.grants now.running (count_submitted past) n m
         → AskMoves s past lane m → SpendsOn s past new lanes lane now m
     by_answer (step.Ask a r) (moved.Asked id q) asks by settles move =
-        asked_by a r id q asks.0 by settles.1 (submits_kept x.between new x.tickets now.tickets x.grants now.grants (count_submitted past) a id q asks.1 settles.0) move
+        asked_by a r id q asks.0 by settles.1 (submits_kept x.between new x.tickets now.tickets x.grants now.grants
+        (count_submitted past) a id q asks.1 settles.0) move
     by_answer (step.Ask a r) moved.Waits asks by settles move = absurd settles
     by_answer (step.Ask a r) moved.Went asks by settles move = absurd settles
     by_answer (step.Ask a r) (moved.Ended o) asks by settles move = absurd settles
@@ -400,7 +306,8 @@ unreplied_spends s past core new lanes begun lane c now m h there is few move x 
     holds : CallSpends s.facts c mine x.running
     holds = held_by s past core lanes lane c x.running h.between.spends there is x.was
 
-    by_answer : (n : Next) (m : Moved) → GoesOnAsking (opened_by x.running) (count_submitted past) (reads_under (Some x.running))
+    by_answer : (n : Next) (m : Moved) → GoesOnAsking (opened_by x.running) (count_submitted past)
+        (reads_under (Some x.running))
         v.site now.site n → GoesOnBy x.running None (count_submitted past) s.facts n
         → SettlesMove core new v.tickets now.tickets v.grants now.grants now.running (count_submitted past) n m
         → AskMoves s past lane m → SpendsOn s past new lanes lane now m
@@ -408,7 +315,8 @@ unreplied_spends s past core new lanes begun lane c now m h there is few move x 
         asked_spends s past core new lanes lane id c q a r now (opened_by x.running) (reads_under (Some x.running))
         v.site 1 h.between.spends there is (few q move) asks.0
         (subst (λ (o : Option Running). AskGrows s.facts c mine o (count_submitted past, q) r 1) (sym x.was)
-        (unreplied_grows s.facts c mine x.running v.site (count_submitted past) q a r holds (few q move) x.looks asks.0.keeps
+        (unreplied_grows s.facts c mine x.running v.site (count_submitted past) q a r holds (few q move) x.looks
+        asks.0.keeps
         by)) settles.1
         (submits_kept core new v.tickets now.tickets v.grants now.grants (count_submitted past) a id q asks.1 settles.0)
     by_answer (step.Ask a r) moved.Waits asks by settles move = absurd settles
@@ -418,16 +326,19 @@ unreplied_spends s past core new lanes begun lane c now m h there is few move x 
         subst (λ (y : Moved). SpendsOn s past new lanes lane now y) (sym settles.2)
         (went_spends s past core new lanes lane c r now 0 h.between.spends there is
         (subst (λ (o : Option Running). WaitGrows s.facts c mine o r 0) (sym x.was)
-        (unreplied_waits s.facts c mine x.running v.site now.site (count_submitted past) (reads_under (Some x.running)) r
+        (unreplied_waits s.facts c mine x.running v.site now.site (count_submitted past) (reads_under (Some x.running))
+        r
         holds x.looks asks.0 by)) settles.1
         (let same = ap kept_ids settles.0.core in omega (arith, same)))
     by_answer (step.Done o) m asks by settles move =
         subst (λ (y : Moved). SpendsOn s past new lanes lane now y) (sym settles.2)
-        (done_spends s past core new lanes lane c o now h.between.spends there is (let same = ap kept_ids settles.0.core in omega (arith, same)))
+        (done_spends s past core new lanes lane c o now h.between.spends there is
+        (let same = ap kept_ids settles.0.core in omega (arith, same)))
 
 -- a call that asks one by one asks nothing while the reply that it awaits is missing
 alone : (s : Setting) (past : List Entry) (lane p : ℕ) (c : Call) (r : Running) (q : Request) (site : Site)
-    → current s past lane ≡ Some c → CallSpends s.facts c (own past lane (count_ended past lane)) r → awaited_place r site ≡ Some p
+    → current s past lane ≡ Some c → CallSpends s.facts c (own past lane (count_ended past lane)) r
+    → awaited_place r site ≡ Some p
     → answer past p ≡ None → move_of s past lane ≡ Some (Ask q)
     → is_window r ≡ true → makes_many c ≡ true → is_whole c ≡ false → ⊥
 alone s past lane p c r q site is holds at missing move window many narrow =
@@ -443,7 +354,8 @@ widened_spends : (s : Setting) (past : List Entry) (core new : Core) (lanes : �
     (lane : ℕ) (c : Call) (now : LaneValue) (m : Moved) → AtRest s past core lanes begun → lane < length s.lanes
     → current s past lane ≡ Some c → AsksFew s past lane c → AskMoves s past lane m
     → TurnWidens c s.facts (count_submitted past) core new (lanes lane) now m → SpendsOn s past new lanes lane now m
-widened_spends s past core new lanes begun lane c now m h there is few move x = by_answer x.answer m x.active x.asks x.reads x.settles move
+widened_spends s past core new lanes begun lane c now m h there is few move x =
+    by_answer x.answer m x.active x.asks x.reads x.settles move
   where
     v : LaneValue
     v = lanes lane
@@ -465,9 +377,11 @@ widened_spends s past core new lanes begun lane c now m h there is few move x = 
     by_answer (step.Ask a r) (moved.Asked id q) active asks reads settles move =
         asked_spends s past core new lanes lane id c q a r now (opened_by x.running) (reads_under (Some x.running))
         v.site 1 h.between.spends there is (few q move)
-        (subst (λ (y : Site). AsksOrDefers (opened_by x.running) (count_submitted past) (reads_under (Some x.running)) v.site y a r) (sym x.site) asks.1)
+        (subst (λ (y : Site). AsksOrDefers (opened_by x.running) (count_submitted past) (reads_under (Some x.running))
+        v.site y a r) (sym x.site) asks.1)
         (subst (λ (o : Option Running). AskGrows s.facts c mine o (count_submitted past, q) r 1) (sym x.was)
-        (widened_grows s.facts c mine x.running (count_submitted past) q a r holds (few q move) asks.0 asks.1.keeps reads
+        (widened_grows s.facts c mine x.running (count_submitted past) q a r holds (few q move) asks.0 asks.1.keeps
+        reads
         (λ window many narrow. alone s past lane x.ticket.place c x.running q v.site is holds x.looks missing move
         window many narrow))) settles.1
         (submits_kept core new v.tickets now.tickets v.grants now.grants (count_submitted past) a id q asks.2 settles.0)
@@ -477,7 +391,8 @@ widened_spends s past core new lanes begun lane c now m h there is few move x = 
     by_answer (step.Wait r) m active asks reads settles move = absurd active
     by_answer (step.Done o) m active asks reads settles move =
         subst (λ (y : Moved). SpendsOn s past new lanes lane now y) (sym settles.2)
-        (done_spends s past core new lanes lane c o now h.between.spends there is (let same = ap kept_ids settles.0.core in omega (arith, same)))
+        (done_spends s past core new lanes lane c o now h.between.spends there is
+        (let same = ap kept_ids settles.0.core in omega (arith, same)))
 
 -- ---- any turn
 
@@ -485,7 +400,8 @@ pub turn_spends : (s : Setting) (past : List Entry) (core new : Core) (lanes : �
     (lane : ℕ) (c : Call) (now : LaneValue) (m : Moved) → AtRest s past core lanes begun → lane < length s.lanes
     → current s past lane ≡ Some c → AsksFew s past lane c → AskMoves s past lane m
     → TurnsLane c s.facts (count_submitted past) core new (lanes lane) now m → SpendsOn s past new lanes lane now m
-turn_spends s past core new lanes begun lane c now m h there is few move (Begun x) = begun_spends s past core new lanes begun lane c now m h there is few move x
+turn_spends s past core new lanes begun lane c now m h there is few move (Begun x) =
+    begun_spends s past core new lanes begun lane c now m h there is few move x
 turn_spends s past core new lanes begun lane c now m h there is few move (Replied x) =
     replied_spends s past core new lanes begun lane c now m h there is few move x
 turn_spends s past core new lanes begun lane c now m h there is few move (Unreplied x) =

@@ -50,7 +50,8 @@ use Rattle.plan_state.specs.Keeping.{KeepsHeld}
 use Rattle.plan_state.specs.declared.asking.Asking.TheVariants.{Whole}
 use Rattle.plan_state.specs.declared.poll.Poll.{Poll}
 use Rattle.plan_state.specs.declared.poll.Poll.TheVariants as poll
-use Rattle.plan_state.proofs.Keeping.{submitted_holds, submitted_keeps}
+use Rattle.plan_state.proofs.Keeping.{submitted_holds}
+use Rattle.plan_state.proofs.OthersKept.{submitted_keeps}
 use Rattle.sftp_buffered.specs.declared.file.DeferredWrite.{DeferredWrite}
 use Rattle.sftp_buffered.specs.declared.file.ReadUnderWay.{ReadUnderWay}
 use Rattle.sftp_buffered.specs.Buffered.{

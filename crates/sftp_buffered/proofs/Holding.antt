@@ -28,7 +28,8 @@ use Rattle.std.proofs.Common.{
 use Rattle.sftp_model.specs.declared.slot.Facts.{Facts}
 use Rattle.sftp_model.specs.declared.answers.Expected.{Expected}
 use Rattle.sftp_model.specs.declared.answers.Expected.TheVariants as expected
-use Rattle.plan_state.proofs.Keeping.{holds_still, submitted_holds, submitted_keeps}
+use Rattle.plan_state.proofs.Keeping.{holds_still, submitted_holds}
+use Rattle.plan_state.proofs.OthersKept.{submitted_keeps}
 use Rattle.plan_state.specs.Asked.{HoldsTicket, SubmitsAsking, queued_by}
 use Rattle.plan_state.specs.declared.asking.Asking.{Asking}
 use Rattle.plan_state.specs.declared.asking.Asking.TheVariants.{Whole, Parts}

@@ -9,7 +9,7 @@ use Rattle.sftp_core.specs.Core.{Core, IsGrant, core_after_abandon, after_poll, 
 use Rattle.sftp_core.specs.Grant.{GrantValue}
 use Rattle.plan_state.specs.Asked.{HoldsTicket}
 use Rattle.plan_state.specs.Keeping.{KeepsHeld}
-use Rattle.plan_state.proofs.Keeping.{cancelled_on, polled_on, released_holds, retained_holds}
+use Rattle.plan_state.proofs.OthersKept.{cancelled_on, polled_on, released_holds, retained_holds}
 use Rattle.sftp_buffered.specs.declared.file.DeferredWrite.{DeferredWrite}
 use Rattle.sftp_buffered.specs.declared.file.ReadUnderWay.{ReadUnderWay}
 use Rattle.sftp_buffered.specs.Buffered.{

@@ -12,6 +12,7 @@ mod Flushing
 mod Filling
 mod FillPlans
 mod Reading
+mod BufferReads
 mod Seeking
 mod Abandoning
 mod Pieces

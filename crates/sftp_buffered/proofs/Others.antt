@@ -41,7 +41,14 @@ use Rattle.plan_state.specs.Keeping.{KeepsHeld}
 use Rattle.plan_state.specs.declared.asking.Asking.{Asking}
 use Rattle.plan_state.specs.declared.asking.Asking.TheVariants.{Whole, Parts}
 use Rattle.plan_state.specs.declared.poll.Poll.TheVariants as poll
-use Rattle.plan_state.proofs.Keeping.{grants_both, cancelled_keeps_grants, cancelled_on, keeps_same, polled_keeps_grants, polled_on, submitted_keeps, submitted_holds}
+use Rattle.plan_state.proofs.Keeping.{grants_both, keeps_same, submitted_holds}
+use Rattle.plan_state.proofs.OthersKept.{
+  cancelled_keeps_grants,
+  cancelled_on,
+  polled_keeps_grants,
+  polled_on,
+  submitted_keeps,
+}
 use Rattle.sftp_buffered.specs.declared.file.DeferredWrite.{DeferredWrite}
 use Rattle.sftp_buffered.specs.declared.file.ReadUnderWay.{ReadUnderWay}
 use Rattle.sftp_buffered.specs.Buffered.{AreApart, AreHeld, CompatValue, IsApart, IsHeldRead, IsOther, IsSound, LeavesOthers}

@@ -15,7 +15,8 @@ use Rattle.plan_state.specs.Keeping.{KeepsHeld, KeepsGrants, SparesOthers}
 use Rattle.plan_state.proofs.Sparing.{spares_both, spares_kept, spares_then}
 use Rattle.plan_state.specs.declared.asking.Asking.TheVariants.{Whole}
 use Rattle.plan_state.specs.declared.poll.Poll.TheVariants.{Pending, Ready}
-use Rattle.plan_state.proofs.Keeping.{grant_kept, grants_both, keeps_same, submitted_missing}
+use Rattle.plan_state.proofs.Keeping.{grants_both, keeps_same, submitted_missing}
+use Rattle.plan_state.proofs.OthersKept.{grant_kept}
 use Rattle.sftp_fs.specs.Listings.{AsksReaddir, ListingAnswer, GivesAt, HearsOf, IsAwaiting, IsListing, IsNoneAsked, ListingValue, entry_told}
 use Rattle.sftp_client.specs.Listed.{AwaitsEntry, HasListed, ListedIn, MayWaitFor, given_by}
 use Rattle.sftp_client.specs.Sessions.{SftpValue, with_core}

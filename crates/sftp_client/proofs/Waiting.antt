@@ -16,7 +16,8 @@ use Rattle.plan_state.specs.declared.poll.Poll.{Poll}
 use Rattle.plan_state.specs.declared.stage.Stage.{Stage}
 use Rattle.plan_state.specs.declared.stage.Stage.TheVariants.{Ended, Ready, Unsent, Asked, Came}
 use Rattle.plan_state.specs.declared.poll.Poll.TheVariants as poll
-use Rattle.plan_state.proofs.Keeping.{grants_both, keeps_both, keeps_failed, keeps_handed_out, keeps_same, keeps_taken, keeps_unchanged, still_under_way}
+use Rattle.plan_state.proofs.Keeping.{grants_both, keeps_both, keeps_failed, keeps_handed_out, keeps_same, keeps_taken}
+use Rattle.plan_state.proofs.OthersKept.{keeps_unchanged, still_under_way}
 use Rattle.sftp_core.specs.Table.{asks_handle, count, is_waiting}
 use Rattle.sftp_core.specs.declared.id_record.IdRecord.{IdRecord}
 use Rattle.sftp_core.specs.declared.id_record.IdRecord.TheVariants.{Answered, Granted, Waiting}

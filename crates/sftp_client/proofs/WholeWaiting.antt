@@ -19,7 +19,7 @@ use Rattle.sftp_file.specs.Files.{FileValue, IsMoved}
 use Rattle.sftp_file.specs.Gathers.{GivesBytes, ReadAllValue, reading_all}
 use Rattle.sftp_file.specs.declared.whole_reads.ReadAllError.{ReadAllError}
 use Rattle.sftp_fs_read.specs.WholeReads.{CancelsRead, FsReadValue, IsNoneOfRead, IsReadHeld, ReadAnswer, is_over}
-use Rattle.sftp_fs_read.proofs.FsReadLaws.{read_still}
+use Rattle.sftp_fs_read.proofs.ReadEnds.{read_still}
 use Rattle.sftp_client.specs.Sessions.{SftpValue, with_core}
 use Rattle.sftp_client.specs.Waits.{HasFinished, HasWaited, RoundFails, SendsAndTakes}
 use Rattle.sftp_client.specs.WholeWaits.{

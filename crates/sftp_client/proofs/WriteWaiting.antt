@@ -11,7 +11,7 @@ use Rattle.plan_state.specs.declared.poll.Poll.TheVariants as poll
 use Rattle.plan_state.proofs.Keeping.{keeps_same}
 use Rattle.plan_state.proofs.Sparing.{spares_both, spares_kept, spares_then}
 use Rattle.sftp_fs.specs.WholeWrites.{CancelsWrite, FsWriteValue, IsNoneOfWrite, IsWriteHeld, WriteAnswer, is_over}
-use Rattle.sftp_fs.proofs.WriteOpens.{write_still}
+use Rattle.sftp_fs.proofs.OpenedWrites.{write_still}
 use Rattle.sftp_client.specs.Sessions.{SftpValue, with_core}
 use Rattle.sftp_client.specs.Waits.{RoundFails, SendsAndTakes}
 use Rattle.sftp_client.specs.WriteWaits.{AreWriteRounds, HasFinishedWrite, HasWaitedWrite, MayWaitWrite, WriteIn}

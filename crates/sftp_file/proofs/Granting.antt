@@ -6,7 +6,7 @@ use Rattle.sftp_core.specs.declared.id_record.IdRecord.TheVariants.{Granted}
 use Rattle.sftp_core.specs.Core.{Core, record_at, core_after_release, core_after_retain, users_of, with_record, IsGrant}
 use Rattle.sftp_core.specs.Grant.{GrantValue}
 use Rattle.sftp_core.proofs.Elsewhere.{put_here}
-use Rattle.plan_state.proofs.Keeping.{grant_at}
+use Rattle.plan_state.proofs.OthersKept.{grant_at}
 
 -- a grant with one user more is counted
 pub retained_grant : (core : Core) (grant : GrantValue) → IsGrant (core_after_retain core grant) grant

@@ -16,18 +16,14 @@ use Rattle.plan_state.specs.Calls.{CancelsAwaited, CallValue, HoldsReady, IsGran
 use Rattle.plan_state.specs.Keeping.{KeepsGrants}
 use Rattle.plan_state.specs.Runners.{Meaning}
 use Rattle.plan_state.proofs.Keeping.{
-  grant_at,
-  grant_kept,
-  grants_kept,
   keeps_both,
   keeps_failed,
   keeps_handed_out,
   keeps_refused,
   keeps_same,
   keeps_taken,
-  may_be_cancelled,
-  still_under_way,
 }
+use Rattle.plan_state.proofs.OthersKept.{grant_at, grant_kept, grants_kept, may_be_cancelled, still_under_way}
 use Rattle.sftp_file.specs.Files.{FileValue}
 use Rattle.sftp_file.specs.Opens.{open_meaning}
 use Rattle.sftp_file.specs.declared.opens.Opening.{Opening}

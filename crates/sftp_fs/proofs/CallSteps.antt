@@ -12,7 +12,7 @@ use Rattle.plan_state.specs.declared.stage.Stage.TheVariants.{Ended, Ready, Unse
 use Rattle.plan_state.specs.Calls.{CallValue, CancelsAwaited, CountsGrant, HoldsReady, IsOver, core_after_cancel, is_ended}
 use Rattle.plan_state.specs.Keeping.{KeepsHeld}
 use Rattle.plan_state.specs.Runners.{Meaning}
-use Rattle.plan_state.proofs.Keeping.{grant_at, grant_kept}
+use Rattle.plan_state.proofs.OthersKept.{grant_at, grant_kept}
 use Rattle.sftp_fs.specs.Listings.{IsAwaiting, IsListing, ListingValue, fresh_listing}
 
 -- giving up a call that has answered leaves the core

@@ -7,4 +7,5 @@ pub mod CallSteps
 mod PartLaws
 pub mod WriteSteps
 pub mod WriteOpens
+pub mod OpenedWrites
 mod WriteStarts

@@ -14,7 +14,8 @@ use Rattle.plan_state.specs.declared.poll.Poll.TheVariants.{Pending, Ready}
 use Rattle.plan_state.specs.Keeping.{KeepsGrants, SparesOthers}
 use Rattle.plan_state.specs.declared.stage.Stage.TheVariants.{Asked}
 use Rattle.plan_state.proofs.Sparing.{polled_spares, spares_as, spares_kept, submitted_spares}
-use Rattle.plan_state.proofs.Keeping.{grant_kept, grants_kept, keeps_same, polled_keeps_grants, submitted_holds, submitted_keeps}
+use Rattle.plan_state.proofs.Keeping.{keeps_same, submitted_holds}
+use Rattle.plan_state.proofs.OthersKept.{grant_kept, grants_kept, polled_keeps_grants, submitted_keeps}
 use Rattle.sftp_fs.specs.Listings.{
   AsksMore,
   ListingAnswer,

@@ -37,7 +37,7 @@ use Rattle.sftp_model.specs.declared.slot.Site.{Site}
 use Rattle.plan_model.specs.Moves.{Answers, Own, Plan, handle_of, overflows}
 use Rattle.plan_model.specs.TransferPlans.{next_part, part_len}
 use Rattle.sftp_core.specs.Core.{Core}
-use Rattle.plan_state.proofs.Keeping.{keeps_unchanged}
+use Rattle.plan_state.proofs.OthersKept.{keeps_unchanged}
 use Rattle.plan_state.proofs.Sparing.{closed_spares, spares_also, spares_as, spares_both, spares_kept, stepped_spares, submitted_spares}
 use Rattle.sftp_core.specs.Grant.{GrantValue}
 use Rattle.plan_state.specs.declared.asking.Asking.{Asking}

@@ -16,9 +16,10 @@ use Rattle.sftp_core.proofs.Elsewhere.{poll_elsewhere}
 use Rattle.plan_state.specs.Asked.{HoldsTicket, IsReady}
 use Rattle.plan_state.specs.Keeping.{KeepsGrants}
 use Rattle.plan_state.specs.declared.stage.Stage.TheVariants.{Asked}
-use Rattle.plan_state.proofs.Keeping.{grants_both, keeps_same, polled_keeps_grants}
+use Rattle.plan_state.proofs.Keeping.{grants_both, keeps_same}
+use Rattle.plan_state.proofs.OthersKept.{polled_keeps_grants}
 use Rattle.plan_state.proofs.Sparing.{spares_both, spares_kept}
-use Rattle.sftp_fs.proofs.WriteOpens.{ready_polled}
+use Rattle.sftp_fs.proofs.OpenedWrites.{ready_polled}
 use Rattle.sftp_fs_read.specs.Hearing.{TakesReplies}
 use Rattle.sftp_fs_read.specs.Reads.{ReadsValue}
 use Rattle.sftp_fs_read.specs.Tickets.{AreUnderWay, IsNoneOf, TellsReads, polled_all}

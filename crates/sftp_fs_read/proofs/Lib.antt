@@ -3,4 +3,5 @@ mod MoveLaws
 mod TicketLaws
 mod HearLaws
 pub mod FsReadLaws
+pub mod ReadEnds
 mod OpenLaws

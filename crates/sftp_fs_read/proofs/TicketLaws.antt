@@ -20,7 +20,8 @@ use Rattle.sftp_core.proofs.Elsewhere.{abandon_elsewhere}
 use Rattle.plan_window.specs.declared.window.ReadAt.{ReadAt}
 use Rattle.plan_state.specs.Asked.{HoldsTicket}
 use Rattle.plan_state.specs.Keeping.{KeepsHeld, KeepsGrants, SparesOthers}
-use Rattle.plan_state.proofs.Keeping.{cancelled_keeps_grants, grants_both, keeps_same, polled_on}
+use Rattle.plan_state.proofs.Keeping.{grants_both, keeps_same}
+use Rattle.plan_state.proofs.OthersKept.{cancelled_keeps_grants, polled_on}
 use Rattle.plan_state.proofs.Sparing.{abandoned_spares, polled_spares, spares_kept}
 use Rattle.sftp_fs_read.specs.declared.tickets.Answer.TheVariants as answer
 use Rattle.sftp_fs_read.specs.Tickets.{AreTickets, AreUnderWay, IsAnswer, IsNoneOf, polled_all, core_without_tickets}

@@ -252,7 +252,8 @@ frame_half e frame body answer now_ended before mid now old new why f is le says
     by_why (inl fault) = subst (λ (w : Stop). ServesOne old new now_ended (Err w) before now) (sym fault.0)
         (λ first count s.
         (let at = t first count old s in
-        let all = sent_some first old new count frame body answer went.0 went.1 mid now at f is le says went.2 went.4 in (
+        let all =
+        sent_some first old new count frame body answer went.0 went.1 mid now at f is le says went.2 went.4 in (
           fault.1,
           record {
             order = order_stays first mid now went.0 went.4 at.order;
@@ -267,7 +268,8 @@ frame_half e frame body answer now_ended before mid now old new why f is le says
     by_why (inr starved) = subst (λ (w : Stop). ServesOne old new now_ended (Err w) before now) (sym starved)
         (λ first count s.
         (let at = t first count old s in
-        let all = sent_some first old new count frame body answer went.0 went.1 mid now at f is le says went.2 went.4 in (
+        let all =
+        sent_some first old new count frame body answer went.0 went.1 mid now at f is le says went.2 went.4 in (
           order_stays first mid now went.0 went.4 at.order,
           record
               { count = count + 1; more = went.1; left = new; rest = []; served = all },

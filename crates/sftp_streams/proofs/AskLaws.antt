@@ -2,7 +2,8 @@
 use Rattle.std.proofs.Common.{◌≡◌, ◌<◌, inl, inr, ℕ, zero, suc, ◌-◌, [], length, refl, sym, ap, ◌∙◌, subst, arith, None, IsSome}
 use Rattle.sftp_core.specs.Core.{Core}
 use Rattle.sftp_core.specs.Info.{info_of}
-use Rattle.plan_state.proofs.Keeping.{submitted_holds, submitted_keeps}
+use Rattle.plan_state.proofs.Keeping.{submitted_holds}
+use Rattle.plan_state.proofs.OthersKept.{submitted_keeps}
 use Rattle.sftp_streams.specs.declared.parts.Unasked.{Unasked}
 use Rattle.sftp_streams.specs.declared.parts.Unasked.TheVariants as unasked
 use Rattle.sftp_streams.specs.Parts.{IsUnasked, KeepsOthersHeld}

@@ -11,7 +11,14 @@ use Rattle.plan_state.specs.Asked.{HoldsTicket, SubmitsAsking}
 use Rattle.plan_state.specs.Keeping.{KeepsHeld, KeepsGrants}
 use Rattle.plan_state.specs.declared.asking.Asking.{Asking}
 use Rattle.plan_state.specs.declared.asking.Asking.TheVariants.{Whole, Parts}
-use Rattle.plan_state.proofs.Keeping.{grants_both, cancelled_keeps_grants, cancelled_on, keeps_same, polled_keeps_grants, polled_on, submitted_keeps}
+use Rattle.plan_state.proofs.Keeping.{grants_both, keeps_same}
+use Rattle.plan_state.proofs.OthersKept.{
+  cancelled_keeps_grants,
+  cancelled_on,
+  polled_keeps_grants,
+  polled_on,
+  submitted_keeps,
+}
 use Rattle.sftp_streams.specs.declared.parts.Part.{Part}
 use Rattle.sftp_streams.specs.Parts.{AreAwaited, IsApart, KeepsOthersHeld, KindOf, parts_len, without_parts}
 

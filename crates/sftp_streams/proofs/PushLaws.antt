@@ -5,7 +5,8 @@ use Rattle.std.proofs.lemmas.List.{append-nil}
 use Rattle.sftp_model.specs.Numbers.{MAX_TRANSFER_LEN}
 use Rattle.sftp_model.specs.Frames.{is_too_long}
 use Rattle.sftp_core.specs.Core.{Core, write_of}
-use Rattle.plan_state.proofs.Keeping.{submitted_holds, submitted_keeps}
+use Rattle.plan_state.proofs.Keeping.{submitted_holds}
+use Rattle.plan_state.proofs.OthersKept.{submitted_keeps}
 use Rattle.plan_state.specs.Asked.{SubmitsAsking}
 use Rattle.plan_state.specs.declared.asking.Asking.TheVariants as asking
 use Rattle.sftp_file.proofs.BodyLens.{write_is_short}

@@ -139,7 +139,8 @@ module _ {S : Type 0} (shown : S → Shown) {Did : S → S → List Entry → Ty
 
     pub hold_took_none : (test : Entry → Bool) → IsQuiet test → list_all test h.more ≡ true
         → taken_by (number_of n) (sight_by n).log ≡ taken_by (number_of m) (sight_by m).log
-    hold_took_none test quiet all = taken_after ∙ taken_quiet test (number_of m) h.more h.now.log quiet all ∙ taken_before
+    hold_took_none test quiet all = taken_after ∙ taken_quiet test (number_of m) h.more h.now.log quiet all
+        ∙ taken_before
 
     -- a Send sends what was unsent
     pub hold_sent : h.more ≡ entry.Event Send ∷ []

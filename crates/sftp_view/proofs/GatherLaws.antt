@@ -147,7 +147,8 @@ module _ {S : Type 0} where
       old link next link_next (Ok (Err code))
   gather_refused path first count k bytes key old now next link link_now link_next found code lt so_far refused one =
       record {
-        runs = gives (Err code) (one_more path first count k bytes key old now next link link_now link_next found lt so_far
+        runs = gives (Err code) (one_more path first count k bytes key old now next link link_now link_next found lt
+            so_far
             one)
             (ap (λ (f : Found). after_block old path first count k bytes (record { found = f; kept = next.cache.kept }))
             refused);

@@ -22,12 +22,13 @@ use Rattle.sftp_file.proofs.GatherLaws.{reads_held}
 use Rattle.sftp_file.specs.Writes.{WriteAllValue, writing_all}
 use Rattle.sftp_fs.specs.WholeWrites.{IsWriteHeld}
 use Rattle.sftp_fs.specs.declared.fs_write.Writing.{Writing}
-use Rattle.sftp_fs.proofs.WriteOpens.{write_still}
+use Rattle.sftp_fs.proofs.OpenedWrites.{write_still}
 use Rattle.sftp_fs_read.specs.WholeReads.{IsReadHeld}
 use Rattle.sftp_fs_read.specs.declared.fs_read.Whole.{Whole}
-use Rattle.sftp_fs_read.proofs.FsReadLaws.{read_still}
+use Rattle.sftp_fs_read.proofs.ReadEnds.{read_still}
 use Rattle.sftp_file.proofs.Granting.{released_grant, retained_users}
-use Rattle.plan_state.proofs.Keeping.{grant_kept, keeps_failed, keeps_handed_out, keeps_refused, keeps_same, keeps_taken, still_under_way}
+use Rattle.plan_state.proofs.Keeping.{keeps_failed, keeps_handed_out, keeps_refused, keeps_same, keeps_taken}
+use Rattle.plan_state.proofs.OthersKept.{grant_kept, still_under_way}
 
 pub handed : (old new : Core) → new ≡ handed_out old → KeepsHeld old new
 handed old new is = subst (λ (x : Core). KeepsHeld old x) (sym is) (keeps_handed_out old)

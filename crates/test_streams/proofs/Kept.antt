@@ -8,7 +8,7 @@ use Rattle.sftp_core.specs.Grant.{GrantValue}
 use Rattle.sftp_core.specs.Info.{info_of}
 use Rattle.plan_state.specs.Keeping.{KeepsHeld}
 use Rattle.plan_state.specs.declared.poll.Poll.{Poll}
-use Rattle.plan_state.proofs.Keeping.{grant_at, grant_kept, submitted_keeps}
+use Rattle.plan_state.proofs.OthersKept.{grant_at, grant_kept, submitted_keeps}
 use Rattle.sftp_file.specs.Files.{FileValue}
 use Rattle.sftp_streams.specs.Downloads.{DownloadValue, IsReading, PollsDownload, content_kind}
 use Rattle.sftp_streams.specs.Uploads.{AsksWrite, IsWriting, PollsUpload, UploadValue, status_kind}

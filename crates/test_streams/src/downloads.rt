@@ -94,7 +94,7 @@ impl Played for Downloading {
         happens(core, event)
     }
 
-    #[tactic(auto, using(plan_state::proofs::Keeping::grant_kept))]
+    #[tactic(auto, using(plan_state::proofs::OthersKept::grant_kept))]
     fn give_up(self, core: &mut Core) -> Option<File> {
         let Downloading { file, download } = self;
         download.cancel(core);

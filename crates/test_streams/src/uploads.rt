@@ -118,7 +118,7 @@ impl Played for Uploading {
         happens(core, event)
     }
 
-    #[tactic(auto, using(plan_state::proofs::Keeping::grant_kept))]
+    #[tactic(auto, using(plan_state::proofs::OthersKept::grant_kept))]
     fn give_up(self, core: &mut Core) -> Option<File> {
         let Uploading { file, upload } = self;
         upload.cancel(core);

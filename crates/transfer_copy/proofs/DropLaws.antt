@@ -44,7 +44,8 @@ use Rattle.sftp_core.specs.Grant.{GrantValue}
 use Rattle.sftp_core.specs.Table.{handle_in_reply}
 use Rattle.sftp_core.proofs.Elsewhere.{abandon_elsewhere, abandon_phase, put_here, release_elsewhere, release_phase}
 use Rattle.plan_state.specs.Asked.{HoldsTicket}
-use Rattle.plan_state.proofs.Keeping.{cancelled_keeps_grants, cancelled_on, grant_at, holds_at, released_holds}
+use Rattle.plan_state.proofs.Keeping.{holds_at}
+use Rattle.plan_state.proofs.OthersKept.{cancelled_keeps_grants, cancelled_on, grant_at, released_holds}
 use Rattle.transfer_copy.specs.declared.holding.FileHold.{FileHold}
 use Rattle.transfer_copy.specs.declared.holding.FileHold.TheVariants as hold
 use Rattle.transfer_copy.specs.declared.holding.Part.{Part}

@@ -16,7 +16,8 @@ use Rattle.plan_state.specs.Asked.{HoldsTicket, SubmitsAsking, queued_by, reques
 use Rattle.plan_state.specs.Keeping.{KeepsHeld}
 use Rattle.plan_state.specs.declared.asking.Asking.{Asking}
 use Rattle.plan_state.specs.declared.asking.Asking.TheVariants.{Whole, Parts}
-use Rattle.plan_state.proofs.Keeping.{polled_keeps_grants, polled_on, submitted_holds, submitted_keeps}
+use Rattle.plan_state.proofs.Keeping.{submitted_holds}
+use Rattle.plan_state.proofs.OthersKept.{polled_keeps_grants, polled_on, submitted_keeps}
 use Rattle.sftp_model.specs.declared.reply.Reply.TheVariants as reply
 use Rattle.transfer_copy.specs.Answers.{AnswersTicket, HasCome}
 use Rattle.transfer_copy.specs.declared.answers.TicketAnswer.TheVariants as answer

@@ -217,7 +217,8 @@ named_close core mid after old new left part remote replaces (progress.Ended (Er
     (λ first some. absurd (some_is_none old.failure first none some), ap (λ (x : FilePut). x.stage) now)
 named_close core mid after old new left part remote replaces (progress.Ended (Ok len)) ok none never = absurd never
 
-failed_close : (core mid after : Core) (old new : FilePut) (part remote : List ℕ) (first : CopyError) (result : Progress)
+failed_close : (core mid after : Core) (old new : FilePut) (part remote : List ℕ) (first : CopyError)
+    (result : Progress)
     → old.failure ≡ Some first → result ≡ progress.Ended (Err first) → new.stage ≡ stage.Ended
     → EndsWriting part remote core old after new result
 failed_close core mid after old new part remote first result some is over =

@@ -11,7 +11,8 @@ use Rattle.sftp_core.specs.Info.{info_of}
 use Rattle.sftp_link.specs.Views.{LinkView}
 use Rattle.link_frames.specs.Causes.{CountsLinkFault}
 use Rattle.plan_state.specs.Keeping.{KeepsHeld}
-use Rattle.plan_state.proofs.Keeping.{keeps_both, keeps_failed, keeps_handed_out, keeps_same, keeps_taken, keeps_unchanged}
+use Rattle.plan_state.proofs.Keeping.{keeps_both, keeps_failed, keeps_handed_out, keeps_same, keeps_taken}
+use Rattle.plan_state.proofs.OthersKept.{keeps_unchanged}
 use Rattle.sftp_client.specs.Sessions.{FlushesQueue, IsKept, RefusesFrame, SendStops, SendsAll, SftpValue, TakesOrKept, TakesFrame, failed_by, fault_by, with_queue_handed_out, kept_after}
 use Rattle.sftp_client.proofs.Lowering.{take_stays_open}
 use Rattle.transfer_pool.specs.Sessions.{IsGoing, TookTurn}

@@ -68,7 +68,8 @@ use Rattle.transfer_pool.specs.Jobs.{
 use Rattle.transfer_pool.specs.CopyLegs.{HasOwnLegs, JobLeg, ended_legs, jobs_legs}
 use Rattle.transfer_pool.specs.Sessions.{IsGoing}
 use Rattle.transfer_pool.specs.Told.{AreNoted, CopiesAll}
-use Rattle.transfer_pool.proofs.LegLaws.{AreCopies, begun_copies, ended_copies, no_more_copies}
+use Rattle.transfer_pool.proofs.LegLaws.{AreCopies}
+use Rattle.transfer_pool.proofs.EndedCopies.{begun_copies, ended_copies, no_more_copies}
 
 -- ---- how many copies there are
 
@@ -310,7 +311,8 @@ jobs_stopped state done history noted window most first now session running note
 
 pub jobs_too_long : {L S F H N : Type 0} (state : L → LinkView S) (done : LocalAct → H → H) (history : F → H)
     (noted : JobNote F → N → N)
-    (window most : ℕ) (first now : Jobs L F N) (x : CopyError) → JobsSoFar state done history noted window most first now
+    (window most : ℕ) (first now : Jobs L F N) (x : CopyError)
+    → JobsSoFar state done history noted window most first now
     → JobsDone state done history noted window most first now.session now.running now.notes (Err x)
 jobs_too_long state done history noted window most first now x w = (w.steps, now, w.run, inl refl)
 

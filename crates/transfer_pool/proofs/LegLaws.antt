@@ -1,24 +1,19 @@
--- The legs of each copy.
+-- Steps of copies in progress.
 use Rattle.std.proofs.Common.{◌≡◌, inl, inr, ℕ, zero, suc, List, [], ◌∷◌, ◌++◌, refl, sym, ap, ◌∙◌, subst}
-use Rattle.std.specs.Prelude.{Some, Result, Ok}
 use Rattle.std.specs.List.{Contains}
-use Rattle.std.proofs.lemmas.List.Elements.{Contains-append_left, Contains-push}
 use Rattle.std.specs.String.{string_bytes}
 use Rattle.sftp_core.specs.Core.{Core}
 use Rattle.sftp_link.specs.Views.{LinkView}
 use Rattle.transfer_copy.specs.Local.{LocalAct}
-use Rattle.transfer_copy.specs.declared.copy_error.CopyError.{CopyError}
 use Rattle.transfer_copy.specs.declared.get.FileGet.{FileGet}
 use Rattle.transfer_copy.specs.declared.progress.Progress.{Progress}
 use Rattle.transfer_copy.specs.declared.progress.Progress.TheVariants as progress
 use Rattle.transfer_copy.specs.declared.put.FilePut.{FilePut}
 use Rattle.transfer_copy.specs.Gets.{get_begun}
-use Rattle.transfer_copy.specs.Legs.{AreLegs, FollowsSteps, HasGoneOn, IsWholeCopy, CopyStep, history_behind, state_behind}
+use Rattle.transfer_copy.specs.Legs.{AreLegs, FollowsSteps, HasGoneOn, CopyStep, history_behind, state_behind}
 use Rattle.transfer_copy.specs.Puts.{put_begun}
-use Rattle.transfer_copy.specs.WholeGets.{GotWhole, IsGetLeg}
-use Rattle.transfer_copy.specs.WholePuts.{IsPutLeg, SentWhole}
-use Rattle.transfer_copy.proofs.WholeGetSteps.{got_whole}
-use Rattle.transfer_copy.proofs.WholePutSteps.{sent_whole}
+use Rattle.transfer_copy.specs.WholeGets.{IsGetLeg}
+use Rattle.transfer_copy.specs.WholePuts.{IsPutLeg}
 use Rattle.transfer_pool.specs.declared.jobs.Wanted.{Wanted}
 use Rattle.transfer_pool.specs.declared.running.Copied.{Copied}
 use Rattle.transfer_pool.specs.declared.running.CopyJob.{CopyJob}
@@ -27,25 +22,15 @@ use Rattle.transfer_pool.specs.declared.running.CopyState.TheVariants as state
 use Rattle.transfer_pool.specs.declared.running.Running.{Running}
 use Rattle.transfer_args.specs.declared.asked.Direction.{Direction}
 use Rattle.transfer_args.specs.declared.asked.Direction.TheVariants as way
-use Rattle.transfer_pool.specs.Copies.{CopyStepDid, NextEnded, TakesTurn, WorkedOn, Working, copy_begun, job_begun}
-use Rattle.transfer_pool.specs.CopyLegs.{
-  AreInOrderAmong,
-  HasGot,
-  HasLegs,
-  HasOwnLegs,
-  HasPut,
-  JobLeg,
-  ended_legs,
-  leg_of,
-  legs_of,
-  worked_legs,
-}
+use Rattle.transfer_pool.specs.Copies.{CopyStepDid, TakesTurn, WorkedOn, Working}
+use Rattle.transfer_pool.specs.CopyLegs.{AreInOrderAmong, HasLegs, HasOwnLegs, JobLeg, leg_of, legs_of, worked_legs}
 use Rattle.transfer_pool.specs.Jobs.{Given, JobNote, NoMore, Over}
 use Rattle.transfer_pool.specs.Told.{AreCopiesTold}
 
 -- ---- more legs, and more notes
 
-among_one : {X : Type 0} (xs : List X) (y : X) (all : List X) → AreInOrderAmong xs all → AreInOrderAmong xs (y ∷ all)
+pub among_one : {X : Type 0} (xs : List X) (y : X) (all : List X) → AreInOrderAmong xs all
+    → AreInOrderAmong xs (y ∷ all)
 among_one [] y all are = tt
 among_one (x ∷ xs) y all are = inr are
 
@@ -57,27 +42,32 @@ pub record AllowsMore {F H : Type 0} (all more : List (JobLeg H)) (had told : Li
 -- ---- one copy under way
 
 -- its legs so far are among all
-pub record IsGettingBy {F H : Type 0} (done : LocalAct → H → H) (history : F → H) (window : ℕ) (all : List (JobLeg H)) (wanted : Wanted F)
+pub record IsGettingBy {F H : Type 0} (done : LocalAct → H → H) (history : F → H) (window : ℕ) (all : List (JobLeg H))
+    (wanted : Wanted F)
     (local : F) (g : FileGet) : Type 0 where
   pub earlier : List (CopyStep FileGet H)
-  pub legs : AreLegs (IsGetLeg done (string_bytes wanted.job.from) (string_bytes wanted.job.part) (string_bytes wanted.job.to))
+  pub legs : AreLegs (IsGetLeg done (string_bytes wanted.job.from) (string_bytes wanted.job.part)
+      (string_bytes wanted.job.to))
       (get_begun window wanted.job.begins_at) (history wanted.local) earlier
   pub stands : g ≡ state_behind (get_begun window wanted.job.begins_at) earlier
   pub now : history local ≡ history_behind (history wanted.local) earlier
   pub among : AreInOrderAmong (legs_of state.Get wanted.job earlier) all
   pub way_is : wanted.job.way ≡ way.Get
 
-pub record IsPuttingBy {F H : Type 0} (done : LocalAct → H → H) (history : F → H) (window : ℕ) (all : List (JobLeg H)) (wanted : Wanted F)
+pub record IsPuttingBy {F H : Type 0} (done : LocalAct → H → H) (history : F → H) (window : ℕ) (all : List (JobLeg H))
+    (wanted : Wanted F)
     (local : F) (p : FilePut) : Type 0 where
   pub earlier : List (CopyStep FilePut H)
-  pub legs : AreLegs (IsPutLeg done (string_bytes wanted.job.from) (string_bytes wanted.job.part) (string_bytes wanted.job.to))
+  pub legs : AreLegs (IsPutLeg done (string_bytes wanted.job.from) (string_bytes wanted.job.part)
+      (string_bytes wanted.job.to))
       (put_begun window wanted.job.begins_at wanted.job.attrs) (history wanted.local) earlier
   pub stands : p ≡ state_behind (put_begun window wanted.job.begins_at wanted.job.attrs) earlier
   pub now : history local ≡ history_behind (history wanted.local) earlier
   pub among : AreInOrderAmong (legs_of state.Put wanted.job earlier) all
   pub way_is : wanted.job.way ≡ way.Put
 
-abbrev pub IsCopyingBy : {F H : Type 0} → (LocalAct → H → H) → (F → H) → ℕ → List (JobLeg H) → Wanted F → F → CopyState → Type 0
+abbrev pub IsCopyingBy : {F H : Type 0} → (LocalAct → H → H) → (F → H) → ℕ → List (JobLeg H) → Wanted F → F → CopyState
+    → Type 0
 IsCopyingBy done history window all wanted local (state.Get g) = IsGettingBy done history window all wanted local g
 IsCopyingBy done history window all wanted local (state.Put p) = IsPuttingBy done history window all wanted local p
 
@@ -96,7 +86,8 @@ AreUnderWay done history window all notes (r ∷ later) = IsUnderWay done histor
 
 -- ---- they stay behind more legs and notes
 
-more_copying : {F H : Type 0} (done : LocalAct → H → H) (history : F → H) (window : ℕ) (all more : List (JobLeg H)) (wanted : Wanted F) (local : F)
+more_copying : {F H : Type 0} (done : LocalAct → H → H) (history : F → H) (window : ℕ) (all more : List (JobLeg H))
+    (wanted : Wanted F) (local : F)
     (s : CopyState) → ((xs : List (JobLeg H)) → AreInOrderAmong xs all → AreInOrderAmong xs more)
     → IsCopyingBy done history window all wanted local s → IsCopyingBy done history window more wanted local s
 more_copying done history window all more wanted local (state.Get g) allows so = record {
@@ -116,7 +107,8 @@ more_copying done history window all more wanted local (state.Put p) allows so =
   way_is = so.way_is;
 }
 
-more_under_way : {F H : Type 0} (done : LocalAct → H → H) (history : F → H) (window : ℕ) (all more : List (JobLeg H)) (notes told : List (JobNote F))
+pub more_under_way : {F H : Type 0} (done : LocalAct → H → H) (history : F → H) (window : ℕ)
+    (all more : List (JobLeg H)) (notes told : List (JobNote F))
     (copies : List (Running F)) → AllowsMore all more notes told → AreUnderWay done history window all notes copies
     → AreUnderWay done history window more told copies
 more_under_way done history window all more notes told [] allows are = tt
@@ -130,7 +122,8 @@ more_under_way done history window all more notes told (r ∷ later) allows (her
   more_under_way done history window all more notes told later allows are,
 )
 
-more_legs : {F H : Type 0} (done : LocalAct → H → H) (history : F → H) (window : ℕ) (all more : List (JobLeg H)) (wanted : Wanted F)
+more_legs : {F H : Type 0} (done : LocalAct → H → H) (history : F → H) (window : ℕ) (all more : List (JobLeg H))
+    (wanted : Wanted F)
     (copied : Copied F) (w : Direction) → ((xs : List (JobLeg H)) → AreInOrderAmong xs all → AreInOrderAmong xs more)
     → HasLegs done history window all wanted copied w → HasLegs done history window more wanted copied w
 more_legs done history window all more wanted copied way.Get allows so = record {
@@ -150,7 +143,8 @@ more_legs done history window all more wanted copied way.Put allows so = record 
   sent = so.sent;
 }
 
-more_told : {F H : Type 0} (done : LocalAct → H → H) (history : F → H) (window : ℕ) (all more : List (JobLeg H)) (notes told those : List (JobNote F))
+pub more_told : {F H : Type 0} (done : LocalAct → H → H) (history : F → H) (window : ℕ) (all more : List (JobLeg H))
+    (notes told those : List (JobNote F))
     → AllowsMore all more notes told → AreCopiesTold (HasOwnLegs done history window all notes) those
     → AreCopiesTold (HasOwnLegs done history window more told) those
 more_told done history window all more notes told [] allows are = tt
@@ -168,15 +162,18 @@ more_told done history window all more notes told (Given wanted ∷ later) allow
 more_told done history window all more notes told (NoMore ∷ later) allows are =
     more_told done history window all more notes told later allows are
 
-told_join : {F : Type 0} (Holds : Copied F → Type 0) (xs ys : List (JobNote F)) → AreCopiesTold Holds xs → AreCopiesTold Holds ys
+pub told_join : {F : Type 0} (Holds : Copied F → Type 0) (xs ys : List (JobNote F)) → AreCopiesTold Holds xs
+    → AreCopiesTold Holds ys
     → AreCopiesTold Holds (xs ++ ys)
 told_join Holds [] ys x y = y
 told_join Holds (Over copied ∷ xs) ys (here, x) y = (here, told_join Holds xs ys x y)
 told_join Holds (Given wanted ∷ xs) ys x y = told_join Holds xs ys x y
 told_join Holds (NoMore ∷ xs) ys x y = told_join Holds xs ys x y
 
-under_way_last : {F H : Type 0} (done : LocalAct → H → H) (history : F → H) (window : ℕ) (all : List (JobLeg H)) (notes : List (JobNote F))
-    (copies : List (Running F)) (r : Running F) → AreUnderWay done history window all notes copies → IsUnderWay done history window all notes r
+pub under_way_last : {F H : Type 0} (done : LocalAct → H → H) (history : F → H) (window : ℕ) (all : List (JobLeg H))
+    (notes : List (JobNote F))
+    (copies : List (Running F)) (r : Running F) → AreUnderWay done history window all notes copies
+    → IsUnderWay done history window all notes r
     → AreUnderWay done history window all notes (copies ++ r ∷ [])
 under_way_last done history window all notes [] r are last = (last, tt)
 under_way_last done history window all notes (first ∷ later) r (here, are) last =
@@ -184,64 +181,113 @@ under_way_last done history window all notes (first ∷ later) r (here, are) las
 
 -- ---- a step of one copy
 
-get_follows : {F H : Type 0} (done : LocalAct → H → H) (history : F → H) (window : ℕ) (all : List (JobLeg H)) (wanted : Wanted F) (job : CopyJob)
-    (core after : Core) (g k : FileGet) (old new : F) (result : Progress) (so : IsGettingBy done history window all wanted old g)
+pub get_follows : {F H : Type 0} (done : LocalAct → H → H) (history : F → H) (window : ℕ) (all : List (JobLeg H))
+    (wanted : Wanted F) (job : CopyJob)
+    (core after : Core) (g k : FileGet) (old new : F) (result : Progress)
+    (so : IsGettingBy done history window all wanted old g)
     → job ≡ wanted.job → CopyStepDid done job core (state.Get g) after (state.Get k) (history old) (history new) result
-    → FollowsSteps (IsGetLeg done (string_bytes wanted.job.from) (string_bytes wanted.job.part) (string_bytes wanted.job.to))
+    → FollowsSteps (IsGetLeg done (string_bytes wanted.job.from) (string_bytes wanted.job.part)
+    (string_bytes wanted.job.to))
     (get_begun window wanted.job.begins_at) (history wanted.local) so.earlier
     (record { core = core; old = g; before = history old; after = after; new = k; now = history new; result = result })
 get_follows done history window all wanted job core after g k old new result so is did = record {
-  did = subst (λ (j : CopyJob). CopyStepDid done j core (state.Get g) after (state.Get k) (history old) (history new) result) is did;
+  did = subst (λ (j : CopyJob). CopyStepDid done j core (state.Get g) after (state.Get k) (history old) (history new)
+      result) is did;
   stood = so.stands;
   done = so.now;
 }
 
-put_follows : {F H : Type 0} (done : LocalAct → H → H) (history : F → H) (window : ℕ) (all : List (JobLeg H)) (wanted : Wanted F) (job : CopyJob)
-    (core after : Core) (p q : FilePut) (old new : F) (result : Progress) (so : IsPuttingBy done history window all wanted old p)
+pub put_follows : {F H : Type 0} (done : LocalAct → H → H) (history : F → H) (window : ℕ) (all : List (JobLeg H))
+    (wanted : Wanted F) (job : CopyJob)
+    (core after : Core) (p q : FilePut) (old new : F) (result : Progress)
+    (so : IsPuttingBy done history window all wanted old p)
     → job ≡ wanted.job → CopyStepDid done job core (state.Put p) after (state.Put q) (history old) (history new) result
-    → FollowsSteps (IsPutLeg done (string_bytes wanted.job.from) (string_bytes wanted.job.part) (string_bytes wanted.job.to))
+    → FollowsSteps (IsPutLeg done (string_bytes wanted.job.from) (string_bytes wanted.job.part)
+    (string_bytes wanted.job.to))
     (put_begun window wanted.job.begins_at wanted.job.attrs) (history wanted.local) so.earlier
     (record { core = core; old = p; before = history old; after = after; new = q; now = history new; result = result })
 put_follows done history window all wanted job core after p q old new result so is did = record {
-  did = subst (λ (j : CopyJob). CopyStepDid done j core (state.Put p) after (state.Put q) (history old) (history new) result) is did;
+  did = subst (λ (j : CopyJob). CopyStepDid done j core (state.Put p) after (state.Put q) (history old) (history new)
+      result) is did;
   stood = so.stands;
   done = so.now;
 }
 
 -- the leg that a step made
-abbrev step_leg : {F H : Type 0} → (F → H) → CopyJob → Core → CopyState → F → Core → CopyState → F → Progress → JobLeg H
+abbrev pub step_leg : {F H : Type 0} → (F → H) → CopyJob → Core → CopyState → F → Core → CopyState → F → Progress
+    → JobLeg H
 step_leg history job core old before after new now result =
     record {
       job = job;
-      leg = record { core = core; old = old; before = history before; after = after; new = new; now = history now; result = result };
+      leg = record {
+        core = core;
+        old = old;
+        before = history before;
+        after = after;
+        new = new;
+        now = history now;
+        result = result;
+      };
     }
 
 -- it goes on
-step_copying : {F H : Type 0} (done : LocalAct → H → H) (history : F → H) (window : ℕ) (all : List (JobLeg H)) (wanted : Wanted F) (job : CopyJob)
+step_copying : {F H : Type 0} (done : LocalAct → H → H) (history : F → H) (window : ℕ) (all : List (JobLeg H))
+    (wanted : Wanted F) (job : CopyJob)
     (core after : Core) (s t : CopyState) (old new : F) (result : Progress) → HasGoneOn result → job ≡ wanted.job
-    → IsCopyingBy done history window all wanted old s → CopyStepDid done job core s after t (history old) (history new) result
+    → IsCopyingBy done history window all wanted old s → CopyStepDid done job core s after t (history old) (history new)
+    result
     → IsCopyingBy done history window (step_leg history job core s old after t new result ∷ all) wanted new t
-step_copying done history window all wanted job core after (state.Get g) (state.Get k) old new result going is so did = record {
-  earlier = record { core = core; old = g; before = history old; after = after; new = k; now = history new; result = result } ∷ so.earlier;
-  legs = (get_follows done history window all wanted job core after g k old new result so is did, going, so.legs);
-  stands = refl;
-  now = refl;
-  among = inl (ap (λ (j : CopyJob). step_leg history j core (state.Get g) old after (state.Get k) new result) (sym is), so.among);
-  way_is = so.way_is;
-}
-step_copying done history window all wanted job core after (state.Put p) (state.Put q) old new result going is so did = record {
-  earlier = record { core = core; old = p; before = history old; after = after; new = q; now = history new; result = result } ∷ so.earlier;
-  legs = (put_follows done history window all wanted job core after p q old new result so is did, going, so.legs);
-  stands = refl;
-  now = refl;
-  among = inl (ap (λ (j : CopyJob). step_leg history j core (state.Put p) old after (state.Put q) new result) (sym is), so.among);
-  way_is = so.way_is;
-}
-step_copying done history window all wanted job core after (state.Get g) (state.Put q) old new result going is so never = absurd never
-step_copying done history window all wanted job core after (state.Put p) (state.Get k) old new result going is so never = absurd never
+step_copying done history window all wanted job core after (state.Get g) (state.Get k) old new result going is so did =
+    record {
+      earlier = record {
+        core = core;
+        old = g;
+        before = history old;
+        after = after;
+        new = k;
+        now = history new;
+        result =
+            result;
+      } ∷ so.earlier;
+      legs = (get_follows done history window all wanted job core after g k old new result so is did, going, so.legs);
+      stands = refl;
+      now = refl;
+      among = inl (
+        ap (λ (j : CopyJob). step_leg history j core (state.Get g) old after (state.Get k) new result) (sym is),
+        so.among,
+      );
+      way_is = so.way_is;
+    }
+step_copying done history window all wanted job core after (state.Put p) (state.Put q) old new result going is so did =
+    record {
+      earlier = record {
+        core = core;
+        old = p;
+        before = history old;
+        after = after;
+        new = q;
+        now = history new;
+        result =
+            result;
+      } ∷ so.earlier;
+      legs = (put_follows done history window all wanted job core after p q old new result so is did, going, so.legs);
+      stands = refl;
+      now = refl;
+      among = inl (
+        ap (λ (j : CopyJob). step_leg history j core (state.Put p) old after (state.Put q) new result) (sym is),
+        so.among,
+      );
+      way_is = so.way_is;
+    }
+step_copying done history window all wanted job core after (state.Get g) (state.Put q) old new result going is so never
+    = absurd never
+step_copying done history window all wanted job core after (state.Put p) (state.Get k) old new result going is so never
+    = absurd never
 
-turn_under_way : {F H : Type 0} (done : LocalAct → H → H) (history : F → H) (window : ℕ) (all : List (JobLeg H)) (notes : List (JobNote F))
-    (core after : Core) (old new : List (Running F)) (result : Progress) → HasGoneOn result → AreUnderWay done history window all notes old
+turn_under_way : {F H : Type 0} (done : LocalAct → H → H) (history : F → H) (window : ℕ) (all : List (JobLeg H))
+    (notes : List (JobNote F))
+    (core after : Core) (old new : List (Running F)) (result : Progress) → HasGoneOn result
+    → AreUnderWay done history window all notes old
     → (takes : TakesTurn done history core old after new result)
     → AreUnderWay done history window (leg_of history core takes.copy after takes.next result ∷ all) notes new
 turn_under_way {F = F} done history window all notes core after old new result going are takes =
@@ -252,7 +298,8 @@ turn_under_way {F = F} done history window all notes core after old new result g
       wanted = first.wanted;
       given = first.given;
       job = takes.goes.job ∙ first.job;
-      copying = step_copying done history window all first.wanted takes.copy.job core after takes.copy.state takes.next.state takes.copy.local
+      copying = step_copying done history window all first.wanted takes.copy.job core after takes.copy.state
+          takes.next.state takes.copy.local
           takes.next.local result going first.job first.copying takes.goes.did;
     } in
     let later = more_under_way done history window all (leg ∷ all) notes notes takes.later
@@ -267,8 +314,10 @@ pub record AreCopies {F H : Type 0} (done : LocalAct → H → H) (history : F �
   pub under_way : AreUnderWay done history window all notes copies
   pub told : AreCopiesTold (HasOwnLegs done history window all notes) notes
 
-turn_copies : {F H : Type 0} (done : LocalAct → H → H) (history : F → H) (window : ℕ) (all : List (JobLeg H)) (notes : List (JobNote F))
-    (core after : Core) (old new : List (Running F)) (result : Progress) → HasGoneOn result → AreCopies done history window all notes old
+turn_copies : {F H : Type 0} (done : LocalAct → H → H) (history : F → H) (window : ℕ) (all : List (JobLeg H))
+    (notes : List (JobNote F))
+    (core after : Core) (old new : List (Running F)) (result : Progress) → HasGoneOn result
+    → AreCopies done history window all notes old
     → (takes : TakesTurn done history core old after new result)
     → AreCopies done history window (leg_of history core takes.copy after takes.next result ∷ all) notes new
 turn_copies done history window all notes core after old new result going c takes =
@@ -279,177 +328,22 @@ turn_copies done history window all notes core after old new result going c take
           (record { legs = λ xs. among_one xs leg all; notes = λ note has. has }) c.told;
     }
 
-worked_copies : {L S F H : Type 0} (state : L → LinkView S) (done : LocalAct → H → H) (history : F → H) (window : ℕ) (all : List (JobLeg H))
+pub worked_copies : {L S F H : Type 0} (state : L → LinkView S) (done : LocalAct → H → H) (history : F → H) (window : ℕ)
+    (all : List (JobLeg H))
     (notes : List (JobNote F)) (n : ℕ) (old new : Working L F) → AreCopies done history window all notes old.running
     → (worked : WorkedOn state done history n old new)
     → AreCopies done history window (worked_legs state done history n old new worked ++ all) notes new.running
 worked_copies {L = L} {F = F} state done history window all notes zero old new c same =
     subst (λ (w : Working L F). AreCopies done history window all notes w.running) (sym same) c
 worked_copies state done history window all notes (suc n) old new c (mid, earlier, inl s) =
-    turn_copies done history window (worked_legs state done history n old mid earlier ++ all) notes mid.session.core new.session.core mid.running
+    turn_copies done history window (worked_legs state done history n old mid earlier ++ all) notes mid.session.core
+    new.session.core mid.running
     new.running progress.Waits tt (worked_copies state done history window all notes n old mid c earlier) s.steps
 worked_copies state done history window all notes (suc n) old new c (mid, earlier, inr (inl s)) =
-    turn_copies done history window (worked_legs state done history n old mid earlier ++ all) notes mid.session.core new.session.core mid.running
+    turn_copies done history window (worked_legs state done history n old mid earlier ++ all) notes mid.session.core
+    new.session.core mid.running
     new.running progress.Moved tt (worked_copies state done history window all notes n old mid c earlier) s.steps
 worked_copies {F = F} state done history window all notes (suc n) old new c (mid, earlier, inr (inr t)) =
-    subst (λ (l : List (Running F)). AreCopies done history window (worked_legs state done history n old mid earlier ++ all) notes l) (sym t.same)
+    subst (λ (l : List (Running F)). AreCopies done history window
+    (worked_legs state done history n old mid earlier ++ all) notes l) (sym t.same)
     (worked_copies state done history window all notes n old mid c earlier)
-
--- ---- a copy that ended
-
--- its result and its local file are those that are told
-whole_got : {F H : Type 0} (done : LocalAct → H → H) (history : F → H) (window : ℕ) (all : List (JobLeg H)) (wanted : Wanted F) (copied : Copied F)
-    (earlier : List (CopyStep FileGet H)) (last : CopyStep FileGet H)
-    → IsWholeCopy (IsGetLeg done (string_bytes wanted.job.from) (string_bytes wanted.job.part) (string_bytes wanted.job.to))
-    (get_begun window wanted.job.begins_at) (history wanted.local) earlier last copied.result → last.now ≡ history copied.local
-    → AreInOrderAmong (legs_of state.Get wanted.job (last ∷ earlier)) all → HasGot done history window all wanted copied
-whole_got {H = H} done history window all wanted copied earlier last whole told among =
-    let from = string_bytes wanted.job.from in
-    let part = string_bytes wanted.job.part in
-    let to = string_bytes wanted.job.to in
-    record {
-      earlier = earlier;
-      last = last;
-      whole = whole;
-      told = told;
-      among = among;
-      got = λ len is. subst (λ (h : H). GotWhole done from part to wanted.job.begins_at len (history wanted.local) h (last ∷ earlier)) told
-          (got_whole done from part to window wanted.job.begins_at len (history wanted.local) earlier last
-          (subst (λ (r : Result ℕ CopyError). IsWholeCopy (IsGetLeg done from part to) (get_begun window wanted.job.begins_at)
-          (history wanted.local) earlier last r) is whole));
-    }
-
-whole_put : {F H : Type 0} (done : LocalAct → H → H) (history : F → H) (window : ℕ) (all : List (JobLeg H)) (wanted : Wanted F) (copied : Copied F)
-    (earlier : List (CopyStep FilePut H)) (last : CopyStep FilePut H)
-    → IsWholeCopy (IsPutLeg done (string_bytes wanted.job.from) (string_bytes wanted.job.part) (string_bytes wanted.job.to))
-    (put_begun window wanted.job.begins_at wanted.job.attrs) (history wanted.local) earlier last copied.result
-    → last.now ≡ history copied.local → AreInOrderAmong (legs_of state.Put wanted.job (last ∷ earlier)) all
-    → HasPut done history window all wanted copied
-whole_put {H = H} done history window all wanted copied earlier last whole told among =
-    let from = string_bytes wanted.job.from in
-    let part = string_bytes wanted.job.part in
-    let to = string_bytes wanted.job.to in
-    record {
-      earlier = earlier;
-      last = last;
-      whole = whole;
-      told = told;
-      among = among;
-      sent = λ len is. subst (λ (h : H). SentWhole done from part to wanted.job.begins_at len (history wanted.local) h (last ∷ earlier)) told
-          (sent_whole done from part to window wanted.job.begins_at len wanted.job.attrs (history wanted.local) earlier last
-          (subst (λ (r : Result ℕ CopyError). IsWholeCopy (IsPutLeg done from part to) (put_begun window wanted.job.begins_at wanted.job.attrs)
-          (history wanted.local) earlier last r) is whole));
-    }
-
-ended_has : {F H : Type 0} (done : LocalAct → H → H) (history : F → H) (window : ℕ) (all : List (JobLeg H)) (wanted : Wanted F) (job : CopyJob)
-    (core after : Core) (s t : CopyState) (old new : F) (copied : Copied F) → job ≡ wanted.job → copied.local ≡ new
-    → IsCopyingBy done history window all wanted old s
-    → CopyStepDid done job core s after t (history old) (history new) (progress.Ended copied.result)
-    → HasLegs done history window (step_leg history job core s old after t new (progress.Ended copied.result) ∷ all) wanted copied wanted.job.way
-ended_has {H = H} done history window all wanted job core after (state.Get g) (state.Get k) old new copied is local so did =
-    let result = progress.Ended copied.result in
-    let leg : CopyStep FileGet H = record { core = core; old = g; before = history old; after = after; new = k; now = history new; result = result } in
-    let legs = step_leg history job core (state.Get g) old after (state.Get k) new result ∷ all in
-    subst (λ (w : Direction). HasLegs done history window legs wanted copied w) (sym so.way_is)
-    (whole_got done history window legs wanted copied so.earlier leg
-    (record {
-      legs = so.legs;
-      follows = get_follows done history window all wanted job core after g k old new result so is did;
-      ended = refl;
-    })
-    (ap history (sym local))
-    (inl (ap (λ (j : CopyJob). step_leg history j core (state.Get g) old after (state.Get k) new result) (sym is), so.among)))
-ended_has {H = H} done history window all wanted job core after (state.Put p) (state.Put q) old new copied is local so did =
-    let result = progress.Ended copied.result in
-    let leg : CopyStep FilePut H = record { core = core; old = p; before = history old; after = after; new = q; now = history new; result = result } in
-    let legs = step_leg history job core (state.Put p) old after (state.Put q) new result ∷ all in
-    subst (λ (w : Direction). HasLegs done history window legs wanted copied w) (sym so.way_is)
-    (whole_put done history window legs wanted copied so.earlier leg
-    (record {
-      legs = so.legs;
-      follows = put_follows done history window all wanted job core after p q old new result so is did;
-      ended = refl;
-    })
-    (ap history (sym local))
-    (inl (ap (λ (j : CopyJob). step_leg history j core (state.Put p) old after (state.Put q) new result) (sym is), so.among)))
-ended_has done history window all wanted job core after (state.Get g) (state.Put q) old new copied is local so never = absurd never
-ended_has done history window all wanted job core after (state.Put p) (state.Get k) old new copied is local so never = absurd never
-
--- ---- what jobs do to them
-
-pub ended_copies : {L S F H : Type 0} (state : L → LinkView S) (done : LocalAct → H → H) (history : F → H) (window : ℕ) (all : List (JobLeg H))
-    (notes : List (JobNote F)) (old new : Working L F) (copied : Copied F) → AreCopies done history window all notes old.running
-    → (ended : NextEnded state done history old new (Ok (Some copied)))
-    → AreCopies done history window (ended_legs state done history old new copied ended ++ all) (notes ++ Over copied ∷ []) new.running
-ended_copies {F = F} state done history window all notes old new copied c (n, last, worked, ends) =
-    let were = worked_legs state done history n old last worked ++ all in
-    let before = worked_copies state done history window all notes n old last c worked in
-    let turn = ends.steps in
-    let leg = leg_of history last.session.core turn.copy turn.mid turn.last (progress.Ended copied.result) in
-    let allows : AllowsMore were (leg ∷ were) notes (notes ++ Over copied ∷ []) = record {
-      legs = λ xs. among_one xs leg were;
-      notes = λ note has. Contains-append_left notes (Over copied ∷ []) note has;
-    } in
-    let both = subst (λ (l : List (Running F)). AreUnderWay done history window were notes l) turn.first before.under_way in
-    let first = both.0 in
-    let later = more_under_way done history window were (leg ∷ were) notes (notes ++ Over copied ∷ []) turn.later allows both.1 in
-    record {
-      under_way = subst (λ (l : List (Running F)). AreUnderWay done history window (leg ∷ were) (notes ++ Over copied ∷ []) l) (sym turn.now) later;
-      told = told_join (HasOwnLegs done history window (leg ∷ were) (notes ++ Over copied ∷ [])) notes (Over copied ∷ [])
-          (more_told done history window were (leg ∷ were) notes (notes ++ Over copied ∷ []) notes allows before.told) (
-            record {
-              wanted = first.wanted;
-              given = allows.notes (Given first.wanted) first.given;
-              job = turn.ended.job ∙ (turn.goes.job ∙ first.job);
-              copies = ended_has done history window were first.wanted turn.copy.job last.session.core turn.mid turn.copy.state turn.last.state
-                  turn.copy.local turn.last.local copied first.job turn.ended.local first.copying turn.goes.did;
-            },
-            tt,
-          );
-    }
-
-begun_copying : {F H : Type 0} (done : LocalAct → H → H) (history : F → H) (window : ℕ) (all : List (JobLeg H)) (wanted : Wanted F) (w : Direction)
-    → wanted.job.way ≡ w
-    → IsCopyingBy done history window all wanted wanted.local (copy_begun w window wanted.job.begins_at wanted.job.attrs)
-begun_copying done history window all wanted way.Get is =
-    record { earlier = []; legs = tt; stands = refl; now = refl; among = tt; way_is = is }
-begun_copying done history window all wanted way.Put is =
-    record { earlier = []; legs = tt; stands = refl; now = refl; among = tt; way_is = is }
-
-pub begun_copies : {F H : Type 0} (done : LocalAct → H → H) (history : F → H) (window : ℕ) (all : List (JobLeg H)) (notes : List (JobNote F))
-    (copies : List (Running F)) (wanted : Wanted F) → AreCopies done history window all notes copies
-    → AreCopies done history window all (notes ++ Given wanted ∷ [])
-    (copies ++ record { job = wanted.job; local = wanted.local; state = job_begun wanted.job window } ∷ [])
-begun_copies {F = F} done history window all notes copies wanted c =
-    let begun : Running F = record { job = wanted.job; local = wanted.local; state = job_begun wanted.job window } in
-    let told = notes ++ Given wanted ∷ [] in
-    let allows : AllowsMore all all notes told = record {
-      legs = λ xs are. are;
-      notes = λ note has. Contains-append_left notes (Given wanted ∷ []) note has;
-    } in
-    record {
-      under_way = under_way_last done history window all told copies begun (more_under_way done history window all all notes told copies allows c.under_way)
-          (record {
-            wanted = wanted;
-            given = Contains-push notes (Given wanted);
-            job = refl;
-            copying = begun_copying done history window all wanted wanted.job.way refl;
-          });
-      told = told_join (HasOwnLegs done history window all told) notes (Given wanted ∷ [])
-          (more_told done history window all all notes told notes allows c.told) tt;
-    }
-
-pub no_more_copies : {F H : Type 0} (done : LocalAct → H → H) (history : F → H) (window : ℕ) (all : List (JobLeg H)) (notes : List (JobNote F))
-    (copies : List (Running F)) → AreCopies done history window all notes copies
-    → AreCopies done history window all (notes ++ NoMore ∷ []) copies
-no_more_copies done history window all notes copies c =
-    let told = notes ++ NoMore ∷ [] in
-    let allows : AllowsMore all all notes told = record {
-      legs = λ xs are. are;
-      notes = λ note has. Contains-append_left notes (NoMore ∷ []) note has;
-    } in
-    record {
-      under_way = more_under_way done history window all all notes told copies allows c.under_way;
-      told = told_join (HasOwnLegs done history window all told) notes (NoMore ∷ [])
-          (more_told done history window all all notes told notes allows c.told) tt;
-    }

@@ -2,4 +2,5 @@ mod GoingLaws
 mod TogetherLaws
 mod WorkLaws
 mod LegLaws
+mod EndedCopies
 mod JobLaws

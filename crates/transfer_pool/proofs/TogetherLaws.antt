@@ -207,7 +207,8 @@ apart_none : {F : Type 0} (rs : List (Running F)) → AreApartFrom nothing_held 
 apart_none [] = tt
 apart_none (r ∷ later) = (λ id is. record { file = tt; parts = tt }, apart_none later)
 
-begun_held : (way : Direction) (window from : ℕ) (attrs : Option FileAttrs) → holding_of (copy_begun way window from attrs)
+begun_held : (way : Direction) (window from : ℕ) (attrs : Option FileAttrs)
+    → holding_of (copy_begun way window from attrs)
     ≡ nothing_held
 begun_held way.Get window from attrs = refl
 begun_held way.Put window from attrs = refl

@@ -61,7 +61,8 @@ use Rattle.plan_state.specs.Keeping.{KeepsGrants}
 use Rattle.plan_state.specs.Runners.{Meaning}
 use Rattle.plan_state.specs.Told.{reply_of}
 use Rattle.plan_state.specs.declared.told.Told.TheVariants as told
-use Rattle.plan_state.proofs.Keeping.{grant_at, grants_both, keeps_same, still_under_way}
+use Rattle.plan_state.proofs.Keeping.{grants_both, keeps_same}
+use Rattle.plan_state.proofs.OthersKept.{grant_at, still_under_way}
 use Rattle.plan_state.specs.declared.poll.Poll.{Poll}
 use Rattle.plan_state.specs.declared.poll.Poll.TheVariants as poll
 use Rattle.plan_state.specs.declared.stage.Stage.{Stage}

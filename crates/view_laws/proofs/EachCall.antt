@@ -23,7 +23,8 @@ use Rattle.run_laws.specs.Steps.{AreServed, ChooseOnly, RefusesNone, Step, after
 use Rattle.run_laws.proofs.MoveWords.{is_done}
 use Rattle.view_model.specs.Plain.{pieces, put_pieces}
 use Rattle.view_laws.specs.FileCalls.{FilesAt, MayCall, MayRead, MayWrite, OpenFilePlace, IsStanding, bare, found_by, files_with_open}
-use Rattle.view_laws.proofs.CallsDone.{HasDone, close_done, grant_stays, moved, open_done, read_done, seek_done}
+use Rattle.view_laws.proofs.CallsDone.{HasDone}
+use Rattle.view_laws.proofs.ReadsDone.{close_done, grant_stays, moved, open_done, read_done, seek_done}
 use Rattle.view_laws.proofs.SlotCalls.{AsksSo, HoldsSlot, IsAt, IsOne, file_at, offset_in, site_with}
 use Rattle.view_laws.proofs.WritesDone.{not_over, writes_done}
 

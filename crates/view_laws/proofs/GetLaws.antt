@@ -85,7 +85,8 @@ module _ (len block capacity : ℕ) (tree : FileTree) (path : List ℕ) (offset 
             let spread : (first_block block offset + block_count block offset wanted) * block
             ≡ first_block block offset * block + block_count block offset wanted * block = omega arith in
             let one : block_count block offset wanted * block ≡ (block_count block offset wanted - 1) * block + block =
-            (let is : block_count block offset wanted ≡ (block_count block offset wanted - 1) + 1 = omega (arith, more) in
+            (let is : block_count block offset wanted ≡ (block_count block offset wanted - 1) + 1 = omega (arith, more)
+            in
             let wide : ((block_count block offset wanted - 1) + 1) * block
             ≡ (block_count block offset wanted - 1) * block + block = omega arith in
             ap (λ (k : ℕ). k * block) is ∙ wide) in
@@ -93,17 +94,20 @@ module _ (len block capacity : ℕ) (tree : FileTree) (path : List ℕ) (offset 
 
         ends : (value : Found) (keys : Keys) (x : Answer) → got_of (offset - first_block block offset * block) wanted
             value ≡ x
-            → Holds len (gather_blocks block capacity path (first_block block offset) (block_count block offset wanted) []
+            → Holds len (gather_blocks block capacity path (first_block block offset) (block_count block offset wanted)
+            []
             kept) (at_rest tree)
             (HasGathered len block capacity tree path some fits value keys)
             → Holds len (get_by block capacity path offset wanted kept) (at_rest tree) (IsAnswered block x tree keys)
         ends value keys x is g =
-            holds_bind len (gather_blocks block capacity path (first_block block offset) (block_count block offset wanted)
+            holds_bind len (gather_blocks block capacity path (first_block block offset)
+            (block_count block offset wanted)
             [] kept)
             (λ g. pure (answered_with (got_of (offset - first_block block offset * block) wanted g.found) g.kept))
             (at_rest tree)
             (HasGathered len block capacity tree path some fits value keys) (IsAnswered block x tree keys) g
-            (λ g now w. holds_pure len (answered_with (got_of (offset - first_block block offset * block) wanted g.found)
+            (λ g now w. holds_pure len (answered_with (got_of (offset - first_block block offset * block) wanted
+            g.found)
             g.kept) now (IsAnswered block x tree keys)
             (record {
               answer_is = ap (got_of (offset - first_block block offset * block) wanted) w.found_is ∙ is;
@@ -119,7 +123,8 @@ module _ (len block capacity : ℕ) (tree : FileTree) (path : List ℕ) (offset 
         by_node None is =
             subst (λ (x : Option Node). Holds len (get_by block capacity path offset wanted kept) (at_rest tree)
             (IsAnswered block (bytes_from tree offset wanted x) tree
-            (keys_got tree block capacity (components path) (first_block block offset) (block_count block offset wanted) x
+            (keys_got tree block capacity (components path) (first_block block offset) (block_count block offset wanted)
+            x
             (without_bytes kept)))) (sym is)
             (ends (Err 2) _ (answer.Refused 2) refl
             (refuses_all len block capacity tree path some fits 2 (first_block block offset)
@@ -127,7 +132,8 @@ module _ (len block capacity : ℕ) (tree : FileTree) (path : List ℕ) (offset 
         by_node (Some node.Directory) is =
             subst (λ (x : Option Node). Holds len (get_by block capacity path offset wanted kept) (at_rest tree)
             (IsAnswered block (bytes_from tree offset wanted x) tree
-            (keys_got tree block capacity (components path) (first_block block offset) (block_count block offset wanted) x
+            (keys_got tree block capacity (components path) (first_block block offset) (block_count block offset wanted)
+            x
             (without_bytes kept)))) (sym is)
             (ends (Err 4) _ (answer.Refused 4) refl
             (refuses_all len block capacity tree path some fits 4 (first_block block offset)
@@ -135,7 +141,8 @@ module _ (len block capacity : ℕ) (tree : FileTree) (path : List ℕ) (offset 
         by_node (Some (node.File file)) is =
             subst (λ (x : Option Node). Holds len (get_by block capacity path offset wanted kept) (at_rest tree)
             (IsAnswered block (bytes_from tree offset wanted x) tree
-            (keys_got tree block capacity (components path) (first_block block offset) (block_count block offset wanted) x
+            (keys_got tree block capacity (components path) (first_block block offset) (block_count block offset wanted)
+            x
             (without_bytes kept)))) (sym is)
             (ends _ _ (answer.Got (take wanted (drop offset (bytes_of tree file))))
             (ap (λ (w : List ℕ). answer.Got w) (cut_of file))

@@ -9,6 +9,7 @@ mod PutLaws
 mod ViewedLaws
 mod SlotCalls
 mod CallsDone
+mod ReadsDone
 mod WritesDone
 mod EachCall
 mod JournalSteps

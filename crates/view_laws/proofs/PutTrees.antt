@@ -231,11 +231,12 @@ file_in (node.File file) = file
 -- a further file is one of the name alone
 well_made : (name : Name) (tree : FileTree) → IsWellFormed tree → IsWellFormed (with_file tree name)
 well_made name tree well = record {
-  named = λ other file has. elim (has_push tree.names (name, node.File (length tree.files)) (other, node.File file) has) [
-    | inl old ↦ let lt = well.named other file old in omega (arith, lt, one_longer)
-    | inr new ↦ let same : length tree.files ≡ file = ap (λ (p : Name × Node). file_in p.1) new in
-        omega (arith, same, one_longer)
-  ];
+  named = λ other file has.
+      elim (has_push tree.names (name, node.File (length tree.files)) (other, node.File file) has) [
+        | inl old ↦ let lt = well.named other file old in omega (arith, lt, one_longer)
+        | inr new ↦ let same : length tree.files ≡ file = ap (λ (p : Name × Node). file_in p.1) new in
+            omega (arith, same, one_longer)
+      ];
   held = λ h held has. let lt = well.held h held has in omega (arith, lt, one_longer);
   alone = λ a b file x y. both a b file (has_push tree.names (name, node.File (length tree.files)) (a, node.File file)
       x)

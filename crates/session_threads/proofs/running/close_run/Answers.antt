@@ -1,6 +1,6 @@
 use Rattle.std.proofs.Common.{◌∷◌, [], subst}
 use Rattle.sftp_tasks.specs.Reported.{Reported}
-use Rattle.session_threads.proofs.RunLaws.{runs_looked_at}
+use Rattle.session_threads.proofs.RunReports.{runs_looked_at}
 use Rattle.session_threads.proofs.running.close_run.Goals as goal
 
 pub returns-in-Ok-close-clause-runs : goal.returns-in-Ok-close-clause-runs

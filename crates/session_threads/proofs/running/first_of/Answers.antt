@@ -1,4 +1,4 @@
-use Rattle.session_threads.proofs.RunLaws.{first_is}
+use Rattle.session_threads.proofs.RunReports.{first_is}
 use Rattle.session_threads.proofs.running.first_of.Goals as goal
 
 pub returns : goal.returns

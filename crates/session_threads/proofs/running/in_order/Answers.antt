@@ -1,5 +1,5 @@
 use Rattle.std.proofs.Common.{rules, ◌∙◌, sym}
-use Rattle.session_threads.proofs.RunLaws.{three_more}
+use Rattle.session_threads.proofs.RunReports.{three_more}
 use Rattle.session_threads.proofs.running.in_order.Goals as goal
 
 pub returns : goal.returns

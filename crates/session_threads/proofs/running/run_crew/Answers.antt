@@ -10,7 +10,8 @@ use Rattle.session_threads.specs.RunEnds.{IsEnded, is_handed_in, is_let_go, is_s
 use Rattle.session_threads.specs.Running.{AllRan, WorkedUntilEnd, moves_none}
 use Rattle.session_threads.proofs.EndLaws.{ended_run}
 use Rattle.session_threads.proofs.HalfLaws.{workers_end}
-use Rattle.session_threads.proofs.RunLaws.{crew_complete, crew_ran, ran_made, ran_names, ran_of, runs_made, stops_by}
+use Rattle.session_threads.proofs.RunLaws.{ran_made, ran_names, ran_of}
+use Rattle.session_threads.proofs.RunReports.{crew_complete, crew_ran, runs_made, stops_by}
 use Rattle.session_threads.proofs.running.run_crew.Goals as goal
 
 pub returns-in-Some-clause-stops : goal.returns-in-Some-clause-stops

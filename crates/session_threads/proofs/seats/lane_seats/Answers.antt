@@ -7,7 +7,8 @@ use Rattle.sftp_tasks.specs.Reported.{lane_named}
 use Rattle.session_threads.specs.Crews.{lanes_below}
 use Rattle.session_seats.proofs.Lists.{stays_same}
 use Rattle.session_threads.specs.Running.{AllMadeNothing, AllReady}
-use Rattle.session_threads.proofs.RunLaws.{fits_names, given_on, lane_given, made_snoc, names_more}
+use Rattle.session_threads.proofs.RunLaws.{given_on, lane_given, made_snoc}
+use Rattle.session_threads.proofs.RunReports.{fits_names, names_more}
 use Rattle.session_threads.proofs.seats.lane_seats.Goals as goal
 
 pub loop-init : goal.loop-init

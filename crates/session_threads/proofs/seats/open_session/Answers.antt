@@ -1,5 +1,5 @@
 use Rattle.session_threads.proofs.FaultLaws.{opening_stops}
-use Rattle.session_threads.proofs.RunLaws.{opened_home}
+use Rattle.session_threads.proofs.RunReports.{opened_home}
 use Rattle.session_threads.proofs.seats.open_session.Goals as goal
 
 pub returns-in-Ok-true-clause-home : goal.returns-in-Ok-true-clause-home

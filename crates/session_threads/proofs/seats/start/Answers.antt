@@ -2,7 +2,8 @@ use Rattle.std.proofs.Common.{◌≡◌, ◌∙◌, ◌++◌, ◌∷◌, [], Lis
 use Rattle.plan_model.specs.declared.call.Lane.{Lane}
 use Rattle.session_seats.specs.Holds.{claim_of}
 use Rattle.session_threads.specs.Crews.{named_in_order}
-use Rattle.session_threads.proofs.RunLaws.{crew_named, still_moved, still_sees, worker_given, worker_sees}
+use Rattle.session_threads.proofs.RunLaws.{worker_given, worker_sees}
+use Rattle.session_threads.proofs.RunReports.{crew_named, still_moved, still_sees}
 use Rattle.session_threads.proofs.seats.start.Goals as goal
 
 pub returns-clause-crew : goal.returns-clause-crew

@@ -2,7 +2,7 @@ use Rattle.std.proofs.Common.{rules, ◌≡◌, sym, subst}
 use Rattle.sftp_fs.specs.WholeWrites.{CancelsWrite, IsWriteHeld}
 use Rattle.sftp_fs.specs.declared.fs_write.Writing.{Writing}
 use Rattle.sftp_fs.specs.declared.fs_write.Writing.TheVariants as writing
-use Rattle.sftp_fs.proofs.WriteOpens.{drops_nothing, drops_opened, drops_opening, drops_parts}
+use Rattle.sftp_fs.proofs.OpenedWrites.{drops_nothing, drops_opened, drops_opening, drops_parts}
 use Rattle.sftp_fs.proofs.fs_write.cancel.Goals as goal
 
 pub returns-in-Opening : goal.returns-in-Opening

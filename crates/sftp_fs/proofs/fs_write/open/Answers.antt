@@ -7,7 +7,8 @@ use Rattle.plan_state.specs.declared.poll.Poll.TheVariants.{Ready}
 use Rattle.sftp_fs.specs.Grants.{grant_meaning}
 use Rattle.sftp_fs.specs.WholeWrites.{WriteAnswer, WroteOn}
 use Rattle.sftp_fs.specs.declared.fs_write.Writing.TheVariants as writing
-use Rattle.sftp_fs.proofs.WriteOpens.{open_begun, open_end, open_on, ready_behind}
+use Rattle.sftp_fs.proofs.WriteOpens.{open_end, open_on}
+use Rattle.sftp_fs.proofs.OpenedWrites.{open_begun, ready_behind}
 use Rattle.sftp_fs.proofs.fs_write.open.Goals as goal
 
 pub returns-then-not-is_ended : goal.returns-then-not-is_ended

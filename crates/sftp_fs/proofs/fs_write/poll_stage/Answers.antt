@@ -2,7 +2,7 @@ use Rattle.std.proofs.Common.{rules, ◌≡◌, sym, subst}
 use Rattle.sftp_fs.specs.WholeWrites.{WroteOn}
 use Rattle.sftp_fs.specs.declared.fs_write.Writing.{Writing}
 use Rattle.sftp_fs.specs.declared.fs_write.Writing.TheVariants as writing
-use Rattle.sftp_fs.proofs.WriteOpens.{opened_on}
+use Rattle.sftp_fs.proofs.OpenedWrites.{opened_on}
 use Rattle.sftp_fs.proofs.fs_write.poll_stage.Goals as goal
 
 pub returns-in-Opened : goal.returns-in-Opened

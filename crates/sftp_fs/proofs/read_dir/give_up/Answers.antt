@@ -1,7 +1,7 @@
 use Rattle.std.proofs.Common.{rules, sym, subst, IsTrue}
 use Rattle.sftp_core.specs.Core.{Core, record_at, is_ticket}
 use Rattle.plan_state.specs.Keeping.{KeepsGrants}
-use Rattle.plan_state.proofs.Keeping.{cancelled_keeps_grants}
+use Rattle.plan_state.proofs.OthersKept.{cancelled_keeps_grants}
 use Rattle.sftp_fs.proofs.read_dir.give_up.Goals as goal
 
 pub returns-in-Some-clause-grants : goal.returns-in-Some-clause-grants

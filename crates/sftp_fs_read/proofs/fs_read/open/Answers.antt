@@ -5,7 +5,7 @@ use Rattle.plan_state.specs.Calls.{StepsByPlan, is_ended}
 use Rattle.plan_state.specs.declared.poll.Poll.{Poll}
 use Rattle.plan_state.specs.declared.poll.Poll.TheVariants.{Ready}
 use Rattle.sftp_fs.specs.Grants.{grant_meaning}
-use Rattle.sftp_fs.proofs.WriteOpens.{ready_behind}
+use Rattle.sftp_fs.proofs.OpenedWrites.{ready_behind}
 use Rattle.sftp_fs_read.specs.Reads.{no_reads}
 use Rattle.sftp_fs_read.specs.WholeReads.{ReadAnswer, ReadOn}
 use Rattle.sftp_fs_read.specs.declared.fs_read.Whole.TheVariants as whole

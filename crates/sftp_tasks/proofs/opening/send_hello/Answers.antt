@@ -20,7 +20,8 @@ returns-in-Ok-None-clause-only g c =
 pub returns-in-Ok-None-clause-sends : goal.returns-in-Ok-None-clause-sends
 returns-in-Ok-None-clause-sends g c =
     let is = c.in-Ok-None.is ∙ ap (λ o. Ok o) c.in-Ok-None.field-0-is in (
-      hello_none c.args.seat.now.inner.me c.apply-did.new.self.inner.me c.apply-did.result.0 is c.apply-did.ensures.held,
+      hello_none c.args.seat.now.inner.me c.apply-did.new.self.inner.me c.apply-did.result.0 is
+          c.apply-did.ensures.held,
       refl,
     )
 

@@ -1,6 +1,6 @@
 use Rattle.std.proofs.Common.{rules}
 use Rattle.plan_state.specs.Calls.{IsUnderWay}
-use Rattle.plan_state.proofs.Keeping.{still_under_way}
+use Rattle.plan_state.proofs.OthersKept.{still_under_way}
 use Rattle.sftp_file.specs.Opens.{open_meaning}
 use Rattle.test_files.proofs.buffered.opened_as.Goals as goal
 

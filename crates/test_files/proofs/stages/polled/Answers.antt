@@ -1,5 +1,5 @@
 use Rattle.std.proofs.Common.{◌∙◌, sym}
-use Rattle.plan_state.proofs.Keeping.{still_under_way}
+use Rattle.plan_state.proofs.OthersKept.{still_under_way}
 use Rattle.test_files.proofs.stages.polled.Goals as goal
 
 pub poll-told-requires : goal.poll-told-requires

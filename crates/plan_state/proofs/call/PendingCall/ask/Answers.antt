@@ -1,5 +1,6 @@
 use Rattle.std.proofs.Common.{refl}
-use Rattle.plan_state.proofs.Keeping.{submitted_holds, submitted_keeps}
+use Rattle.plan_state.proofs.Keeping.{submitted_holds}
+use Rattle.plan_state.proofs.OthersKept.{submitted_keeps}
 use Rattle.plan_state.proofs.call.PendingCall.ask.Goals as goal
 
 pub returns-in-Ok-clause-begins : goal.returns-in-Ok-clause-begins

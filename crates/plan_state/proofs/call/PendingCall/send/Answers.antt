@@ -3,7 +3,8 @@ use Rattle.plan_state.specs.declared.stage.Stage.TheVariants.{Asked}
 use Rattle.plan_state.specs.Calls.{CallValue}
 use Rattle.plan_state.proofs.Going.{sent_by}
 use Rattle.plan_state.proofs.Grants.{asked_brings}
-use Rattle.plan_state.proofs.Keeping.{submitted_holds, submitted_keeps, submitted_missing, submitted_others}
+use Rattle.plan_state.proofs.Keeping.{submitted_holds, submitted_missing}
+use Rattle.plan_state.proofs.OthersKept.{submitted_keeps, submitted_others}
 use Rattle.plan_state.proofs.call.PendingCall.send.Goals as goal
 
 pub returns-in-Ok-clause-went : goal.returns-in-Ok-clause-went

@@ -7,7 +7,8 @@ use Rattle.plan_state.specs.Calls.{CallValue, LeavesCall, MovesByPlan, grant_bro
 use Rattle.plan_state.specs.Told.{reply_of}
 use Rattle.plan_state.proofs.Going.{GoesOn, asked_polled, came_polled, unsent_polled}
 use Rattle.plan_state.proofs.Grants.{asked_brings, ended_brings, polled_brings}
-use Rattle.plan_state.proofs.Keeping.{ended_idle, grants_polled, idle_others, keeps_same, polled_others}
+use Rattle.plan_state.proofs.Keeping.{keeps_same}
+use Rattle.plan_state.proofs.OthersKept.{ended_idle, grants_polled, idle_others, polled_others}
 use Rattle.plan_state.proofs.call.PendingCall.step.Goals as goal
 
 pub returns-in-Unsent : goal.returns-in-Unsent

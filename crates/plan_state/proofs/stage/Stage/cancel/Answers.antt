@@ -1,7 +1,7 @@
 use Rattle.std.proofs.Common.{rules, ◌≡◌}
 use Rattle.plan_state.specs.declared.stage.Stage.TheVariants.{Came}
 use Rattle.plan_state.specs.declared.told.Told.TheVariants as told
-use Rattle.plan_state.proofs.Keeping.{cancels_by}
+use Rattle.plan_state.proofs.OthersKept.{cancels_by}
 use Rattle.plan_state.proofs.stage.Stage.cancel.Goals as goal
 
 pub close-requires : goal.close-requires

@@ -3,7 +3,16 @@ use Rattle.std.specs.Prelude.{min, max}
 use Rattle.plan_state.specs.declared.poll.Poll.TheVariants as poll
 use Rattle.sftp_file.specs.Files.{facts_of}
 use Rattle.sftp_buffered.specs.Reads.{FillsBuffer}
-use Rattle.sftp_buffered.proofs.Reading.{IsPut, MayRead, buffered_reads, empty_reads, filled_reads, pending_reads, refused_reads, unreadable_reads}
+use Rattle.sftp_buffered.proofs.Reading.{IsPut}
+use Rattle.sftp_buffered.proofs.BufferReads.{
+  MayRead,
+  buffered_reads,
+  empty_reads,
+  filled_reads,
+  pending_reads,
+  refused_reads,
+  unreadable_reads,
+}
 use Rattle.sftp_buffered.proofs.file.TokioCompatFile.poll_read.Goals as goal
 
 pub returns-then-not-is_empty-clause-reads : goal.returns-then-not-is_empty-clause-reads
