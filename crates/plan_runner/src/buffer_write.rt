@@ -16,6 +16,7 @@ use crate::buffer_seek::after_first;
 use crate::next::{Asked, Next, Running};
 use crate::replies::{failure, refused};
 use crate::site::{set_slot, slot_of};
+use crate::turn::Turn;
 use crate::writing::content_of;
 use sftp_model::{Buffer, Facts, FileAt, IoKind, Outcome, Reply, Site, Slot};
 use sftp_values::Items;
@@ -35,6 +36,15 @@ pub enum Deferral {
         running: Running,
         held: Slot,
     },
+}
+
+/// The bytes that a call still writes to the buffered file in a slot: all, or those from `done` on.
+///
+/// Used in `send`.
+#[derive(Clone, Copy)]
+pub(crate) struct Unwritten {
+    pub(crate) slot: u8,
+    pub(crate) done: Option<usize>,
 }
 
 /// Returns the number of bytes of these deferred writes.
@@ -128,30 +138,27 @@ fn running_after(slot: u8, done: Option<usize>, len: u32, bytes: &[u8]) -> Runni
 
 /// Returns the WRITE of the bytes that are left, beside these deferred writes. Fails only if an allocation fails.
 fn next_deferral(
-    alloc: Global,
-    slot: u8,
-    done: Option<usize>,
+    turn: Turn,
+    unwritten: Unwritten,
     file: &FileAt,
     buffer: &Buffer,
     writes: &[(u64, u32)],
     bytes: &[u8],
-    place: u64,
-    facts: &Facts,
 ) -> Result<Deferral, OutOfMemory>
-    requires done { HasDone done bytes.now }
-    requires limit { pending_bytes writes.now ≤ facts.now.write_limit }
-    ensures { IfOk result (IsDeferral slot done file.now (record buffer.now { deferred = writes.now })
-        bytes.now place facts.now) }
+    requires done { HasDone unwritten.done bytes.now }
+    requires limit { pending_bytes writes.now ≤ turn.facts.write_limit }
+    ensures { IfOk result (IsDeferral unwritten.slot unwritten.done file.now
+        (record buffer.now { deferred = writes.now }) bytes.now turn.place turn.facts) }
 {
-    let rest = rest_of(done, bytes);
-    let len = deferrable_len(rest, writes, facts);
+    let rest = rest_of(unwritten.done, bytes);
+    let len = deferrable_len(rest, writes, &turn.facts);
     if !file.writable {
         return Ok(Deferral::Refused(refused(IoKind::NotWritable)));
     }
     if file.offset.checked_add(len as u64).is_none() {
         return Ok(Deferral::Refused(refused(IoKind::OffsetOverflow)));
     }
-    let after = after_write(alloc, buffer, writes, place, len)?;
+    let after = after_write(turn.alloc, buffer, writes, turn.place, len)?;
     let moved = FileAt {
         offset: file.offset + len as u64,
         ..*file
@@ -159,11 +166,11 @@ fn next_deferral(
     let asked = Asked::Write {
         grant: file.grant,
         offset: file.offset,
-        content: content_of(alloc, &rest[..len as usize])?,
+        content: content_of(turn.alloc, &rest[..len as usize])?,
     };
     Ok(Deferral::Asked {
         asked,
-        running: running_after(slot, done, len, bytes),
+        running: running_after(unwritten.slot, unwritten.done, len, bytes),
         held: Slot::Buffered(moved, after),
     })
 }
@@ -190,30 +197,31 @@ fn settle(slot: u8, deferral: Deferral, site: &mut Site) -> Next
 /// Writes the bytes that are left to the buffered file in a slot, or awaits the oldest status if the window is full.
 /// Fails only if an allocation fails; `site` is unchanged.
 fn send(
-    alloc: Global,
-    slot: u8,
-    done: Option<usize>,
+    turn: Turn,
+    unwritten: Unwritten,
     bytes: &[u8],
-    place: u64,
     site: &mut Site,
-    facts: &Facts,
 ) -> Result<Next, OutOfMemory>
-    requires slot { slot < length site.old.slots }
-    requires done { HasDone done bytes.now }
-    requires within { AreWithin facts.now site.old }
-    ensures { DefersWrite (λ own answers. on_buffered (slot_at site.old slot) site.old (λ file buffer.
-        with_capacity slot file buffer site.old facts.now answers (sent_next slot done file bytes.now facts.now own answers)))
-        slot bytes.now place site.old site.new facts.now result }
+    requires slot { unwritten.slot < length site.old.slots }
+    requires done { HasDone unwritten.done bytes.now }
+    requires within { AreWithin turn.facts site.old }
+    ensures { DefersWrite (λ own answers. on_buffered (slot_at site.old unwritten.slot) site.old (λ file buffer.
+        with_capacity unwritten.slot file buffer site.old turn.facts answers
+        (sent_next unwritten.slot unwritten.done file bytes.now turn.facts own answers)))
+        unwritten.slot bytes.now turn.place site.old site.new turn.facts result }
 {
-    let Slot::Buffered(file, buffer) = slot_of(site, slot) else {
+    let Slot::Buffered(file, buffer) = slot_of(site, unwritten.slot) else {
         return Ok(Next::Done(Outcome::NoFile));
     };
     let writes = buffer.deferred.as_slice();
-    if must_wait(writes, facts) {
-        return Ok(Next::Wait(Running::AwaitingRoom { slot, done }));
+    if must_wait(writes, &turn.facts) {
+        return Ok(Next::Wait(Running::AwaitingRoom {
+            slot: unwritten.slot,
+            done: unwritten.done,
+        }));
     }
-    let deferral = next_deferral(alloc, slot, done, file, buffer, writes, bytes, place, facts)?;
-    Ok(settle(slot, deferral, site))
+    let deferral = next_deferral(turn, unwritten, file, buffer, writes, bytes)?;
+    Ok(settle(unwritten.slot, deferral, site))
 }
 
 /// Writes the first of these bytes to the buffered file in a slot.
@@ -242,28 +250,28 @@ pub fn begin_buf_write(
     if bytes.is_empty() {
         return Ok(Next::Done(Outcome::Count(0)));
     }
-    send(alloc, slot, None, bytes, place, site, facts)
+    let turn = Turn {
+        alloc,
+        place,
+        facts: *facts,
+    };
+    send(turn, Unwritten { slot, done: None }, bytes, site)
 }
 
-/// Writes the bytes from `done` on to the buffered file in a slot, one WRITE after another.
-///
-/// # Errors
-///
-/// `OutOfMemory` if an allocation fails; `site` is unchanged.
-pub fn defer_rest(
-    alloc: Global,
+/// Writes the bytes from `done` on to the buffered file in a slot, one WRITE after another. Fails only if an allocation
+/// fails; `site` is unchanged.
+pub(crate) fn defer_rest(
+    turn: Turn,
     slot: u8,
     done: usize,
     bytes: &[u8],
-    place: u64,
     site: &mut Site,
-    facts: &Facts,
 ) -> Result<Next, OutOfMemory>
     requires slot { slot < length site.old.slots }
     requires done { done ≤ length bytes.now }
-    requires within { AreWithin facts.now site.old }
-    ensures { DefersWrite (buf_write_all_next slot (drop done bytes.now) site.old facts.now)
-        slot bytes.now place site.old site.new facts.now result }
+    requires within { AreWithin turn.facts site.old }
+    ensures { DefersWrite (buf_write_all_next slot (drop done bytes.now) site.old turn.facts)
+        slot bytes.now turn.place site.old site.new turn.facts result }
 {
     let Slot::Buffered(file, _) = slot_of(site, slot) else {
         return Ok(Next::Done(Outcome::NoFile));
@@ -274,7 +282,11 @@ pub fn defer_rest(
     if !file.writable {
         return Ok(Next::Done(refused(IoKind::NotWritable)));
     }
-    send(alloc, slot, Some(done), bytes, place, site, facts)
+    let unwritten = Unwritten {
+        slot,
+        done: Some(done),
+    };
+    send(turn, unwritten, bytes, site)
 }
 
 /// Writes all of these bytes to the buffered file in a slot.
@@ -294,38 +306,41 @@ pub fn begin_buf_write_all(
     requires within { AreWithin facts.now site.old }
     ensures { BegunBuffered (call.BufWriteAll slot bytes.now) place site.old site.new facts.now result }
 {
-    defer_rest(alloc, slot, 0, bytes, place, site, facts)
+    let turn = Turn {
+        alloc,
+        place,
+        facts: *facts,
+    };
+    defer_rest(turn, slot, 0, bytes, site)
 }
 
 /// Processes the reply to the oldest deferred write at a full window: after a STATUS of OK the next WRITE is asked.
 /// Fails only if an allocation fails; `site` is unchanged.
 pub(crate) fn room_replied(
-    alloc: Global,
-    slot: u8,
-    done: Option<usize>,
+    turn: Turn,
+    unwritten: Unwritten,
     reply: Reply,
     bytes: &[u8],
-    place: u64,
     site: &mut Site,
-    facts: &Facts,
 ) -> Result<Next, OutOfMemory>
-    requires slot { slot < length site.old.slots }
-    requires full { IsFullAt facts.now (slot_at site.old slot) }
-    requires done { HasDone done bytes.now }
-    requires within { AreWithin facts.now site.old }
-    ensures { ContinuesByPlan (running.AwaitingRoom slot done) (Some reply) bytes.now place site.old site.new facts.now result }
+    requires slot { unwritten.slot < length site.old.slots }
+    requires full { IsFullAt turn.facts (slot_at site.old unwritten.slot) }
+    requires done { HasDone unwritten.done bytes.now }
+    requires within { AreWithin turn.facts site.old }
+    ensures { ContinuesByPlan (running.AwaitingRoom unwritten.slot unwritten.done) (Some reply)
+        bytes.now turn.place site.old site.new turn.facts result }
 {
-    let Slot::Buffered(file, buffer) = slot_of(site, slot) else {
+    let Slot::Buffered(file, buffer) = slot_of(site, unwritten.slot) else {
         return Ok(Next::Done(Outcome::NoFile));
     };
     let [_, writes @ ..] = buffer.deferred.as_slice() else {
         return Ok(Next::Done(Outcome::NoFile));
     };
     if let Some(outcome) = failure(reply) {
-        take_oldest(slot, site);
+        take_oldest(unwritten.slot, site);
         return Ok(Next::Done(outcome));
     }
-    let deferral = next_deferral(alloc, slot, done, file, buffer, writes, bytes, place, facts)?;
-    take_oldest(slot, site);
-    Ok(settle(slot, deferral, site))
+    let deferral = next_deferral(turn, unwritten, file, buffer, writes, bytes)?;
+    take_oldest(unwritten.slot, site);
+    Ok(settle(unwritten.slot, deferral, site))
 }

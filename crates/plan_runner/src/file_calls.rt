@@ -17,6 +17,18 @@ use crate::single::{attributes, offers};
 use crate::site::{set_slot, slot_of};
 use sftp_model::{Extensions, Facts, FileAt, IoKind, Outcome, Reply, Site, Slot};
 
+/// A `copy-data` in flight: the slots, the files in them, and the number of bytes.
+///
+/// Used in `copy_replied`.
+#[derive(Clone, Copy)]
+pub(crate) struct CopyData {
+    pub(crate) from: u8,
+    pub(crate) to: u8,
+    pub(crate) source: FileAt,
+    pub(crate) target: FileAt,
+    pub(crate) len: u64,
+}
+
 /// Sets the size of the file in a slot.
 pub fn begin_set_len(slot: u8, n: u64, place: u64, site: &Site, facts: &Facts) -> Next
     requires { slot < length site.now.slots }
@@ -145,34 +157,27 @@ pub fn begin_copy(from: u8, to: u8, len: u64, place: u64, site: &Site, facts: &F
 
 /// Processes the reply to a `copy-data`: after a STATUS of OK the offsets of both files are after the bytes.
 #[tactic(auto, using(crate::proofs::Fewer::fewer_files))]
-pub(crate) fn copy_replied(
-    from: u8,
-    to: u8,
-    source: FileAt,
-    target: FileAt,
-    len: u64,
-    reply: Reply,
-    site: &mut Site,
-) -> Outcome
-    requires from { from < length site.old.slots }
-    requires to { to < length site.old.slots }
-    requires source { CanMove source len }
-    requires target { CanMove target len }
-    ensures { EndsByReply (on_status reply site.old (Done outcome.Done (site_after_copy from to source target len site.old)))
+pub(crate) fn copy_replied(copy: CopyData, reply: Reply, site: &mut Site) -> Outcome
+    requires from { copy.from < length site.old.slots }
+    requires to { copy.to < length site.old.slots }
+    requires source { CanMove copy.source copy.len }
+    requires target { CanMove copy.target copy.len }
+    ensures { EndsByReply (on_status reply site.old
+        (Done outcome.Done (site_after_copy copy.from copy.to copy.source copy.target copy.len site.old)))
         result site.old site.new }
 {
     if let Some(outcome) = failure(reply) {
         return outcome;
     }
     let source = FileAt {
-        offset: source.offset + len,
-        ..source
+        offset: copy.source.offset + copy.len,
+        ..copy.source
     };
     let target = FileAt {
-        offset: target.offset + len,
-        ..target
+        offset: copy.target.offset + copy.len,
+        ..copy.target
     };
-    set_slot(site, from, Slot::File(source));
-    set_slot(site, to, Slot::File(target));
+    set_slot(site, copy.from, Slot::File(source));
+    set_slot(site, copy.to, Slot::File(target));
     Outcome::Done
 }

@@ -16,12 +16,26 @@ ghost use Rattle.plan_runner.specs.Asking.{AsksOn, HasGrant};
 use crate::next::{Asked, Next, Running};
 use crate::replies::{refused, status_refusal};
 use crate::site::{set_slot, slot_of};
+use crate::turn::Turn;
 use bytes::Bytes;
 use sftp_model::numbers::SSH_FX_EOF;
 use sftp_model::{Error, Facts, FileAt, IoKind, Outcome, Reply, Site, Slot};
 use sftp_values::ByteText;
 use ssh_encoding::OutOfMemory;
 use std::alloc::Global;
+
+/// A READ of a `read_all` in flight: the file in its slot, and the number of bytes that are left. Contracts alone read
+/// its place and the number of bytes that it asks for.
+///
+/// Used in `content_replied`.
+#[derive(Clone, Copy)]
+pub(crate) struct Missing {
+    pub(crate) awaited: u64,
+    pub(crate) slot: u8,
+    pub(crate) file: FileAt,
+    pub(crate) left: u64,
+    pub(crate) len: u32,
+}
 
 /// Reads `left` bytes of the file in a slot after those received; the site may be any.
 pub fn read_rest(
@@ -108,62 +122,50 @@ pub(crate) fn joined(got: ByteText, more: &[u8]) -> Result<ByteText, OutOfMemory
 /// Processes a DATA: the file's offset is moved past its bytes, and the rest is read. Fails only if an allocation
 /// fails; `site` is unchanged.
 fn content_came(
-    alloc: Global,
-    awaited: u64,
-    slot: u8,
-    file: FileAt,
+    turn: Turn,
+    read: Missing,
     got: ByteText,
-    left: u64,
-    len: u32,
     content: Bytes,
-    place: u64,
     site: &mut Site,
-    facts: &Facts,
 ) -> Result<Next, OutOfMemory>
-    requires kept { IsKept (Some slot) file site.old }
-    requires room { CanMove file (length content) }
-    ensures { (bytes : List ℕ) → ContinuesTransfer (content_after slot file got left content site.old facts.now) (Some slot) None
-        (pends_after (running.Gathering awaited slot file got left len) site.old (Some (reply.Content content)))
-        bytes place site.old site.new facts.now result }
+    requires kept { IsKept (Some read.slot) read.file site.old }
+    requires room { CanMove read.file (length content) }
+    ensures { (bytes : List ℕ) → ContinuesTransfer
+        (content_after read.slot read.file got read.left content site.old turn.facts) (Some read.slot) None
+        (pends_after (running.Gathering read.awaited read.slot read.file got read.left read.len) site.old
+        (Some (reply.Content content))) bytes turn.place site.old site.new turn.facts result }
 {
     let count = content.len() as u64;
     let all = joined(got, content.as_slice())?;
     let moved = FileAt {
-        offset: file.offset + count,
-        ..file
+        offset: read.file.offset + count,
+        ..read.file
     };
-    let rest = left.saturating_sub(count);
-    let next = read_rest(slot, moved, all, rest, place, facts);
-    set_slot(site, slot, Slot::File(moved));
+    let rest = read.left.saturating_sub(count);
+    let next = read_rest(read.slot, moved, all, rest, turn.place, &turn.facts);
+    set_slot(site, read.slot, Slot::File(moved));
     Ok(next)
 }
 
 /// Processes the reply to a READ: after a DATA the rest is read. Fails only if an allocation fails; `site` is
 /// unchanged.
 pub(crate) fn content_replied(
-    alloc: Global,
-    awaited: u64,
-    slot: u8,
-    file: FileAt,
+    turn: Turn,
+    read: Missing,
     got: ByteText,
-    left: u64,
-    len: u32,
     reply: Reply,
-    place: u64,
     site: &mut Site,
-    facts: &Facts,
 ) -> Result<Next, OutOfMemory>
-    requires kept { IsKept (Some slot) file site.old }
-    requires room { HasRoom file reply }
-    ensures { (bytes : List ℕ)
-        → ContinuesTransfer (after (running.Gathering awaited slot file got left len) bytes site.old facts.now (Some reply))
-        (Some slot) None (pends_after (running.Gathering awaited slot file got left len) site.old (Some reply))
-        bytes place site.old site.new facts.now result }
+    requires kept { IsKept (Some read.slot) read.file site.old }
+    requires room { HasRoom read.file reply }
+    ensures { (bytes : List ℕ) → ContinuesTransfer
+        (after (running.Gathering read.awaited read.slot read.file got read.left read.len) bytes site.old turn.facts
+        (Some reply)) (Some read.slot) None
+        (pends_after (running.Gathering read.awaited read.slot read.file got read.left read.len) site.old (Some reply))
+        bytes turn.place site.old site.new turn.facts result }
 {
     match reply {
-        Reply::Content(content) => content_came(
-            alloc, awaited, slot, file, got, left, len, content, place, site, facts,
-        ),
+        Reply::Content(content) => content_came(turn, read, got, content, site),
         Reply::Status {
             code,
             message,

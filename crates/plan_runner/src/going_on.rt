@@ -7,17 +7,18 @@ ghost use Rattle.plan_runner.specs.Sound.{AreWithin, AsksWithin, IsFittingReply,
 
 use crate::buffer_flush::flush_replied;
 use crate::buffer_read::filled_replied;
-use crate::buffer_write::{defer_rest, room_replied};
-use crate::file_calls::copy_replied;
-use crate::gathering::content_replied;
+use crate::buffer_write::{Unwritten, defer_rest, room_replied};
+use crate::file_calls::{CopyData, copy_replied};
+use crate::gathering::{Missing, content_replied};
 use crate::next::{Next, Running};
 use crate::opening::open_replied;
 use crate::reading::read_replied;
 use crate::single::ending_told;
 use crate::site::{oldest_deferred, reading_under_way};
-use crate::whole::{directory_opened, names_replied, whole_opened};
+use crate::turn::Turn;
+use crate::whole::{Readdir, directory_opened, names_replied, whole_opened};
 use crate::whole_read::{read_on, read_opened, window_replied};
-use crate::writing::{part_replied, write_replied};
+use crate::writing::{Part, part_replied, write_replied};
 use plan_window::Window;
 use sftp_model::{Facts, Outcome, Reply, Site};
 use ssh_encoding::OutOfMemory;
@@ -69,8 +70,13 @@ pub fn go_on(
     requires range { AsksWithin facts.now (after running bytes.now site.old facts.now reply) }
     ensures { ContinuesByPlan running reply bytes.now place site.old site.new facts.now result }
 {
+    let turn = Turn {
+        alloc,
+        place,
+        facts: *facts,
+    };
     let Some(reply) = reply else {
-        return go_on_at_once(alloc, running, bytes, place, site, facts);
+        return go_on_at_once(turn, running, bytes, site);
     };
     match running {
         Running::Ending { by, .. } => Ok(Next::Done(ending_told(alloc, by, reply)?)),
@@ -87,9 +93,16 @@ pub fn go_on(
             got,
             left,
             len,
-        } => content_replied(
-            alloc, awaited, slot, file, got, left, len, reply, place, site, facts,
-        ),
+        } => {
+            let read = Missing {
+                awaited,
+                slot,
+                file,
+                left,
+                len,
+            };
+            content_replied(turn, read, got, reply, site)
+        }
         Running::Sending {
             slot,
             file,
@@ -101,39 +114,48 @@ pub fn go_on(
             slot,
             file,
             done,
-        } => part_replied(
-            alloc, awaited, slot, file, done, reply, bytes, place, site, facts,
-        ),
-        Running::OpeningToWrite { place: grant } => {
-            whole_opened(alloc, grant, reply, bytes, place, site, facts)
+        } => {
+            let part = Part {
+                awaited,
+                slot,
+                file,
+                done,
+            };
+            part_replied(turn, part, reply, bytes, site)
         }
+        Running::OpeningToWrite { place: grant } => whole_opened(turn, grant, reply, bytes, site),
         Running::OpeningToRead {
             place: grant,
             bound,
-        } => read_opened(alloc, grant, bound, reply, place, site, facts),
+        } => read_opened(turn, grant, bound, reply, site),
         Running::ReadingWhole {
             grant,
             bound,
             window,
-        } => window_replied(alloc, grant, bound, window, reply, place, site, facts),
+        } => window_replied(turn, grant, bound, window, reply, site),
         Running::OpeningDirectory {
             place: grant,
             bound,
-        } => Ok(directory_opened(alloc, grant, bound, reply, place, site, facts)),
+        } => Ok(directory_opened(turn, grant, bound, reply, site)),
         Running::Listing {
             place: awaited,
             grant,
             got,
             bound,
-        } => names_replied(awaited, grant, got, bound, reply, place, site, facts),
+        } => {
+            let read = Readdir {
+                awaited,
+                grant,
+                bound,
+            };
+            names_replied(turn, read, got, reply, site)
+        }
         Running::Flushing { slot } => Ok(flush_replied(slot, reply, place, site, facts)),
         Running::AwaitingRoom { slot, done } => {
-            room_replied(alloc, slot, done, reply, bytes, place, site, facts)
+            room_replied(turn, Unwritten { slot, done }, reply, bytes, site)
         }
         Running::Deferred { count, .. } => Ok(Next::Done(Outcome::Count(count as u64))),
-        Running::DeferringRest { slot, done } => {
-            defer_rest(alloc, slot, done, bytes, place, site, facts)
-        }
+        Running::DeferringRest { slot, done } => defer_rest(turn, slot, done, bytes, site),
         Running::FillingBuffer {
             slot,
             n,
@@ -147,34 +169,39 @@ pub fn go_on(
             target,
             len,
             ..
-        } => Ok(Next::Done(copy_replied(from, to, source, target, len, reply, site))),
+        } => {
+            let copy = CopyData {
+                from,
+                to,
+                source,
+                target,
+                len,
+            };
+            Ok(Next::Done(copy_replied(copy, reply, site)))
+        }
     }
 }
 
 /// Continues a call that awaits no reply. Fails only if an allocation fails; `site` is unchanged.
 fn go_on_at_once(
-    alloc: Global,
+    turn: Turn,
     running: Running,
     bytes: &[u8],
-    place: u64,
     site: &mut Site,
-    facts: &Facts,
 ) -> Result<Next, OutOfMemory>
-    requires sound { IsRunningSound running bytes.now site.old facts.now }
-    requires within { AreWithin facts.now site.old }
-    requires range { AsksWithin facts.now (after running bytes.now site.old facts.now None) }
-    ensures { ContinuesByPlan running None bytes.now place site.old site.new facts.now result }
+    requires sound { IsRunningSound running bytes.now site.old turn.facts }
+    requires within { AreWithin turn.facts site.old }
+    requires range { AsksWithin turn.facts (after running bytes.now site.old turn.facts None) }
+    ensures { ContinuesByPlan running None bytes.now turn.place site.old site.new turn.facts result }
 {
     match running {
         Running::Deferred { count, .. } => Ok(Next::Done(Outcome::Count(count as u64))),
-        Running::DeferringRest { slot, done } => {
-            defer_rest(alloc, slot, done, bytes, place, site, facts)
-        }
+        Running::DeferringRest { slot, done } => defer_rest(turn, slot, done, bytes, site),
         Running::ReadingWhole {
             grant,
             bound,
             window,
-        } => read_on(alloc, grant, bound, window, place, site, facts),
+        } => read_on(turn, grant, bound, window, site),
         _ => Ok(Next::Done(Outcome::NoFile)),
     }
 }

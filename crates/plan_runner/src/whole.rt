@@ -19,6 +19,7 @@ use crate::next::{Asked, Next, Running};
 use crate::opening::{open_request, opened_file};
 use crate::replies::{refusal, refused, status_refusal};
 use crate::single::is_too_long;
+use crate::turn::Turn;
 use crate::writing::write_rest;
 use bitflags::Flags;
 use sftp_model::numbers::{SSH_FX_EOF, SSH_FXF_CREAT, SSH_FXF_TRUNC, SSH_FXF_WRITE};
@@ -28,6 +29,17 @@ use sftp_model::{
 use sftp_values::Items;
 use ssh_encoding::OutOfMemory;
 use std::alloc::Global;
+
+/// A READDIR in flight: its place, which contracts alone read, the grant of the directory, and the number of READDIRs
+/// that may be made, including this one.
+///
+/// Used in `names_replied`.
+#[derive(Clone, Copy)]
+pub(crate) struct Readdir {
+    pub(crate) awaited: u64,
+    pub(crate) grant: u64,
+    pub(crate) bound: u32,
+}
 
 /// Returns the flags of a file that is created or truncated.
 fn to_replace() -> OpenFlags
@@ -69,26 +81,26 @@ pub fn begin_fs_write(
 /// Processes the reply to the OPEN of a whole write: after a HANDLE the bytes are written. Fails only if an allocation
 /// fails.
 pub(crate) fn whole_opened(
-    alloc: Global,
+    turn: Turn,
     grant: u64,
     reply: Reply,
     bytes: &[u8],
-    place: u64,
     site: &Site,
-    facts: &Facts,
 ) -> Result<Next, OutOfMemory>
-    ensures goes { IfOk result (RunsByPlan (after (running.OpeningToWrite grant) bytes.now site.now facts.now (Some reply))
-        place bytes.now site.now facts.now) }
+    ensures goes { IfOk result (RunsByPlan
+        (after (running.OpeningToWrite grant) bytes.now site.now turn.facts (Some reply))
+        turn.place bytes.now site.now turn.facts) }
     ensures left { IfOk result (LeavesCancelled (λ own answers. site.now)
-        place bytes.now site.now facts.now) }
-    ensures sound { IfOk result (KeepsRunningSound bytes.now facts.now site.now site.now) }
-    ensures pends { IfOk result (PendsAfter (pends_after (running.OpeningToWrite grant) site.now (Some reply)) place site.now) }
-    ensures asks { IfOk result (AsksOn (opened_after (running.OpeningToWrite grant) (Some reply)) place site.now) }
+        turn.place bytes.now site.now turn.facts) }
+    ensures sound { IfOk result (KeepsRunningSound bytes.now turn.facts site.now site.now) }
+    ensures pends { IfOk result
+        (PendsAfter (pends_after (running.OpeningToWrite grant) site.now (Some reply)) turn.place site.now) }
+    ensures asks { IfOk result (AsksOn (opened_after (running.OpeningToWrite grant) (Some reply)) turn.place site.now) }
 {
     match reply {
         Reply::Handle(_handle) => {
             let file = file_to_replace(grant);
-            write_rest(alloc, None, file, 0, bytes, place, facts)
+            write_rest(turn.alloc, None, file, 0, bytes, turn.place, &turn.facts)
         }
         Reply::Status {
             code,
@@ -159,26 +171,25 @@ fn no_entries(alloc: Global) -> Items<NameEntry>
 
 /// Processes the reply to an OPENDIR: after a HANDLE the entries are asked for.
 pub(crate) fn directory_opened(
-    alloc: Global,
+    turn: Turn,
     grant: u64,
     bound: u32,
     reply: Reply,
-    place: u64,
     site: &Site,
-    facts: &Facts,
 ) -> Next
     ensures goes { (bytes : List ℕ)
-        → RunsByPlan (after (running.OpeningDirectory grant bound) bytes site.now facts.now (Some reply))
-        place bytes site.now facts.now result }
+        → RunsByPlan (after (running.OpeningDirectory grant bound) bytes site.now turn.facts (Some reply))
+        turn.place bytes site.now turn.facts result }
     ensures left { (bytes : List ℕ) → LeavesCancelled (λ own answers. site.now)
-        place bytes site.now facts.now result }
-    ensures sound { (bytes : List ℕ) → KeepsRunningSound bytes facts.now site.now site.now result }
+        turn.place bytes site.now turn.facts result }
+    ensures sound { (bytes : List ℕ) → KeepsRunningSound bytes turn.facts site.now site.now result }
     ensures pends { PendsAfter (pends_after (running.OpeningDirectory grant bound) site.now
-        (Some reply)) place site.now result }
-    ensures asks { AsksOn (opened_after (running.OpeningDirectory grant bound) (Some reply)) place site.now result }
+        (Some reply)) turn.place site.now result }
+    ensures asks { AsksOn (opened_after (running.OpeningDirectory grant bound) (Some reply))
+        turn.place site.now result }
 {
     match reply {
-        Reply::Handle(_handle) => list_rest(grant, no_entries(alloc), bound, place),
+        Reply::Handle(_handle) => list_rest(grant, no_entries(turn.alloc), bound, turn.place),
         Reply::Status {
             code,
             message,
@@ -200,56 +211,51 @@ fn joined(got: Items<NameEntry>, more: Items<NameEntry>) -> Result<Items<NameEnt
 
 /// Processes a NAME: further entries are asked for, unless it has none. Fails only if an allocation fails.
 fn names_came(
-    awaited: u64,
-    grant: u64,
+    turn: Turn,
+    read: Readdir,
     got: Items<NameEntry>,
-    bound: u32,
     names: Items<NameEntry>,
-    place: u64,
     site: &Site,
-    facts: &Facts,
 ) -> Result<Next, OutOfMemory>
     ensures goes { (bytes : List ℕ)
-        → IfOk result (RunsByPlan (after (running.Listing awaited grant got bound) bytes
-        site.now facts.now (Some (reply.Names names))) place bytes site.now facts.now) }
+        → IfOk result (RunsByPlan (after (running.Listing read.awaited read.grant got read.bound) bytes
+        site.now turn.facts (Some (reply.Names names))) turn.place bytes site.now turn.facts) }
     ensures left { (bytes : List ℕ) → IfOk result (LeavesCancelled (λ own answers. site.now)
-        place bytes site.now facts.now) }
-    ensures sound { (bytes : List ℕ) → IfOk result (KeepsRunningSound bytes facts.now site.now site.now) }
-    ensures pends { IfOk result (PendsAfter (pends_after (running.Listing awaited grant got bound) site.now
-        (Some (reply.Names names))) place site.now) }
-    ensures asks { IfOk result (AsksOn (Some grant) place site.now) }
+        turn.place bytes site.now turn.facts) }
+    ensures sound { (bytes : List ℕ) → IfOk result (KeepsRunningSound bytes turn.facts site.now site.now) }
+    ensures pends { IfOk result (PendsAfter (pends_after (running.Listing read.awaited read.grant got read.bound)
+        site.now (Some (reply.Names names))) turn.place site.now) }
+    ensures asks { IfOk result (AsksOn (Some read.grant) turn.place site.now) }
 {
     if names.as_slice().is_empty() {
         return Ok(Next::Done(Outcome::Names(got)));
     }
     let entries = joined(got, names)?;
-    let rest = bound.saturating_sub(1);
-    Ok(list_rest(grant, entries, rest, place))
+    let rest = read.bound.saturating_sub(1);
+    Ok(list_rest(read.grant, entries, rest, turn.place))
 }
 
 /// Processes the reply to a READDIR: after a NAME with entries further ones are asked for. Fails only if an allocation
 /// fails.
 pub(crate) fn names_replied(
-    awaited: u64,
-    grant: u64,
+    turn: Turn,
+    read: Readdir,
     got: Items<NameEntry>,
-    bound: u32,
     reply: Reply,
-    place: u64,
     site: &Site,
-    facts: &Facts,
 ) -> Result<Next, OutOfMemory>
     ensures goes { (bytes : List ℕ)
-        → IfOk result (RunsByPlan (after (running.Listing awaited grant got bound) bytes site.now facts.now (Some reply))
-        place bytes site.now facts.now) }
+        → IfOk result (RunsByPlan (after (running.Listing read.awaited read.grant got read.bound) bytes
+        site.now turn.facts (Some reply)) turn.place bytes site.now turn.facts) }
     ensures left { (bytes : List ℕ) → IfOk result (LeavesCancelled (λ own answers. site.now)
-        place bytes site.now facts.now) }
-    ensures sound { (bytes : List ℕ) → IfOk result (KeepsRunningSound bytes facts.now site.now site.now) }
-    ensures pends { IfOk result (PendsAfter (pends_after (running.Listing awaited grant got bound) site.now (Some reply)) place site.now) }
-    ensures asks { IfOk result (AsksOn (Some grant) place site.now) }
+        turn.place bytes site.now turn.facts) }
+    ensures sound { (bytes : List ℕ) → IfOk result (KeepsRunningSound bytes turn.facts site.now site.now) }
+    ensures pends { IfOk result (PendsAfter (pends_after (running.Listing read.awaited read.grant got read.bound)
+        site.now (Some reply)) turn.place site.now) }
+    ensures asks { IfOk result (AsksOn (Some read.grant) turn.place site.now) }
 {
     match reply {
-        Reply::Names(names) => names_came(awaited, grant, got, bound, names, place, site, facts),
+        Reply::Names(names) => names_came(turn, read, got, names, site),
         Reply::Status {
             code,
             message,

@@ -16,6 +16,7 @@ use crate::next::{Asked, Next, Running};
 use crate::opening::open_request;
 use crate::replies::{refusal, refused, status_refusal};
 use crate::single::is_too_long;
+use crate::turn::Turn;
 use bitflags::Flags;
 use plan_window::{ReadAt, Window, WindowMove};
 use sftp_model::numbers::{SSH_FX_EOF, SSH_FXF_READ};
@@ -58,22 +59,20 @@ pub fn begin_fs_read(
 
 /// Decides the next step of a whole read if the reply to its first READ in flight has not come: it asks for more, waits
 /// or ends. The site may be any. Fails only if an allocation fails.
-fn decide(
-    alloc: Global,
-    grant: u64,
-    bound: u32,
-    window: Window,
-    place: u64,
-    facts: &Facts,
-) -> Result<Next, OutOfMemory>
+fn decide(turn: Turn, grant: u64, bound: u32, window: Window) -> Result<Next, OutOfMemory>
     requires sound { IsSoundWindow window }
-    requires range { AsksInRange bound window facts.now }
+    requires range { AsksInRange bound window turn.facts }
     ensures { (bytes : List ℕ) (site : SiteValue) → DecidesNext (running.ReadingWhole grant bound window)
-        (Some grant) window.waiting bytes place site facts.now result }
+        (Some grant) window.waiting bytes turn.place site turn.facts result }
 {
-    match window.next_move(alloc, bound, facts)? {
+    match window.next_move(turn.alloc, bound, &turn.facts)? {
         WindowMove::Ask { offset, len } => {
-            let window = window.asked(ReadAt { place, offset, len })?;
+            let read = ReadAt {
+                place: turn.place,
+                offset,
+                len,
+            };
+            let window = window.asked(read)?;
             Ok(Next::Ask(
                 Asked::Read { grant, offset, len },
                 Running::ReadingWhole {
@@ -96,19 +95,17 @@ fn decide(
 /// Continues a whole read by its window: it awaits the reply to the first READ in flight, and decides if there is none.
 /// Fails only if an allocation fails.
 pub(crate) fn read_on(
-    alloc: Global,
+    turn: Turn,
     grant: u64,
     bound: u32,
     window: Window,
-    place: u64,
     site: &Site,
-    facts: &Facts,
 ) -> Result<Next, OutOfMemory>
     requires sound { IsSoundWindow window }
-    requires range { AsksWithin facts.now
-        (after (running.ReadingWhole grant bound window) [] site.now facts.now None) }
+    requires range { AsksWithin turn.facts
+        (after (running.ReadingWhole grant bound window) [] site.now turn.facts None) }
     ensures { (bytes : List ℕ) → ReadsWhole (running.ReadingWhole grant bound window) None (Some grant)
-        window.waiting window.waiting bytes place site.now facts.now result }
+        window.waiting window.waiting bytes turn.place site.now turn.facts result }
 {
     match window.first() {
         Some(_) => Ok(Next::Wait(Running::ReadingWhole {
@@ -116,29 +113,26 @@ pub(crate) fn read_on(
             bound,
             window,
         })),
-        None => decide(alloc, grant, bound, window, place, facts),
+        None => decide(turn, grant, bound, window),
     }
 }
 
 /// Processes the reply to the OPEN of a whole read: after a HANDLE the file is read. Fails only if an allocation fails.
 pub(crate) fn read_opened(
-    alloc: Global,
+    turn: Turn,
     grant: u64,
     bound: u32,
     reply: Reply,
-    place: u64,
     site: &Site,
-    facts: &Facts,
 ) -> Result<Next, OutOfMemory>
-    requires range { AsksWithin facts.now
-        (after (running.OpeningToRead grant bound) [] site.now facts.now (Some reply)) }
+    requires range { AsksWithin turn.facts
+        (after (running.OpeningToRead grant bound) [] site.now turn.facts (Some reply)) }
     ensures { (bytes : List ℕ) → ReadsWhole (running.OpeningToRead grant bound) (Some reply)
-        (opened_after (running.OpeningToRead grant bound) (Some reply)) [] [] bytes place site.now facts.now result }
+        (opened_after (running.OpeningToRead grant bound) (Some reply)) [] []
+        bytes turn.place site.now turn.facts result }
 {
     match reply {
-        Reply::Handle(_handle) => {
-            read_on(alloc, grant, bound, Window::new(alloc), place, site, facts)
-        }
+        Reply::Handle(_handle) => read_on(turn, grant, bound, Window::new(turn.alloc), site),
         Reply::Status {
             code,
             message,
@@ -161,30 +155,28 @@ fn is_absorbed(reply: &Reply) -> bool
 
 /// Processes the reply to the first READ in flight: a refusal ends the call. Fails only if an allocation fails.
 pub(crate) fn window_replied(
-    alloc: Global,
+    turn: Turn,
     grant: u64,
     bound: u32,
     window: Window,
     reply: Reply,
-    place: u64,
     site: &Site,
-    facts: &Facts,
 ) -> Result<Next, OutOfMemory>
     requires sound { IsSoundWindow window }
     requires fits { FitsFirst window reply }
-    requires range { AsksWithin facts.now
-        (after (running.ReadingWhole grant bound window) [] site.now facts.now (Some reply)) }
+    requires range { AsksWithin turn.facts
+        (after (running.ReadingWhole grant bound window) [] site.now turn.facts (Some reply)) }
     ensures { (bytes : List ℕ) → ReadsWhole (running.ReadingWhole grant bound window) (Some reply) (Some grant)
-        window.waiting (answered_by window (Some reply)).waiting bytes place site.now facts.now result }
+        window.waiting (answered_by window (Some reply)).waiting bytes turn.place site.now turn.facts result }
 {
     let Some(_) = window.first() else {
-        return read_on(alloc, grant, bound, window, place, site, facts);
+        return read_on(turn, grant, bound, window, site);
     };
     if !is_absorbed(&reply) {
         return Ok(Next::Done(refusal(reply)));
     }
     let window = window.replied(reply)?;
-    read_on(alloc, grant, bound, window, place, site, facts)
+    read_on(turn, grant, bound, window, site)
 }
 
 /// Returns the next step of a call while the reply that it awaits is missing: a whole read may ask for more, and any
@@ -210,7 +202,14 @@ pub fn widen(
             grant,
             bound,
             window,
-        } => decide(alloc, grant, bound, window, place, facts),
+        } => {
+            let turn = Turn {
+                alloc,
+                place,
+                facts: *facts,
+            };
+            decide(turn, grant, bound, window)
+        }
         other => Ok(Next::Wait(other)),
     }
 }

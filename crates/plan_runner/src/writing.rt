@@ -16,10 +16,23 @@ ghost use Rattle.plan_runner.specs.Ran.{AsksRest, EndsByReply, ContinuesTransfer
 use crate::next::{Asked, Next, Running};
 use crate::replies::{failure, refused};
 use crate::site::{set_slot, slot_of};
+use crate::turn::Turn;
 use bytes::Bytes;
 use sftp_model::{Content, Facts, FileAt, IoKind, Outcome, Reply, Site, Slot};
 use ssh_encoding::OutOfMemory;
 use std::alloc::Global;
+
+/// The WRITE of a part in flight: its place, which contracts alone read, the file, which is in a slot or in none, and
+/// the number of bytes that are done.
+///
+/// Used in `part_replied`.
+#[derive(Clone, Copy)]
+pub(crate) struct Part {
+    pub(crate) awaited: u64,
+    pub(crate) slot: Option<u8>,
+    pub(crate) file: FileAt,
+    pub(crate) done: usize,
+}
 
 /// Returns these bytes as a content. Fails only if an allocation fails.
 pub(crate) fn content_of(alloc: Global, bytes: &[u8]) -> Result<Content, OutOfMemory>
@@ -207,34 +220,38 @@ fn keep(site: &mut Site, slot: Option<u8>, file: FileAt)
 /// Processes the reply to the WRITE of a part: after a STATUS of OK the file's offset is after the part, and the rest
 /// is written. Fails only if an allocation fails; `site` is unchanged.
 pub(crate) fn part_replied(
-    alloc: Global,
-    awaited: u64,
-    slot: Option<u8>,
-    file: FileAt,
-    done: usize,
+    turn: Turn,
+    part: Part,
     reply: Reply,
     bytes: &[u8],
-    place: u64,
     site: &mut Site,
-    facts: &Facts,
 ) -> Result<Next, OutOfMemory>
-    requires kept { IsKept slot file site.old }
-    requires prefix { done ≤ length bytes.now }
-    requires room { CanMove file (part_len facts.now (drop done bytes.now)) }
-    ensures { ContinuesTransfer (after (running.Writing awaited slot file done) bytes.now site.old facts.now (Some reply))
-        slot (opened_after (running.Writing awaited slot file done) (Some reply))
-        (pends_after (running.Writing awaited slot file done) site.old (Some reply))
-        bytes.now place site.old site.new facts.now result }
+    requires kept { IsKept part.slot part.file site.old }
+    requires prefix { part.done ≤ length bytes.now }
+    requires room { CanMove part.file (part_len turn.facts (drop part.done bytes.now)) }
+    ensures { ContinuesTransfer
+        (after (running.Writing part.awaited part.slot part.file part.done) bytes.now site.old turn.facts (Some reply))
+        part.slot (opened_after (running.Writing part.awaited part.slot part.file part.done) (Some reply))
+        (pends_after (running.Writing part.awaited part.slot part.file part.done) site.old (Some reply))
+        bytes.now turn.place site.old site.new turn.facts result }
 {
     if let Some(outcome) = failure(reply) {
         return Ok(Next::Done(outcome));
     }
-    let len = (bytes.len() - done).min(facts.write_len as usize);
+    let len = (bytes.len() - part.done).min(turn.facts.write_len as usize);
     let moved = FileAt {
-        offset: file.offset + len as u64,
-        ..file
+        offset: part.file.offset + len as u64,
+        ..part.file
     };
-    let next = write_rest(alloc, slot, moved, done + len, bytes, place, facts)?;
-    keep(site, slot, moved);
+    let next = write_rest(
+        turn.alloc,
+        part.slot,
+        moved,
+        part.done + len,
+        bytes,
+        turn.place,
+        &turn.facts,
+    )?;
+    keep(site, part.slot, moved);
     Ok(next)
 }

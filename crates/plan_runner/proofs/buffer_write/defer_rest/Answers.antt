@@ -6,8 +6,8 @@ use Rattle.plan_runner.proofs.buffer_write.defer_rest.Goals as goal
 pub returns : goal.returns
 returns c = record {
   goes = let some : (length (drop c.args.done c.args.bytes.now) == 0) ≡ false = search rules in
-      rest_goes c.args.slot c.args.done c.args.bytes.now c.in-Buffered.file c.in-Buffered.field-1 c.args.place
-      c.args.site.now c.send.new.site c.args.facts.now c.send.result (sym c.slot_of.ensures ∙ c.in-Buffered.is) some
+      rest_goes c.args.slot c.args.done c.args.bytes.now c.in-Buffered.file c.in-Buffered.field-1 c.args.turn.place
+      c.args.site.now c.send.new.site c.args.turn.facts c.send.result (sym c.slot_of.ensures ∙ c.in-Buffered.is) some
       (ap not c.if-not-file.false) c.send.ensures.goes;
   left = c.send.ensures.left;
   sound = c.send.ensures.sound;

@@ -14,7 +14,8 @@ returns-in-Handle-clause-left c = c.write_rest.ensures.left c.args.site.now tt
 
 pub returns-in-Handle-clause-pends : goal.returns-in-Handle-clause-pends
 returns-in-Handle-clause-pends c = pends_if_ok (pends_idle c.args.site.now)
-    (pends_after (running.OpeningToWrite c.args.grant) c.args.site.now (Some c.args.reply)) c.args.place c.args.site.now
+    (pends_after (running.OpeningToWrite c.args.grant) c.args.site.now (Some c.args.reply)) c.args.turn.place
+    c.args.site.now
     c.write_rest.result
     (λ q. taken_off (one c.args.grant q) (slots_times q c.args.site.now.slots))
     (c.write_rest.ensures.pends c.args.site.now)

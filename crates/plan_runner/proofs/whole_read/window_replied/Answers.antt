@@ -16,14 +16,15 @@ use Rattle.plan_runner.proofs.whole_read.window_replied.Goals as goal
 pub returns-in_default : goal.returns-in_default
 returns-in_default c bytes = let on = c.read_on.ensures bytes in record {
   goes = (let none : first_of c.args.window.waiting ≡ None = search rules in
-      replied_goes c.args.grant c.args.bound c.args.window c.args.window c.args.reply c.args.place bytes c.args.site.now
-      c.args.facts.now c.read_on.result (unanswered c.args.window c.args.reply none) on.goes);
+      replied_goes c.args.grant c.args.bound c.args.window c.args.window c.args.reply c.args.turn.place bytes
+      c.args.site.now
+      c.args.turn.facts c.read_on.result (unanswered c.args.window c.args.reply none) on.goes);
   left = search rules;
   sound = search rules;
   pends = search rules;
   asks = search rules;
   reads = (let none : first_of c.args.window.waiting ≡ None = search rules in
-      subst (λ (w : Window). IfOk c.read_on.result (ReadsOn c.args.place w.waiting c.args.facts.now))
+      subst (λ (w : Window). IfOk c.read_on.result (ReadsOn c.args.turn.place w.waiting c.args.turn.facts))
       (unanswered c.args.window c.args.reply none) on.reads);
 }
 
@@ -32,10 +33,10 @@ returns-then-not-is_absorbed c bytes = record {
   goes = let first : first_of c.args.window.waiting ≡ Some c.in-Some.field-0 = search rules in
       let bad : (brings_content c.args.reply || is_end_of_file c.args.reply) ≡ false = search rules in
       subst (λ (o : Outcome). RunsByPlan (after (running.ReadingWhole c.args.grant c.args.bound c.args.window) bytes
-      c.args.site.now c.args.facts.now (Some c.args.reply)) c.args.place bytes c.args.site.now c.args.facts.now
+      c.args.site.now c.args.turn.facts (Some c.args.reply)) c.args.turn.place bytes c.args.site.now c.args.turn.facts
       (step.Done o)) (sym c.refusal.ensures)
-      (refused_goes c.args.grant c.args.bound c.args.window c.in-Some.field-0 c.args.reply c.args.place bytes
-      c.args.site.now c.args.facts.now first c.requires.sound.unrefused bad);
+      (refused_goes c.args.grant c.args.bound c.args.window c.in-Some.field-0 c.args.reply c.args.turn.place bytes
+      c.args.site.now c.args.turn.facts first c.requires.sound.unrefused bad);
   left = search rules;
   sound = search rules;
   pends = search rules;
@@ -46,17 +47,17 @@ returns-then-not-is_absorbed c bytes = record {
 pub returns : goal.returns
 returns c bytes = let on = c.read_on-2.ensures bytes in record {
   goes = replied_goes c.args.grant c.args.bound c.args.window c.in_ok-window.window c.args.reply
-      c.args.place bytes c.args.site.now c.args.facts.now c.read_on-2.result c.in_ok-window.ensures.is
+      c.args.turn.place bytes c.args.site.now c.args.turn.facts c.read_on-2.result c.in_ok-window.ensures.is
       on.goes;
   left = search rules;
   sound = search rules;
   pends = pends_if_ok (pends_after (running.ReadingWhole c.args.grant c.args.bound c.in_ok-window.window)
       c.args.site.now None) (pends_after (running.ReadingWhole c.args.grant c.args.bound c.args.window) c.args.site.now
-      (Some c.args.reply)) c.args.place c.args.site.now c.read_on-2.result
+      (Some c.args.reply)) c.args.turn.place c.args.site.now c.read_on-2.result
       (replied_less c.args.grant c.args.bound c.args.window c.in_ok-window.window c.args.reply c.args.site.now
       c.in_ok-window.ensures.is) on.pends;
-  asks = replied_asks c.args.grant c.args.place c.args.window c.in_ok-window.window c.args.reply
+  asks = replied_asks c.args.grant c.args.turn.place c.args.window c.in_ok-window.window c.args.reply
       c.args.site.now c.read_on-2.result c.in_ok-window.ensures.is on.asks;
   reads = subst (λ (w : Window). IfOk c.read_on-2.result
-      (ReadsOn c.args.place w.waiting c.args.facts.now)) c.in_ok-window.ensures.is on.reads;
+      (ReadsOn c.args.turn.place w.waiting c.args.turn.facts)) c.in_ok-window.ensures.is on.reads;
 }

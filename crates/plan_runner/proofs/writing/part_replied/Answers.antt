@@ -12,28 +12,33 @@ use Rattle.plan_runner.proofs.writing.part_replied.Goals as goal
 
 pub returns : goal.returns
 returns c = record {
-  goes = let is : c.min-len.result ≡ part_len c.args.facts.now (drop c.args.done c.args.bytes.now) = c.min-len.ensures
-      ∙ ap (λ k. min k c.args.facts.now.write_len) (sym (length-drop c.args.done c.args.bytes.now)) in
-      part_goes c.args.awaited c.args.slot c.args.file c.args.done c.min-len.result c.args.reply c.args.place
-      c.args.bytes.now c.args.site.now c.keep.new.site c.args.facts.now c.in_ok-next.next
+  goes = let is : c.min-len.result ≡ part_len c.args.turn.facts (drop c.args.part.done c.args.bytes.now) =
+      c.min-len.ensures
+      ∙ ap (λ k. min k c.args.turn.facts.write_len) (sym (length-drop c.args.part.done c.args.bytes.now)) in
+      part_goes c.args.part.awaited c.args.part.slot c.args.part.file c.args.part.done c.min-len.result c.args.reply
+      c.args.turn.place
+      c.args.bytes.now c.args.site.now c.keep.new.site c.args.turn.facts c.in_ok-next.next
       is c.keep.ensures (sym c.failure.ensures ∙ c.in_default.is) (c.in_ok-next.ensures.goes c.keep.new.site);
-  left = leaves_moved c.args.slot (c.args.file.offset + c.min-len.result) c.args.site.now c.keep.new.site
-      c.args.facts.now c.args.file c.args.place c.args.bytes.now c.in_ok-next.next
+  left = leaves_moved c.args.part.slot (c.args.part.file.offset + c.min-len.result) c.args.site.now c.keep.new.site
+      c.args.turn.facts c.args.part.file c.args.turn.place c.args.bytes.now c.in_ok-next.next
       c.requires.kept c.keep.ensures c.in_ok-next.ensures.asks.offset (c.in_ok-next.ensures.left c.keep.new.site
-      (kept_there c.args.slot c.args.file (c.args.file.offset + c.min-len.result) c.args.site.now c.keep.new.site
+      (kept_there c.args.part.slot c.args.part.file (c.args.part.file.offset + c.min-len.result) c.args.site.now
+      c.keep.new.site
       c.requires.kept c.keep.ensures));
   sound = (
-    keeps_kept c.args.facts.now c.args.slot c.args.file (c.args.file.offset + c.min-len.result) c.args.site.now
+    keeps_kept c.args.turn.facts c.args.part.slot c.args.part.file (c.args.part.file.offset + c.min-len.result)
+        c.args.site.now
         c.keep.new.site c.keep.ensures,
-    (c.in_ok-next.ensures.sound c.keep.new.site (kept_there c.args.slot c.args.file
-        (c.args.file.offset + c.min-len.result) c.args.site.now c.keep.new.site c.requires.kept c.keep.ensures)).1,
+    (c.in_ok-next.ensures.sound c.keep.new.site (kept_there c.args.part.slot c.args.part.file
+        (c.args.part.file.offset + c.min-len.result) c.args.site.now c.keep.new.site c.requires.kept c.keep.ensures)).1,
   );
-  pends = kept_pends c.args.slot c.args.awaited c.args.file (c.args.file.offset + c.min-len.result)
-      c.args.place c.args.site.now c.keep.new.site c.in_ok-next.next c.requires.kept c.keep.ensures
+  pends = kept_pends c.args.part.slot c.args.part.awaited c.args.part.file (c.args.part.file.offset + c.min-len.result)
+      c.args.turn.place c.args.site.now c.keep.new.site c.in_ok-next.next c.requires.kept c.keep.ensures
       (c.in_ok-next.ensures.pends c.keep.new.site);
   asks = c.in_ok-next.ensures.asks.grants c.args.site.now (opened_by
-      (running.Writing c.args.awaited c.args.slot c.args.file c.args.done))
-      (kept_has c.args.slot c.args.file (c.args.file.offset + c.min-len.result) c.args.site.now c.args.awaited
-      c.args.done c.requires.kept);
+      (running.Writing c.args.part.awaited c.args.part.slot c.args.part.file c.args.part.done))
+      (kept_has c.args.part.slot c.args.part.file (c.args.part.file.offset + c.min-len.result) c.args.site.now
+      c.args.part.awaited
+      c.args.part.done c.requires.kept);
   err = search rules;
 }
