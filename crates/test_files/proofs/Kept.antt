@@ -1,6 +1,6 @@
 -- What a core keeps over a hand-out and a frame that comes.
 use Rattle.std.proofs.Common.{◌≡◌, ◌∙◌, ◌+◌, ◌<◌, true, false, arith, ap, subst, sym, Option, None, Some, Result, Ok, Err, IfOk, IfErr, OnOk, IsSome}
-use Rattle.sftp_core.specs.Core.{Core, IsGrant, record_at, failed_with, handed_out, core_after_release, core_after_retain, users_of}
+use Rattle.sftp_core.specs.Core.{Core, IsGrant, record_at, handed_out, core_after_release, core_after_retain, users_of}
 use Rattle.sftp_core.specs.Grant.{GrantValue}
 use Rattle.sftp_core.specs.declared.id_record.IdRecord.{IdRecord}
 use Rattle.sftp_core.specs.declared.id_record.IdRecord.TheVariants.{Granted}
@@ -8,7 +8,6 @@ use Rattle.sftp_core.specs.Info.{info_of}
 use Rattle.sftp_core.specs.Take.{IsTakeError, Read, TakenFrom, take_refusal}
 use Rattle.sftp_core.specs.declared.errors.TakeError.{TakeError}
 use Rattle.sftp_core.specs.declared.tokens.Taken.{Taken}
-use Rattle.sftp_model.specs.declared.error.Fault.{Fault}
 use Rattle.sftp_model.specs.declared.frame_error.FrameError.{FrameError}
 use Rattle.plan_state.specs.Keeping.{KeepsHeld, KeepsGrants}
 use Rattle.bytes.specs.Filled.{Filled}
@@ -27,7 +26,7 @@ use Rattle.sftp_fs_read.specs.WholeReads.{IsReadHeld}
 use Rattle.sftp_fs_read.specs.declared.fs_read.Whole.{Whole}
 use Rattle.sftp_fs_read.proofs.FsReadLaws.{read_still}
 use Rattle.sftp_file.proofs.Granting.{released_grant, retained_users}
-use Rattle.plan_state.proofs.Keeping.{grant_kept, keeps_failed, keeps_handed_out, keeps_refused, keeps_same, keeps_taken, still_under_way}
+use Rattle.plan_state.proofs.Keeping.{grant_kept, keeps_handed_out, keeps_refused, keeps_taken, still_under_way}
 
 pub handed : (old new : Core) → new ≡ handed_out old → KeepsHeld old new
 handed old new is = subst (λ (x : Core). KeepsHeld old x) (sym is) (keeps_handed_out old)
@@ -77,11 +76,3 @@ bytes_held old new p q before after result h = reads_held old new p q before aft
 pub copy_stays : (old new : Core) (call : CallValue CopyValue) → KeepsHeld old new → is_ended call.stage ≡ false
     → IsHeld copy_meaning old call → IsHeld copy_meaning new call
 copy_stays old new call k on h = (still_under_way copy_meaning old new call k (record { over = on; held = h })).held
-
--- ---- what comes to a core
-
-pub nothing_came : (core : Core) → KeepsHeld core core
-nothing_came core = keeps_same core
-
-pub fault_came : (old new : Core) (fault : Fault) → new ≡ failed_with old fault → KeepsHeld old new
-fault_came old new fault is = subst (λ (x : Core). KeepsHeld old x) (sym is) (keeps_failed old fault)

@@ -1,4 +1,4 @@
-//! Tests of writes of all bytes, one WRITE after another; each case is also given up after each of its steps.
+//! Tests of writes of all bytes, one WRITE after another.
 ghost use Rattle.std.specs.Prelude.{◌≡◌, IfOk};
 ghost use Rattle.plan_state.specs.Asked.{IsReady};
 ghost use Rattle.plan_state.specs.Calls.{IsHeld};
@@ -10,7 +10,6 @@ use crate::paths::{Seen, may_ask, poll_seen, sends, takes};
 use bytes::Bytes;
 use sftp_core::Core;
 use sftp_file::{Error, File, PollFile, WriteAllCall};
-use sftp_model::{Fault, FormatKind};
 use std::alloc::Global;
 use std::test::Fail;
 
@@ -21,8 +20,6 @@ enum Start {
     /// In two pieces.
     Vectorized,
     ZeroCopy,
-    /// No bytes in its place.
-    Empty,
 }
 
 /// An operation on a write, or an answer of the server.
@@ -34,8 +31,6 @@ enum Step {
     Sends(&'static [u8]),
     /// A body that is taken.
     Takes(&'static [u8]),
-    /// A body that is not taken.
-    Breaks(&'static [u8]),
 }
 
 /// A name, the way in which the bytes are passed in, and the steps.
@@ -67,7 +62,6 @@ fn exchanged(core: &mut Core, call: &WriteAllCall, step: Step) -> bool
         Step::Polls(_, _) => false,
         Step::Sends(frame) => sends(core, frame),
         Step::Takes(body) => takes(core, body),
-        Step::Breaks(body) => !takes(core, body),
     }
 }
 
@@ -111,7 +105,6 @@ fn started(core: &mut Core, file: &mut File, start: Start) -> Result<WriteAllCal
         Start::Whole => file.start_write_all(core, b"hello"),
         Start::Vectorized => file.start_write_all_vectorized(core, &pieces),
         Start::ZeroCopy => file.start_write_all_zero_copy(core, &pieces),
-        Start::Empty => file.start_write_all(core, b""),
     }
 }
 
@@ -145,9 +138,6 @@ fn plays(alloc: Global, name: &'static str, start: Start, steps: &[Step]) -> Res
 fn all_bytes(rt: HostRuntime) -> Result<(), Fail> {
     for case in CASES {
         let (name, start, steps) = *case;
-        for until in 0..steps.len() {
-            plays(rt.alloc(), name, start, &steps[..until])?;
-        }
         plays(rt.alloc(), name, start, steps)?;
     }
     Ok(())
@@ -160,10 +150,8 @@ const LL: Step = Step::Sends(b"\0\0\0\x18\x06\0\0\0\x01\0\0\0\x01h\0\0\0\0\0\0\0
 
 const O: Step = Step::Sends(b"\0\0\0\x17\x06\0\0\0\x01\0\0\0\x01h\0\0\0\0\0\0\0\x04\0\0\0\x01o");
 
-/// STATUS of 0 and of 4 to the id 1.
+/// STATUS of 0 to the id 1.
 const DONE: Step = Step::Takes(b"\x65\0\0\0\x01\0\0\0\0\0\0\0\0\0\0\0\0");
-
-const NO: Step = Step::Takes(b"\x65\0\0\0\x01\0\0\0\x04\0\0\0\0\0\0\0\0");
 
 /// No answer yet, and the file is at 0, 2 or 4.
 const WAITS: Step = Step::Polls(Seen::Pending, 0);
@@ -192,33 +180,4 @@ const CASES: &[Case] = &[
     // The parts are cut across the pieces.
     ("in pieces", Start::Vectorized, WRITTEN),
     ("in pieces, by the other name", Start::ZeroCopy, WRITTEN),
-    (
-        "no bytes",
-        Start::Empty,
-        &[Step::Sends(b""), Step::Polls(Seen::Given, 0)],
-    ),
-    (
-        "a WRITE is refused",
-        Start::Whole,
-        &[
-            HE,
-            DONE,
-            WAITS_AT_TWO,
-            LL,
-            NO,
-            Step::Polls(Seen::Status(4), 2),
-        ],
-    ),
-    (
-        "a broken reply",
-        Start::Whole,
-        &[
-            HE,
-            DONE,
-            WAITS_AT_TWO,
-            LL,
-            Step::Breaks(b"\x65\0\0\0\x01"),
-            Step::Polls(Seen::Failed(Fault::Format(FormatKind::Length)), 2),
-        ],
-    ),
 ];
