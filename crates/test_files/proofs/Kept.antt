@@ -18,7 +18,6 @@ use Rattle.sftp_file.specs.Files.{FileValue, file_at}
 use Rattle.sftp_file.specs.Gathers.{ReadAllValue, ReadsAll, reading_all}
 use Rattle.sftp_file.specs.declared.gathering.ReadAllError.{ReadAllError}
 use Rattle.sftp_file.proofs.GatherLaws.{reads_held}
-use Rattle.sftp_file.specs.Writes.{WriteAllValue, writing_all}
 use Rattle.sftp_fs.specs.WholeWrites.{IsWriteHeld}
 use Rattle.sftp_fs.specs.declared.fs_write.Writing.{Writing}
 use Rattle.sftp_fs.proofs.WriteOpens.{write_still}
@@ -63,10 +62,6 @@ write_stays old new p k h = write_still old new p k h
 pub bytes_stay : (old new : Core) (call : CallValue ReadAllValue) → KeepsHeld old new → is_ended call.stage ≡ false
     → IsHeld reading_all old call → IsHeld reading_all new call
 bytes_stay old new call k on h = (still_under_way reading_all old new call k (record { over = on; held = h })).held
-
-pub writes_stay : (old new : Core) (call : CallValue WriteAllValue) → KeepsHeld old new → is_ended call.stage ≡ false
-    → IsHeld writing_all old call → IsHeld writing_all new call
-writes_stay old new call k on h = (still_under_way writing_all old new call k (record { over = on; held = h })).held
 
 pub bytes_held : (old new : Core) (p q : CallValue ReadAllValue) (before after : FileValue)
     (result : Poll (Result Filled ReadAllError))

@@ -1,5 +1,4 @@
-//! Tests of buffered files over hand-written bodies: full windows, flushes, reads across a short reply and the end,
-//! seeks.
+//! Tests of buffered files over hand-written bodies: what is in the buffer, and what is written in pieces.
 ghost use Rattle.std.specs.Prelude.{◌≡◌, true, IsSome};
 ghost use Rattle.sftp_core.specs.Info.{info_of};
 ghost use Rattle.plan_state.specs.Asked.{IsReady};
@@ -15,7 +14,6 @@ use sftp_core::{Chunk, Core};
 use sftp_file::{Error, File, IoKind, Poll, StartOpen};
 use sftp_model::{OpenOptions, SftpOptions};
 use std::alloc::Global;
-use std::io::SeekFrom;
 use std::test::Fail;
 
 /// The result of a call.
@@ -33,14 +31,8 @@ enum Seen {
 /// A call, or an answer of the server.
 #[derive(Clone, Copy)]
 enum Step {
-    Write(&'static [u8]),
-    Flush,
     Shutdown,
     Settle,
-    /// A read of this many bytes, at most 8, which returns these.
-    Read(usize, &'static [u8]),
-    /// A read into the buffer of at most this many bytes, and the bytes buffered then.
-    Fill(u32, &'static [u8]),
     Consume(usize),
     /// A `Write` of two pieces.
     WritePieces(&'static [u8], &'static [u8]),
@@ -52,7 +44,6 @@ enum Step {
     Shrink(usize),
     /// The buffered bytes.
     Holds(&'static [u8]),
-    Seek(i64),
     /// The frames that are handed out.
     Sends(&'static [u8]),
     /// A body that is taken.
@@ -128,31 +119,6 @@ fn refused(e: Error) -> Seen {
     }
 }
 
-fn write(core: &mut Core, file: &mut TokioCompatFile, bytes: &[u8]) -> Seen
-    requires { IsSound core.old file.old }
-    ensures { IsSound core.new file.new }
-{
-    if !is_ready(core) {
-        return Seen::Other;
-    }
-    match file.poll_write(core, bytes) {
-        Poll::Pending => Seen::Pending,
-        Poll::Ready(Ok(n)) => Seen::Count(n),
-        Poll::Ready(Err(e)) => refused(e),
-    }
-}
-
-fn flush(core: &mut Core, file: &mut TokioCompatFile) -> Seen
-    requires { IsSound core.old file.old }
-    ensures { IsSound core.new file.new }
-{
-    match file.poll_flush(core) {
-        Poll::Pending => Seen::Pending,
-        Poll::Ready(Ok(())) => Seen::Done,
-        Poll::Ready(Err(e)) => refused(e),
-    }
-}
-
 fn shutdown(core: &mut Core, file: &mut TokioCompatFile) -> Seen
     requires { IsSound core.old file.old }
     ensures { IsSound core.new file.new }
@@ -160,41 +126,6 @@ fn shutdown(core: &mut Core, file: &mut TokioCompatFile) -> Seen
     match file.poll_shutdown(core) {
         Poll::Pending => Seen::Pending,
         Poll::Ready(Ok(())) => Seen::Done,
-        Poll::Ready(Err(e)) => refused(e),
-    }
-}
-
-fn read(core: &mut Core, file: &mut TokioCompatFile, n: usize, gives: &[u8]) -> Seen
-    requires { IsSound core.old file.old }
-    ensures { IsSound core.new file.new }
-{
-    let mut room = [0u8; 8];
-    if n > 8 || !is_ready(core) {
-        return Seen::Other;
-    }
-    let first = &mut room[..n];
-    match file.poll_read(core, first) {
-        Poll::Pending => Seen::Pending,
-        Poll::Ready(Ok(k)) => {
-            if k == gives.len() && room.starts_with(gives) {
-                return Seen::Count(k);
-            }
-            Seen::Other
-        }
-        Poll::Ready(Err(e)) => refused(e),
-    }
-}
-
-fn fill(core: &mut Core, file: &mut TokioCompatFile, n: u32, holds: &[u8]) -> Seen
-    requires { IsSound core.old file.old }
-    ensures { IsSound core.new file.new }
-{
-    if n == 0 || !is_ready(core) {
-        return Seen::Other;
-    }
-    match file.poll_read_into_buffer(core, n) {
-        Poll::Pending => Seen::Pending,
-        Poll::Ready(Ok(())) => taken(file.buffer() == holds),
         Poll::Ready(Err(e)) => refused(e),
     }
 }
@@ -274,30 +205,16 @@ fn shrink(core: &mut Core, file: &mut TokioCompatFile, n: usize) -> Seen
     }
 }
 
-fn seek(core: &mut Core, file: &mut TokioCompatFile, by: i64) -> Seen
-    requires { IsSound core.old file.old }
-    ensures { IsSound core.new file.new }
-{
-    match file.start_seek(core, SeekFrom::Current(by)) {
-        Ok(()) => Seen::Done,
-        Err(e) => refused(e),
-    }
-}
-
 fn made(core: &mut Core, file: &mut TokioCompatFile, what: Step) -> Seen
     requires { IsSound core.old file.old }
     ensures { IsSound core.new file.new }
 {
     match what {
-        Step::Write(bytes) => write(core, file, bytes),
-        Step::Flush => flush(core, file),
         Step::Shutdown => shutdown(core, file),
         Step::Settle => {
             file.settle(core);
             Seen::Done
         }
-        Step::Read(n, gives) => read(core, file, n, gives),
-        Step::Fill(n, holds) => fill(core, file, n, holds),
         Step::Consume(n) => consume(core, file, n),
         Step::WritePieces(first, second) => write_pieces(core, file, first, second),
         Step::FillBuf(holds) => fill_buf(core, file, holds),
@@ -305,7 +222,6 @@ fn made(core: &mut Core, file: &mut TokioCompatFile, what: Step) -> Seen
         Step::Reserve(n) => reserve(core, file, n),
         Step::Shrink(n) => shrink(core, file, n),
         Step::Holds(bytes) => taken(file.buffer() == bytes),
-        Step::Seek(by) => seek(core, file, by),
         Step::Sends(bytes) => taken(sends(core, bytes)),
         Step::Takes(body) => taken(takes(core, body)),
         Step::At(offset) => taken(file.poll_complete() == offset),

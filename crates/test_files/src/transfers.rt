@@ -11,7 +11,6 @@ ghost use Rattle.sftp_file.specs.Settles.{settle_meaning};
 
 mod copies;
 mod read_all;
-mod write_all;
 
 use crate::buffered::opened;
 use crate::paths::{Seen, answer, error_seen, greeted, may_ask, poll_seen, sends, takes};

@@ -3,7 +3,7 @@ ghost use Rattle.std.specs.Prelude.{◌≡◌};
 ghost use Rattle.plan_state.specs.declared.stage.Stage.TheVariants.{Ready};
 
 use crate::scene::{G, H, OFFERS, PLAIN, Rights, greeted, may_ask, opened};
-use bytes::BytesMut;
+use bytes::{Bytes, BytesMut};
 use plan_state::PendingCall;
 use sftp_core::Core;
 use sftp_file::{File, Poll, Settling, StatusCall, cancel_read_all, read_all_answer};
@@ -74,6 +74,32 @@ fn the_answer_of_a_read(rt: HostRuntime) -> Result<(), Fail> {
         return Err("not started")?;
     };
     assert_eq!(rt; (len, bytes.as_slice()), (0, b"<".as_slice()));
+    Ok(())
+}
+
+/// Returns true if a write of all bytes of two pieces is started. It is given up.
+fn is_started(core: &mut Core, file: &mut File) -> bool {
+    let pieces = [Bytes::from_static(b"x"), Bytes::from_static(b"y")];
+    if !may_ask(core) {
+        return false;
+    }
+    match file.start_write_all_zero_copy(core, &pieces) {
+        Ok(call) => {
+            call.cancel(core);
+            true
+        }
+        Err(_) => false,
+    }
+}
+
+#[test]
+fn a_write_of_pieces(rt: HostRuntime) -> Result<(), Fail> {
+    let alloc = rt.alloc();
+    let mut core = greeted(alloc, PLAIN)?;
+    let mut file = opened(alloc, &mut core, Rights::Write, H)?;
+    let started = is_started(&mut core, &mut file);
+    file.let_go(core.end());
+    assert!(rt; started);
     Ok(())
 }
 
