@@ -15,7 +15,7 @@ use std::sync::Wait;
 
 /// The remains of a shared value: the value, and for each seat its receipts.
 ///
-/// Example: `crates/test_tasks/src/kept_fault.rt`.
+/// Example: `crates/test_tasks/src/one_thread.rt`.
 #[derive(Drop)]
 pub struct Ended<S: Drop> {
     pub value: S,

@@ -17,7 +17,7 @@ use std::sync::Wait;
 /// A thread's seat at a shared value. It names a lane, or none, and keeps a receipt of each entry that was added to the
 /// journal by it. A seat that is dropped is not given again.
 ///
-/// Example: `crates/test_tasks/src/kept_fault.rt`.
+/// Example: `crates/test_tasks/src/one_thread.rt`.
 #[derive(Drop)]
 pub struct Seat<S: Held + Drop> {
     pub(crate) inner: Inner<S, View>,

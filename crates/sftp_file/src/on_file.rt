@@ -31,7 +31,7 @@ pub trait OnFile: PlanRunner {
 
 /// Polls of a call that moves a file.
 ///
-/// Example: `crates/test_files/src/transfers/write_all.rt`.
+/// Example: `crates/test_files/src/transfers.rt`.
 pub trait PollFile {
     /// The value that the call returns.
     type Value;

@@ -259,7 +259,7 @@ fn take_bytes(call: &mut ReadAllCall) -> BytesMut
 
 /// Polls of a `read_all`.
 ///
-/// Example: `crates/test_library/src/calls.rt`.
+/// Example: `crates/test_files/src/transfers/read_all.rt`.
 pub trait PollReadAll {
     // The precondition of a poll.
     ghost may: { CoreValue → Self → FileValue → Type 0 };

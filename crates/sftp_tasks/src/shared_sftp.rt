@@ -34,7 +34,7 @@ pub type Seat = session_seats::Seat<Locked>;
 /// A session that threads share. It is lent to them and stepped by their seats. The contract of a call that takes the
 /// lock holds if the call returns.
 ///
-/// Example: `crates/test_tasks/src/kept_fault.rt`.
+/// Example: `crates/test_tasks/src/one_thread.rt`.
 #[derive(Drop)]
 pub struct SharedSftp {
     pub(crate) alloc: Global,

@@ -1,17 +1,12 @@
 //! Tests of what calls under way show and return (draft-ietf-secsh-filexfer-02, sections 6.4, 6.6 and 7).
 ghost use Rattle.std.specs.Prelude.{◌≡◌};
-ghost use Rattle.plan_state.specs.Calls.{IsHeld};
 ghost use Rattle.plan_state.specs.declared.stage.Stage.TheVariants.{Ready};
-ghost use Rattle.sftp_file.specs.Files.{file_at};
-ghost use Rattle.sftp_file.specs.Gathers.{reading_all};
 
-use crate::scene::{G, H, OFFERS, PLAIN, Rights, exchange, greeted, may_ask, opened, sends};
-use bytes::BytesMut;
+use crate::scene::{G, H, OFFERS, PLAIN, Rights, greeted, may_ask, opened};
+use bytes::{Bytes, BytesMut};
 use plan_state::PendingCall;
 use sftp_core::Core;
-use sftp_file::{
-    File, Poll, PollReadAll, ReadAllCall, Settling, StatusCall, cancel_read_all, read_all_answer,
-};
+use sftp_file::{File, Poll, Settling, StatusCall, cancel_read_all, read_all_answer};
 use std::test::Fail;
 
 /// Returns the offsets that the copy of five bytes has reached immediately after its start.
@@ -51,66 +46,6 @@ fn where_a_copy_has_come(rt: HostRuntime) -> Result<(), Fail> {
     Ok(())
 }
 
-/// Returns true if the first READ is sent and four bytes come, and the read has not ended.
-#[tactic(auto, using(test_files::proofs::Kept::bytes_stay))]
-fn four_come(core: &mut Core, call: &ReadAllCall) -> bool
-    requires { IsHeld reading_all core.old call.now }
-    ensures { IsHeld reading_all core.new call.now }
-{
-    if call.is_ended() {
-        return false;
-    }
-    exchange(core, FOUR)
-}
-
-/// Polls a read, and returns true if it continues.
-#[tactic(auto, using(test_files::proofs::Kept::bytes_held))]
-fn goes_on(core: &mut Core, call: &mut ReadAllCall, file: &mut File) -> bool
-    requires held { IsHeld reading_all core.old call.old }
-    requires stands { call.old.runner.file ≡ file_at file.old }
-    ensures { IsHeld reading_all core.new call.new }
-{
-    if !may_ask(core) || call.is_ended() {
-        return false;
-    }
-    matches!(call.poll(core, file), Poll::Pending)
-}
-
-/// Returns the bytes of a read of five bytes after `<` that is given up when four have come.
-fn handed_out(core: &mut Core, file: &mut File) -> Result<Option<BytesMut>, Fail> {
-    let buffer = BytesMut::copy_from_slice(core.alloc(), b"<")?;
-    if !may_ask(core) {
-        return Ok(None);
-    }
-    let Ok(mut call) = file.start_read_all(core, 5, buffer) else {
-        return Ok(None);
-    };
-    let came = four_come(core, &call);
-    let goes = goes_on(core, &mut call, file);
-    let bytes = cancel_read_all(call, core);
-    if came && goes {
-        Ok(Some(bytes))
-    } else {
-        Ok(None)
-    }
-}
-
-/// Tests that the READ of the missing byte is still sent.
-#[test]
-fn a_read_that_is_given_up(rt: HostRuntime) -> Result<(), Fail> {
-    let alloc = rt.alloc();
-    let mut core = greeted(alloc, PLAIN)?;
-    let mut file = opened(alloc, &mut core, Rights::Read, H)?;
-    let bytes = handed_out(&mut core, &mut file);
-    let left = sends(&mut core, LAST) && core.unanswered() == 1 && file.offset() == 4;
-    file.let_go(core.end());
-    let Some(bytes) = bytes? else {
-        return Err("it did not go on")?;
-    };
-    assert_eq!(rt; (bytes.as_slice(), left), (b"<abcd".as_slice(), true));
-    Ok(())
-}
-
 /// Returns what a read that has not ended returns: nothing, and its bytes when it is given up.
 fn answered(core: &mut Core, file: &mut File) -> Result<Option<(usize, BytesMut)>, Fail> {
     let buffer = BytesMut::copy_from_slice(core.alloc(), b"<")?;
@@ -142,6 +77,32 @@ fn the_answer_of_a_read(rt: HostRuntime) -> Result<(), Fail> {
     Ok(())
 }
 
+/// Returns true if a write of all bytes of two pieces is started. It is given up.
+fn is_started(core: &mut Core, file: &mut File) -> bool {
+    let pieces = [Bytes::from_static(b"x"), Bytes::from_static(b"y")];
+    if !may_ask(core) {
+        return false;
+    }
+    match file.start_write_all_zero_copy(core, &pieces) {
+        Ok(call) => {
+            call.cancel(core);
+            true
+        }
+        Err(_) => false,
+    }
+}
+
+#[test]
+fn a_write_of_pieces(rt: HostRuntime) -> Result<(), Fail> {
+    let alloc = rt.alloc();
+    let mut core = greeted(alloc, PLAIN)?;
+    let mut file = opened(alloc, &mut core, Rights::Write, H)?;
+    let started = is_started(&mut core, &mut file);
+    file.let_go(core.end());
+    assert!(rt; started);
+    Ok(())
+}
+
 /// Returns true if a call that needs no reply returns its result after its runner was exchanged.
 fn is_told(core: &mut Core, call: StatusCall) -> bool
     requires { call.stage ≡ Ready }
@@ -160,8 +121,3 @@ fn a_runner_that_is_exchanged(rt: HostRuntime) -> Result<(), Fail> {
     assert!(rt; told);
     Ok(())
 }
-
-/// The READ of 1 byte at 4, and a DATA of 4 bytes to the READ before.
-const LAST: &[u8] = b"\0\0\0\x16\x05\0\0\0\x01\0\0\0\x01h\0\0\0\0\0\0\0\x04\0\0\0\x01";
-
-const FOUR: &[u8] = b"\x67\0\0\0\x01\0\0\0\x04abcd";

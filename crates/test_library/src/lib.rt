@@ -1,16 +1,10 @@
-//! Tests of starts by their public calls: refusals before a request is queued, and calls that are made of tickets.
+//! Tests of public functions from which the library's own calls are made, and of a core alone.
 #![tactic(auto)]
 
 #[cfg(test)]
-mod buffered;
-#[cfg(test)]
 mod calls;
 #[cfg(test)]
-mod copies;
-#[cfg(test)]
-mod files;
-#[cfg(test)]
-mod paths;
+mod cores;
 #[cfg(test)]
 mod pieces;
 pub mod scene;

@@ -4,11 +4,8 @@ ghost use Rattle.sftp_core.specs.Core.{record_at};
 ghost use Rattle.sftp_core.specs.Info.{info_of};
 ghost use Rattle.sftp_core.specs.declared.id_record.IdRecord.TheVariants.{Granted};
 ghost use Rattle.plan_state.specs.Asked.{IsReady};
-ghost use Rattle.plan_state.specs.Calls.{IsUnderWay};
 ghost use Rattle.plan_state.specs.Keeping.{KeepsHeld};
 
-use bytes::Bytes;
-use plan_state::{PendingCall, PlanRunner};
 use sftp_core::{Chunk, Core};
 use sftp_file::{Error, File, IoKind, Poll, StartOpen};
 use sftp_model::{Extensions, Fault, OpenOptions, SftpOptions};
@@ -40,19 +37,6 @@ pub fn error_seen(e: &Error) -> Seen {
         Error::BackgroundTaskFailure(fault) => Seen::Failed(*fault),
         Error::SftpError { code, .. } => Seen::Refused(*code),
         _ => Seen::Other,
-    }
-}
-
-/// Returns the result of a start. The call is given up.
-pub fn start_seen<M: PlanRunner>(core: &mut Core, started: Result<PendingCall<M>, Error>) -> Seen
-    requires { IfOk started (IsUnderWay M.meaning core.old) }
-{
-    match started {
-        Ok(call) => {
-            call.cancel(core);
-            Seen::Started
-        }
-        Err(e) => error_seen(&e),
     }
 }
 
@@ -161,11 +145,6 @@ pub fn opened(alloc: Global, core: &mut Core, rights: Rights, handle: &[u8]) -> 
         Poll::Ready(Ok(file)) => Ok(file),
         _ => Err("no HANDLE")?,
     }
-}
-
-/// Returns two pieces of one byte each.
-pub fn pieces() -> [Bytes; 2] {
-    [Bytes::from_static(b"x"), Bytes::from_static(b"y")]
 }
 
 /// Bodies of a VERSION without extensions, and of one that offers `fsync@openssh.com` and `copy-data`.

@@ -59,11 +59,8 @@ fn unbuffers(alloc: Global) -> Result<bool, Fail> {
 
 #[test]
 fn locals(rt: HostRuntime) -> Result<(), Fail> {
-    assert!(rt; seeks(rt.alloc())?);
-    assert!(rt; clones(rt.alloc())?);
-    assert!(rt; enters(rt.alloc())?);
-    assert!(rt; buffers(rt.alloc())?);
-    assert!(rt; seeks_buffered(rt.alloc())?);
-    assert!(rt; unbuffers(rt.alloc())?);
+    let alloc = rt.alloc();
+    assert!(rt; seeks(alloc)? && clones(alloc)? && enters(alloc)?);
+    assert!(rt; buffers(alloc)? && seeks_buffered(alloc)? && unbuffers(alloc)?);
     Ok(())
 }

@@ -2,8 +2,6 @@
 #![tactic(auto)]
 
 #[cfg(test)]
-mod kept_fault;
-#[cfg(test)]
 mod one_thread;
 #[cfg(test)]
 mod threads;

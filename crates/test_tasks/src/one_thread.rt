@@ -31,7 +31,7 @@ fn greeting(alloc: Global) -> Result<ScriptedLink, AllocError>
 }
 
 /// Returns two lanes without calls.
-pub(crate) fn two_lanes(alloc: Global) -> Result<Vec<Lane>, AllocError> {
+fn two_lanes(alloc: Global) -> Result<Vec<Lane>, AllocError> {
     let mut lanes = Vec::new(alloc);
     lanes.push(Lane {
         calls: Items::new(Vec::new(alloc)),
@@ -42,35 +42,14 @@ pub(crate) fn two_lanes(alloc: Global) -> Result<Vec<Lane>, AllocError> {
     Ok(lanes)
 }
 
-pub(crate) fn stat(alloc: Global, name: &[u8]) -> Result<Call, AllocError> {
+fn stat(alloc: Global, name: &[u8]) -> Result<Call, AllocError> {
     Ok(Call::Stat {
         path: ByteText::new(Vec::from_slice(alloc, name)?),
     })
 }
 
-/// Returns how many receipts a seat has whose lane was given a call before the session is open.
-fn early<R: Wait>(rt: &R, alloc: Global, lanes: &[Lane]) -> Result<usize, Fail>
-    requires { are_ok lanes.now ≡ true }
-{
-    let (shared, mut home) = SharedSftp::new(alloc, lanes, &SftpOptions::new())?;
-    let Some(mut seat) = shared.seat(rt, &mut home) else {
-        return Ok(0);
-    };
-    shared.submit(rt, &mut seat, stat(alloc, b"a")?)?;
-    Ok(seat.receipts().len())
-}
-
-/// Tests that before the session is open a call is recorded, and waits for a later step.
-#[test]
-fn a_call_before_version_has_one_receipt(rt: HostRuntime) -> Result<(), Fail> {
-    let lanes = two_lanes(rt.alloc())?;
-    assert!(rt; lanes_ok(lanes.as_slice()));
-    assert!(rt; early(&rt, rt.alloc(), lanes.as_slice())? == 1);
-    Ok(())
-}
-
 /// Sends what is unsent, and takes what comes. Returns true if both were done.
-pub(crate) fn exchange<R: Wait>(
+fn exchange<R: Wait>(
     rt: &R,
     shared: &SharedSftp,
     seat: &mut Seat,
