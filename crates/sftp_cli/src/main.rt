@@ -26,11 +26,12 @@ pub use drawn_script::bulk_script;
 pub use laws::{
     runs_are_complete, scripts_fix_texts, servers_in_memory_serve_files, statuses_have_causes,
 };
+use link_duplex::DuplexDial;
 use program_shell::{OUT_OF_MEMORY, exit_with, words_given};
 pub use run::run;
 pub use script_grammar::Script;
 pub use session_model::Report;
-use sftp_link::{ReadSource, UnixDial, WriteSink};
+use sftp_link::{ReadSource, WriteSink};
 use ssh_encoding::OutOfMemory;
 use std::process::ExitCode;
 pub use summary::{Summary, summary_of};
@@ -43,7 +44,7 @@ fn main(rt: HostRuntime) -> ExitCode {
     };
     let mut source = ReadSource::new(rt.stdin());
     let mut sink = WriteSink::new(rt.stdout());
-    let mut dial = UnixDial::new(&rt);
+    let mut dial = DuplexDial::new(&rt, rt.alloc(), None);
     let mut kept = None;
     let status = run(
         rt.alloc(),

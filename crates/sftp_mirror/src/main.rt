@@ -13,10 +13,11 @@ mod schedule;
 
 pub use copy::{CopyReport, copy_jobs};
 pub use laws::{copies_are_complete, statuses_have_causes};
+use link_duplex::DuplexDial;
 pub use list::{CopyList, read_list};
 pub use program::mirror;
 use program_shell::{OUT_OF_MEMORY, exit_with, words_given};
-use sftp_link::{ReadSource, UnixDial, WriteSink};
+use sftp_link::{ReadSource, WriteSink};
 use ssh_encoding::OutOfMemory;
 use std::process::ExitCode;
 
@@ -27,7 +28,7 @@ fn main(rt: HostRuntime) -> ExitCode {
     };
     let mut source = ReadSource::new(rt.stdin());
     let mut sink = WriteSink::new(rt.stdout());
-    let mut dial = UnixDial::new(&rt);
+    let mut dial = DuplexDial::new(&rt, rt.alloc(), None);
     let mut kept = None;
     let status = mirror(
         rt.alloc(),

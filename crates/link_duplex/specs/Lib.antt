@@ -1,0 +1,5 @@
+pub mod WireSteps
+pub mod Wires
+pub mod Buffers
+pub mod Duplex
+pub mod Streams
