@@ -364,6 +364,36 @@ sed -n 's/^lane 0 call 0 names //p' "$room/outcomes" | tr ' ' '\n' | sort >"$roo
 [ $status -eq 0 ] && cmp "$room/wanted" "$room/got"
 tell 'a listing of 1,000 entries' $?
 
+# ---- large pieces come down and go up at once: the server writes a reply before it reads on, and the program does not wait for it
+
+head -c 250000 /dev/urandom >"$room/large"
+content=$(hex <"$room/large")
+for pairs in 4 16; do
+    rm -rf "$room/both"
+    mkdir "$room/both"
+    {
+        for pair in $(seq $pairs); do
+            printf 'lane\nopen 0 r %s\nread 0 250000\nclose 0\n' "$(at large)"
+            printf 'lane\nopen 0 wc %s\nwrite 0 %s\nclose 0\n' "$(at "both/$pair")" "$content"
+        done
+        lanes=$(seq 0 $((2 * pairs - 1)))
+        for lane in $lanes; do echo "step $lane"; done
+        echo flush
+        for lane in $lanes; do echo take; done
+        for lane in $lanes; do printf 'step %s\nstep %s\n' "$lane" "$lane"; done
+        echo flush
+    } >"$room/script"
+    run
+    copied=0
+    for pair in $(seq $pairs); do
+        cmp "$room/large" "$room/both/$pair" && copied=$((copied + 1))
+    done
+    sed -n 's/^lane [0-9]* call 1 read //p' "$room/outcomes" >"$room/got"
+    [ $status -eq 0 ] && [ $copied -eq $pairs ] && [ "$(wc -l <"$room/got")" -eq $pairs ] &&
+        [ "$(sort -u "$room/got")" = "$content" ] && [ "$(grep -c ' call 1 count 250000$' "$room/outcomes")" -eq $pairs ]
+    tell "$pairs large pieces down and $pairs up at once" $?
+done
+
 # ---- 200 files of 0 to 100,000 bytes are copied up by 16 lanes, and down again
 
 mirror=$PWD/crates/sftp_mirror/out/sftp_mirror
@@ -387,6 +417,14 @@ if [ -x "$mirror" ]; then
     sed 's/^up /got /' "$room/list" >"$room/wanted"
     [ $status -eq 0 ] && cmp "$room/wanted" "$room/outcomes"
     tell 'and down again' $?
+
+    head -c 300000 /dev/urandom >"$room/large"
+    printf 'down %s 9\nup %s %s\n' "$(at large)" "$(at copy)" "$(hex <"$room/large")" >"$room/list"
+    timeout 60 "$mirror" unix "$room/socket" 2 8 <"$room/list" >"$room/outcomes"
+    status=$?
+    printf 'got %s %s\n' "$(at large)" "$(hex <"$room/large")" >"$room/wanted"
+    [ $status -eq 0 ] && grep -qxF -f "$room/wanted" "$room/outcomes" && cmp "$room/large" "$room/copy"
+    tell 'a large file down and one up at once' $?
 else
     echo "interop: $mirror is missing: no list of files was copied"
 fi
