@@ -130,8 +130,9 @@ returns-in-Err-wait g c =
           c.self-2.inside.limit;
       ended = c.self-2.inside.ended;
     })
-    c.needed_readiness.result c.in-Err-wait.e turn (subst (λ (w : DuplexLinkState g.row.W.Denot). IsNeededReadiness
-    c.needed_readiness.result w.behind) (sym c.self-2.view_is) c.needed_readiness.ensures)
+    c.needed_readiness-readiness.result c.in-Err-wait.e turn (subst
+    (λ (w : DuplexLinkState g.row.W.Denot). IsNeededReadiness
+    c.needed_readiness-readiness.result w.behind) (sym c.self-2.view_is) c.needed_readiness-readiness.ensures)
     (rw c.in-Err-wait.is at c.wait.ensures) refl)
 
 pub returns : goal.returns
@@ -216,6 +217,6 @@ returns g c =
           c.self-2.inside.limit;
       ended = c.self-2.inside.ended;
     })
-    c.needed_readiness.result turn (subst (λ (w : DuplexLinkState g.row.W.Denot). IsNeededReadiness
-    c.needed_readiness.result w.behind) (sym c.self-2.view_is) c.needed_readiness.ensures)
+    c.needed_readiness-readiness.result turn (subst (λ (w : DuplexLinkState g.row.W.Denot). IsNeededReadiness
+    c.needed_readiness-readiness.result w.behind) (sym c.self-2.view_is) c.needed_readiness-readiness.ensures)
     (rw c.in-Ok-wait.is at c.wait.ensures) refl)
