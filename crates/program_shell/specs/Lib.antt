@@ -4,3 +4,5 @@ pub mod Ended
 pub mod Replies
 pub mod Stopped
 pub mod Completed
+pub mod Commands
+pub mod CommandRows

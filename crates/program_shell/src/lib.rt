@@ -4,6 +4,7 @@
 #![tactic(auto)]
 
 mod answer;
+mod commands;
 mod ending;
 mod in_memory;
 mod left;
@@ -16,6 +17,7 @@ mod system;
 mod tests;
 
 pub use answer::{Answer, answer_to};
+pub use commands::{Command, Misfit, Operand, misfit_of, tell_refusal};
 pub use ending::{Answered, NO_LINK, OUT_OF_MEMORY, ProgramFailure, cause_of, status_of};
 pub use in_memory::{answer_in_memory, new_server_of, text_in_memory};
 pub use left::{write_dirs, write_files};

@@ -12,6 +12,7 @@ mod draws;
 mod kind;
 mod laws;
 mod printed;
+mod refused;
 mod run;
 mod script;
 mod summary;
@@ -54,6 +55,9 @@ fn main(rt: HostRuntime) -> ExitCode {
         &mut dial,
         &mut kept,
     );
+    if status == refused::REFUSED {
+        refused::tell_refused(&rt, &words);
+    }
     let path = answer::unix_path(&words).unwrap_or_default();
     exit_with(&rt, "sftp_cli", status, path)
 }

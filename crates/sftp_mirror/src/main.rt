@@ -16,10 +16,52 @@ pub use laws::{copies_are_complete, statuses_have_causes};
 use link_duplex::DuplexDial;
 pub use list::{CopyList, read_list};
 pub use program::mirror;
-use program_shell::{OUT_OF_MEMORY, exit_with, words_given};
+use program_shell::{Command, OUT_OF_MEMORY, Operand, exit_with, tell_refusal, words_given};
 use sftp_link::{ReadSource, WriteSink};
 use ssh_encoding::OutOfMemory;
 use std::process::ExitCode;
+
+/// The status if the arguments or the list can't be used.
+const REFUSED: u8 = 2;
+
+/// The message if the arguments are right and the list is refused.
+const LIST: &str = "the list on standard input is invalid; standard output names its line";
+
+/// Reports why the arguments or the list are refused.
+fn tell_refused(rt: &HostRuntime, words: &[String]) {
+    let path = Operand {
+        name: "PATH",
+        range: None,
+    };
+    let width = Operand {
+        name: "WIDTH",
+        range: Some((1, 64)),
+    };
+    let rounds = Operand {
+        name: "ROUNDS",
+        range: Some((0, 4096)),
+    };
+    let (copy, unix) = ([width, rounds], [path, width, rounds]);
+    let commands = [
+        Command {
+            word: "copy",
+            operands: &copy,
+        },
+        Command {
+            word: "unix",
+            operands: &unix,
+        },
+        Command {
+            word: "--help",
+            operands: &[],
+        },
+        Command {
+            word: "--version",
+            operands: &[],
+        },
+    ];
+    tell_refusal(rt, "sftp_mirror", &commands, words, LIST);
+}
 
 fn main(rt: HostRuntime) -> ExitCode {
     let words = match words_given(&rt) {
@@ -38,5 +80,8 @@ fn main(rt: HostRuntime) -> ExitCode {
         &mut dial,
         &mut kept,
     );
+    if status == REFUSED {
+        tell_refused(&rt, &words);
+    }
     exit_with(&rt, "sftp_mirror", status, schedule::path_of(&words))
 }

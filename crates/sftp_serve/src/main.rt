@@ -55,6 +55,9 @@ fn main(rt: HostRuntime) -> ExitCode {
         // If standard error fails too, the message is lost.
         let _ = match refused {
             Ok(Some((number, why))) => eprintln!(rt; "sftp_serve: word {number} {why}"),
+            _ if unread == Some(serve::WORDS) => {
+                eprintln!(rt; "sftp_serve: an argument is not UTF-8 (try --help)")
+            }
             _ => eprintln!(rt; "sftp_serve: {cause}"),
         };
     }

@@ -20,6 +20,7 @@ pub use laws::{a_difference_is_told, runs_are_complete, statuses_have_causes};
 pub use machine_answers::Machine;
 use machine_halves::MapPair;
 pub use outcome::Replay;
+use program_shell::{Command, tell_refusal};
 pub use replay_laws::replays_serve;
 pub use script_grammar::Script;
 pub use session_model::Event;
@@ -31,6 +32,46 @@ use std::env;
 use std::io::ErrorKind;
 use std::process::ExitCode;
 pub use trace::replay;
+
+/// The status if the arguments or the script can't be used.
+const REFUSED: u8 = 2;
+
+/// The message if there are no arguments and the script is refused.
+const SCRIPT: &str = "the script on standard input is invalid; standard output names its line";
+
+/// Reports why the arguments are refused.
+fn tell_refused(rt: &HostRuntime, words: &[String]) {
+    let commands = [
+        Command {
+            word: "--help",
+            operands: &[],
+        },
+        Command {
+            word: "--version",
+            operands: &[],
+        },
+    ];
+    tell_refusal(
+        rt,
+        "sftp_share",
+        &commands,
+        words,
+        "the arguments are invalid",
+    );
+}
+
+/// Returns the exit code of a status. Standard error gets the reason for any status other than 0. If standard error
+/// fails too, the message is lost.
+fn exit_with(rt: &HostRuntime, words: &[String], unreadable: bool, status: u8) -> ExitCode {
+    if status == REFUSED && (unreadable || !words.is_empty()) {
+        tell_refused(rt, words);
+    } else if status == REFUSED {
+        let _ = eprintln!(rt; "sftp_share: {SCRIPT}");
+    } else if let Some(cause) = ending::cause_of(status) {
+        let _ = eprintln!(rt; "sftp_share: {cause}");
+    }
+    ExitCode::from(status)
+}
 
 fn main(rt: HostRuntime) -> ExitCode {
     let mut words = Vec::new(rt.alloc());
@@ -56,9 +97,5 @@ fn main(rt: HostRuntime) -> ExitCode {
     } else {
         answer::answer(&words, &mut sink)
     };
-    if let Some(cause) = ending::cause_of(status) {
-        // If standard error fails too, the message is lost.
-        let _ = eprintln!(rt; "sftp_share: {cause}");
-    }
-    ExitCode::from(status)
+    exit_with(&rt, &words, unreadable, status)
 }

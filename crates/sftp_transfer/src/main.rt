@@ -46,7 +46,7 @@ fn main(rt: HostRuntime) -> ExitCode {
         let _ = eprintln!(rt; "sftp_transfer: out of memory");
         ended::OUT_OF_MEMORY
     } else {
-        run(&mut Terminal::new(&rt), &words)
+        run(&mut Terminal::new(&rt, &words), &words)
     };
     ExitCode::from(status)
 }

@@ -6,21 +6,23 @@ use crate::run::Outside;
 use crate::texts::written;
 use crate::work::{can_begin, over};
 use sftp_link::{Duplex, ReadSource, StreamLink, WriteSink};
-use std::io;
+use std::env;
+use std::io::{self, ErrorKind};
 use std::net::TcpStream;
 use std::os::unix::net::UnixStream;
-use transfer_args::{Asked, LinkAt, Work};
+use transfer_args::{Asked, LinkAt, Misfit, Work, misfit_of};
 
 /// The files, the streams and the network of the system. It does not record what is done with it.
 #[derive(Drop)]
 pub(crate) struct Terminal<'a> {
     rt: &'a HostRuntime,
+    words: &'a [String],
 }
 
 impl<'a> Terminal<'a> {
-    /// Returns the environment of this runtime.
-    pub(crate) fn new(rt: &'a HostRuntime) -> Terminal<'a> {
-        Terminal { rt }
+    /// Returns the environment of this runtime, for a command line.
+    pub(crate) fn new(rt: &'a HostRuntime, words: &'a [String]) -> Terminal<'a> {
+        Terminal { rt, words }
     }
 }
 
@@ -28,6 +30,14 @@ impl<'a> Terminal<'a> {
 fn no_link(rt: &HostRuntime, place: &str, why: io::Error) -> Reach {
     let _ = eprintln!(rt; "sftp_transfer: {place}: {why}");
     Reach::NoLink
+}
+
+/// Returns true if an argument of the command line is not UTF-8.
+fn has_other_bytes(rt: &HostRuntime) -> bool {
+    match env::args(rt) {
+        Ok(_) => false,
+        Err(error) => error.kind() != ErrorKind::OutOfMemory,
+    }
 }
 
 impl<'a> Outside for Terminal<'a> {
@@ -42,7 +52,13 @@ impl<'a> Outside for Terminal<'a> {
     }
 
     fn refuse(&mut self) {
-        let _ = eprintln!(self.rt; "sftp_transfer: invalid arguments (try sftp_transfer --help)");
+        let _ = match misfit_of(self.words) {
+            Some(Misfit::Missing) if has_other_bytes(self.rt) => {
+                eprintln!(self.rt; "sftp_transfer: an argument is not UTF-8 (try --help)")
+            }
+            Some(misfit) => eprintln!(self.rt; "sftp_transfer: {misfit} (try --help)"),
+            None => eprintln!(self.rt; "sftp_transfer: invalid arguments (try --help)"),
+        };
     }
 
     fn look(&mut self, work: &Work<'_>) -> bool {

@@ -16,7 +16,7 @@ mod run;
 
 pub use laws::{statuses_have_causes, views_are_complete};
 pub use program::view;
-use program_shell::{OUT_OF_MEMORY, exit_with, words_given};
+use program_shell::{Command, OUT_OF_MEMORY, Operand, exit_with, tell_refusal, words_given};
 pub use run::{ViewReport, run_view};
 use sftp_link::{ReadSource, WriteSink};
 use ssh_encoding::OutOfMemory;
@@ -24,6 +24,38 @@ use std::process::ExitCode;
 
 /// The status if the arguments or the list can't be used.
 const REFUSED: u8 = 2;
+
+/// The message if the arguments are right and the list is refused.
+const LIST: &str = "the list on standard input is invalid; standard output names its line";
+
+/// Reports why the arguments or the list are refused.
+fn tell_refused(rt: &HostRuntime, words: &[String]) {
+    let size = [
+        Operand {
+            name: "BLOCK",
+            range: Some((1, 65536)),
+        },
+        Operand {
+            name: "CAPACITY",
+            range: Some((1, 4096)),
+        },
+    ];
+    let commands = [
+        Command {
+            word: "view",
+            operands: &size,
+        },
+        Command {
+            word: "--help",
+            operands: &[],
+        },
+        Command {
+            word: "--version",
+            operands: &[],
+        },
+    ];
+    tell_refusal(rt, "sftp_view", &commands, words, LIST);
+}
 
 fn main(rt: HostRuntime) -> ExitCode {
     let words = match words_given(&rt) {
@@ -35,8 +67,7 @@ fn main(rt: HostRuntime) -> ExitCode {
     let mut kept = None;
     let status = view(rt.alloc(), &words, &mut source, &mut sink, &mut kept);
     if status == REFUSED {
-        // If standard error fails too, the message is lost.
-        let _ = eprintln!(rt; "sftp_view: the list or the arguments are invalid (try --help)");
+        tell_refused(&rt, &words);
     }
     exit_with(&rt, "sftp_view", status, "")
 }

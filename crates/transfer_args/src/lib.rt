@@ -2,10 +2,12 @@
 #![tactic(auto)]
 
 mod asked;
+mod misfit;
 mod numbers;
 mod options;
 mod reading;
 
 pub use asked::{Asked, Direction, LinkAt, Listing, Transfer, Work};
+pub use misfit::{Misfit, misfit_of};
 pub use options::Options;
 pub use reading::read_words;

@@ -9,7 +9,7 @@ use crate::numbers::number_in;
 use crate::options::{Counted, Options};
 
 /// Returns the options of a command line that has none.
-fn plain_options() -> Options
+pub(crate) fn plain_options() -> Options
     ensures { result ≡ plain_options }
 {
     Options {
@@ -26,7 +26,7 @@ fn plain_options() -> Options
 }
 
 /// Returns the option that a word is, if it is one that a number follows.
-fn counted_by(word: &str) -> Option<Counted>
+pub(crate) fn counted_by(word: &str) -> Option<Counted>
     ensures { result ≡ counted_by word.now }
 {
     if word == "--window" {
@@ -41,7 +41,7 @@ fn counted_by(word: &str) -> Option<Counted>
 }
 
 /// Returns the options with a number that a word writes.
-fn with_count(options: Options, counted: Counted, word: &str) -> Option<Options>
+pub(crate) fn with_count(options: Options, counted: Counted, word: &str) -> Option<Options>
     ensures { result ≡ with_count options counted word.now }
 {
     let word = word.as_bytes();
@@ -62,7 +62,7 @@ fn with_count(options: Options, counted: Counted, word: &str) -> Option<Options>
 }
 
 /// Returns the options after an option that is a word alone, or `None` if the word is no such option.
-fn with_flag(options: Options, word: &str) -> Option<Options>
+pub(crate) fn with_flag(options: Options, word: &str) -> Option<Options>
     ensures { result ≡ flag_of options word.now }
 {
     if word == "-r" {
@@ -101,7 +101,7 @@ fn with_flag(options: Options, word: &str) -> Option<Options>
 }
 
 /// Returns the address of the server that a word writes.
-fn link_at(word: &str) -> Option<LinkAt<'_>>
+pub(crate) fn link_at(word: &str) -> Option<LinkAt<'_>>
     ensures { option_map link_seen result ≡ link_at word.now }
 {
     if word == "stdio" {
@@ -117,7 +117,7 @@ fn link_at(word: &str) -> Option<LinkAt<'_>>
 }
 
 /// Returns the options at the front, and the words after them.
-fn options_by(words: &[String]) -> Option<(Options, &[String])>
+pub(crate) fn options_by(words: &[String]) -> Option<(Options, &[String])>
     ensures { option_map (λ p. (p.0, map string_bytes p.1.now)) result ≡ options_by plain_options None (map string_bytes words.now) }
 {
     let mut options = plain_options();
