@@ -1,4 +1,3 @@
--- believed, except operand_seen, command_seen, misfit_seen
 -- The commands of a program, and the reason why a command line is none of them.
 use Rattle.std.specs.Prelude.{ℕ, Bool, true, List, [], ◌∷◌, Option, Some, None, is_ok, map, if◌then◌else◌}
 use Rattle.std.specs.Str.{bytes_eq}
