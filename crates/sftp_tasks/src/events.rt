@@ -263,7 +263,7 @@ impl Event<Locked, Result<bool, Error>> for MayRead {
 
 /// One step of the seat's lane, unless all of its calls have ended. A seat that names no lane has none.
 ///
-/// Used in `crates/sftp_tasks/src/shared_sftp.rt`.
+/// Used in `crates/sftp_tasks/src/polls.rt`.
 #[derive(Drop)]
 pub struct Poll;
 

@@ -1,4 +1,4 @@
-//! Frames that go out of the locked session and come into it, and their counts.
+//! Frames that go out and come in, and their counts.
 ghost use Rattle.std.specs.Prelude.{◌≡◌, ◌≢◌, ◌≤◌, ◌+◌, ◌-◌, ◌^◌, min, nat_lt, None, IfOk, IfErr, OnOk, MatchOption};
 ghost use Rattle.std.specs.Option.{option_map};
 ghost use Rattle.sftp_model.specs.Pieces.{joined_pieces};
@@ -7,7 +7,6 @@ ghost use Rattle.session_driver.specs.declared.session.Phase.TheVariants as phas
 ghost use Rattle.session_work.specs.Working.{past_of};
 ghost use Rattle.sftp_lanes.specs.Counts.{unsent_in};
 ghost use Rattle.sftp_lanes.specs.Events.{HandsOutIn, TakesIn};
-ghost use Rattle.sftp_tasks.specs.Opening.{HandingHello, TakingVersion};
 ghost use Rattle.sftp_tasks.specs.SessionEvents.{HasNoFault, RefusesCall, TakeStops};
 
 use crate::locked::Locked;
@@ -113,53 +112,6 @@ impl Locked {
         match self.session.phase() {
             Phase::Failed => Err(Error::OutOfMemory),
             _ => Ok(self.counts.taken < self.counts.written),
-        }
-    }
-
-    /// Returns the hello if it was not handed out yet, or `None` if it was; nothing has changed then. It is counted as
-    /// handed out.
-    ///
-    /// # Errors
-    ///
-    /// Those of `step`.
-    pub fn hand_hello(&mut self) -> Result<Option<Handed>, Error>
-        ensures rest { self.new ≡ record self.old { session = self.new.session; counts = record self.old.counts { handed = self.new.counts.handed } } }
-        ensures hands { HandingHello self.old self.new result }
-        ensures no_fault { OnOk result (HasNoFault self.old.session) }
-    {
-        // No `?`: it converts the error, and `hands` is by cases on the result.
-        match self.session.phase() {
-            Phase::Fresh => self.hand_out(),
-            _ => match self.check() {
-                Ok(()) => Ok(None),
-                Err(e) => Err(e),
-            },
-        }
-    }
-
-    /// Takes the body of VERSION, and counts it.
-    ///
-    /// # Errors
-    ///
-    /// `InvalidResponse` for a frame that comes while no VERSION is awaited; the session records that. Otherwise those
-    /// of `take`.
-    pub fn take_version(&mut self, body: &[u8]) -> Result<(), Error>
-        ensures rest { self.new ≡ record self.old { session = self.new.session; counts = record self.old.counts { taken = self.new.counts.taken } } }
-        ensures takes { TakingVersion body.now self.old self.new result }
-        ensures no_fault { OnOk result (HasNoFault self.old.session) }
-        ensures rises { self.old.counts.taken ≤ self.new.counts.taken }
-    {
-        // No `?`: it converts the error, and `takes` is by cases on the result.
-        match self.check() {
-            Ok(()) => {}
-            Err(e) => return Err(e),
-        }
-        match self.session.phase() {
-            Phase::Greeted => self.take(body),
-            _ => match self.fail(Fault::Response { id: None }) {
-                Ok(()) => Err(Error::InvalidResponse { id: None }),
-                Err(e) => Err(e),
-            },
         }
     }
 }

@@ -3,7 +3,9 @@
 //! has its receipt at the seat that made it.
 #![tactic(auto)]
 
+mod added_calls;
 mod copies;
+mod endings;
 mod events;
 mod frames;
 mod laws;

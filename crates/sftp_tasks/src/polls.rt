@@ -1,9 +1,17 @@
-//! The result of one poll of a lane.
-ghost use Rattle.std.specs.Prelude.{◌≡◌};
-ghost use Rattle.sftp_tasks.specs.Calls.{calls_in, is_ended};
-ghost use Rattle.sftp_tasks.specs.SessionEvents.{polled_of};
+//! Polls of a lane until its calls have ended.
+ghost use Rattle.std.specs.Prelude.{◌≡◌, Ok, IfErr, IfOk, IfSome, OnOk};
+ghost use Rattle.session_seats.specs.Holds.{AddsEntries, claim_of, sight_by};
+ghost use Rattle.sftp_tasks.specs.Calls.{AnswersSeat, InOneHold, PollsSeat, PollsUntil, SeesEnded, calls_in, is_ended};
+ghost use Rattle.sftp_tasks.specs.Entries.{by_step};
+ghost use Rattle.sftp_tasks.specs.SessionEvents.{AllEnded, HasNoFault, PollsIn, RefusesCall, polled_of};
+ghost use Rattle.session_work.specs.Working.{past_of};
 
+use crate::events::Poll;
+use crate::locked::Locked;
+use crate::shared_sftp::{Seat, SharedSftp, settle};
 use session_driver::Stepped;
+use sftp_model::Error;
+use std::sync::Wait;
 
 /// The result of one poll of a lane.
 ///
@@ -20,14 +28,14 @@ pub enum Polled {
 
 impl Polled {
     /// Returns true if all calls have ended.
-    pub(crate) fn is_ended(&self) -> bool
+    fn is_ended(&self) -> bool
         ensures { result ≡ is_ended self.now }
     {
         matches!(self, Polled::Ended(_))
     }
 
     /// Returns how many calls have ended, if all have.
-    pub(crate) fn calls(&self) -> u64
+    fn calls(&self) -> u64
         ensures { result ≡ calls_in self.now }
     {
         match self {
@@ -38,12 +46,106 @@ impl Polled {
 }
 
 /// Returns the result of a poll for a step of its lane.
-pub(crate) fn polled_of(event: Stepped) -> Polled
+fn polled_of(event: Stepped) -> Polled
     ensures { result ≡ polled_of event }
 {
     match event {
         Stepped::Nothing => Polled::Waits,
         Stepped::Submitted => Polled::Moved,
         Stepped::Ended => Polled::Moved,
+    }
+}
+
+impl Locked {
+    /// Returns how many calls a lane has, if all have ended. Errors are those of `step`.
+    fn ended_calls(&self, lane: u32) -> Result<Option<u64>, Error>
+        ensures ended { IfOk result (λ calls. IfSome calls (AllEnded self.now.session.lanes (past_of self.now.session.work) lane)) }
+        ensures no_fault { OnOk result (HasNoFault self.now.session) }
+        ensures refused { IfErr result (λ e. RefusesCall e self.now.session self.now.session) }
+    {
+        // No `?`: it converts the error, and `refused` is about the error itself.
+        match self.check() {
+            Ok(()) => {}
+            Err(e) => return Err(e),
+        }
+        if !self.session.is_done(lane) {
+            return Ok(None);
+        }
+        // For the contract: the journal is a run, so no more calls have ended than there are.
+        let _ = self.session.journal();
+        Ok(Some(self.session.outcomes(lane).len() as u64))
+    }
+
+    /// Makes one step of a lane, unless all of its calls have ended.
+    ///
+    /// # Errors
+    ///
+    /// Those of `step`.
+    pub fn poll(&mut self, lane: u32) -> Result<Polled, Error>
+        ensures rest { self.new ≡ record self.old { session = self.new.session } }
+        ensures polls { IfOk result (λ p. PollsIn lane self.old.session self.new.session p) }
+        ensures no_fault { OnOk result (HasNoFault self.old.session) }
+        ensures refused { IfErr result (λ e. RefusesCall e self.old.session self.new.session) }
+    {
+        // No `?`: it converts the error, and `refused` is about the error itself.
+        match self.ended_calls(lane) {
+            Ok(None) => {}
+            Ok(Some(calls)) => return Ok(Polled::Ended(calls)),
+            Err(e) => return Err(e),
+        }
+        match self.step(lane) {
+            Ok(event) => Ok(polled_of(event)),
+            Err(e) => Err(e),
+        }
+    }
+}
+
+impl SharedSftp {
+    /// Steps the seat's lane until all of its calls have ended, and returns how many it has. Meanwhile it waits for
+    /// VERSION and for replies. Returns 0 if the seat names no lane.
+    ///
+    /// # Errors
+    ///
+    /// `BackgroundTaskFailure` once the session has recorded a fault, and `OutOfMemory` if an allocation fails.
+    pub fn poll_wait<R: Wait>(&self, rt: &R, seat: &mut Seat) -> Result<u64, Error>
+        requires own { seat.old.inner.table_id ≡ self.now.shared.table.shared.table_id }
+        ensures own { (seat.new.inner.table_id ≡ seat.old.inner.table_id) × (seat.new.lane ≡ seat.old.lane)
+            × ((claim_of seat.new.inner.me).share ≡ (claim_of seat.old.inner.me).share) }
+        ensures only { AddsEntries (by_step seat.old.lane) (claim_of seat.old.inner.me) (claim_of seat.new.inner.me) }
+        ensures polls { PollsUntil seat.old.lane result seat.old.inner.me seat.new.inner.me }
+        ensures ended { IfOk result (λ calls. SeesEnded seat.old.lane calls (sight_by seat.new.inner.me)) }
+    {
+        for _ in rt.forever() {
+            let seen = self.shared.changes(rt);
+            // No `?`: it converts the error, and `polls` is by cases on the result.
+            let polled = match self.poll(rt, seat) {
+                Ok(polled) => polled,
+                Err(e) => return Err(e),
+            };
+            if polled.is_ended() {
+                return Ok(polled.calls());
+            }
+            self.pause(rt, polled, seen);
+        }
+        unreachable!()
+    }
+
+    /// Polls the seat's lane once.
+    fn poll<R: Wait>(&self, rt: &R, seat: &mut Seat) -> Result<Polled, Error>
+        requires own { seat.old.inner.table_id ≡ self.now.shared.table.shared.table_id }
+        ensures own { (seat.new.inner.table_id ≡ seat.old.inner.table_id) × (seat.new.lane ≡ seat.old.lane)
+            × ((claim_of seat.new.inner.me).share ≡ (claim_of seat.old.inner.me).share) }
+        ensures only { AddsEntries (by_step seat.old.lane) (claim_of seat.old.inner.me) (claim_of seat.new.inner.me) }
+        ensures polls { InOneHold (PollsSeat seat.old.lane) result seat.old.inner.me seat.new.inner.me }
+    {
+        let (did, copied) = seat.apply(rt, self.alloc, &self.shared, Poll);
+        settle(did, copied)
+    }
+
+    /// Waits for a change if the poll found nothing to do.
+    fn pause<R: Wait>(&self, rt: &R, polled: Polled, seen: u64) {
+        if let Polled::Waits = polled {
+            self.shared.wait(rt, seen);
+        }
     }
 }

@@ -1,32 +1,28 @@
-//! The shared session, its opening, the calls of a lane's seat, and waits.
-ghost use Rattle.std.specs.Prelude.{◌≡◌, ◌<◌, ◌≤◌, ◌-◌, ◌^◌, [], None, false, true, IfErr, IfNone, IfOk, IfSome, OnOk};
+//! The shared session, and the calls of a lane's seat.
+ghost use Rattle.std.specs.Prelude.{◌≡◌, ◌<◌, ◌≤◌, [], None, false, true, IfNone, IfOk, IfSome};
 ghost use Rattle.plan_model.specs.Lanes.{are_ok};
-ghost use Rattle.session_seats.specs.Holds.{AddsEntries, IsFresh, claim_of, sight_by};
+ghost use Rattle.session_seats.specs.Holds.{AddsEntries, IsFresh, at_first, claim_of};
 ghost use Rattle.session_seats.specs.NewSeats.{Gives, GivesLane, HasNone};
 ghost use Rattle.session_seats.specs.Rules.{home};
 ghost use Rattle.session_seats.specs.Sights.{inputs_of};
-ghost use Rattle.sftp_tasks.specs.Calls.{AnswersSeat, BeginsWith, InOneHold, PollsSeat, PollsUntil, ReleasesSeat, SeesEnded, with_receipt};
-ghost use Rattle.sftp_tasks.specs.Entries.{by_cancel, by_let_go, by_nothing, by_step, by_submit};
+ghost use Rattle.sftp_tasks.specs.Calls.{AnswersSeat, BeginsWith, ReleasesSeat, with_receipt};
+ghost use Rattle.sftp_tasks.specs.Entries.{by_cancel, by_let_go, by_nothing, by_submit};
 ghost use Rattle.sftp_tasks.specs.LockedEvents.{CancelsLaneCall, GivingUp, OfLane, SubmitsLaneCall};
-ghost use Rattle.sftp_tasks.specs.Opening.{GreetStops, SendsHelloOnce, by_opening};
 ghost use Rattle.sftp_tasks.specs.Rounds.{HoldsOnce};
 ghost use Rattle.sftp_tasks.specs.Shows.{shown_of};
 
 use crate::copies::copies_of;
-use crate::events::{CancelCall, GiveUp, Poll, Release, Submit};
+use crate::events::{CancelCall, GiveUp, Release, Submit};
 use crate::locked::Locked;
-use crate::opening::{send_hello, take_version};
-use crate::polls::Polled;
-use crate::workers::Shift;
 use session_model::{Call, Lane};
-use session_seats::{Origin, Shared};
-use sftp_link::{LinkIn, LinkOut};
+use session_seats::{Counts, Origin, Shared};
+use sftp_lanes::Session;
 use sftp_model::{Error, SftpOptions};
 use sftp_values::Items;
 use ssh_encoding::OutOfMemory;
 use std::alloc::Global;
 use std::sync::Wait;
-use std::time::{Clock, Duration};
+use std::time::Duration;
 
 /// A seat at the shared session.
 pub type Seat = session_seats::Seat<Locked>;
@@ -41,6 +37,30 @@ pub struct SharedSftp {
     pub(crate) shared: Shared<Locked>,
     // The longest time that a request may stay unsent; zero sets no limit.
     pub(crate) flush_interval: Duration,
+}
+
+impl Locked {
+    /// Returns a session of these lanes with its hello in the queue, with one user and no lane's seat.
+    ///
+    /// # Errors
+    ///
+    /// `OutOfMemory` if an allocation fails.
+    pub fn new(alloc: Global, lanes: &[Lane], options: &SftpOptions) -> Result<Locked, OutOfMemory>
+        requires { are_ok lanes.now ≡ true }
+        ensures { IfOk result (λ locked. shown_of locked ≡ at_first (inputs_of lanes.now options.now)) }
+    {
+        Ok(Locked {
+            session: Session::new(alloc, lanes, options)?,
+            counts: Counts {
+                handed: 0,
+                written: 0,
+                taken: 0,
+                stage: 0,
+            },
+            users: 1,
+            seated: 0,
+        })
+    }
 }
 
 impl SharedSftp {
@@ -170,106 +190,6 @@ impl SharedSftp {
         ensures gives_up { HoldsOnce (λ y z more. GivingUp y z) seat.old.inner.me seat.new.inner.me }
     {
         let _ = seat.apply(rt, self.alloc, &self.shared, GiveUp);
-    }
-
-    /// Sends the hello over the one half of the link, and takes VERSION from the other, if nobody has handed the hello
-    /// out. Returns true exactly if this call did both. Returns false if the hello was handed out before; nothing is
-    /// sent or read then.
-    ///
-    /// # Errors
-    ///
-    /// Those of a round: the session records the fault, or is given up if an allocation failed.
-    pub fn greet<O: LinkOut, I: LinkIn, R: Wait>(
-        &self,
-        rt: &R,
-        seat: &mut Seat,
-        out: &mut O,
-        input: &mut I,
-    ) -> Result<bool, Error>
-        requires own { seat.old.inner.table_id ≡ self.now.shared.table.shared.table_id }
-        requires counts { ((O.LinkState.state out.old).faults < 2 ^ 64 - 1) × ((I.LinkState.state input.old).faults < 2 ^ 64 - 1) }
-        ensures own { (seat.new.inner.table_id ≡ seat.old.inner.table_id) × (seat.new.lane ≡ seat.old.lane)
-            × OnOk result ((claim_of seat.old.inner.me).share ≤ (claim_of seat.new.inner.me).share) }
-        ensures only { AddsEntries (by_opening seat.old.lane) (claim_of seat.old.inner.me) (claim_of seat.new.inner.me) }
-        ensures greets { IfOk result (λ did. SendsHelloOnce did seat.old.inner.me seat.new.inner.me
-            (O.LinkState.state out.old) (O.LinkState.state out.new) (I.LinkState.state input.old) (I.LinkState.state input.new)) }
-        ensures stops { IfErr result (λ e. GreetStops e seat.old.inner.me seat.new.inner.me
-            (O.LinkState.state out.old) (O.LinkState.state out.new) (I.LinkState.state input.old) (I.LinkState.state input.new)) }
-    {
-        // No `?`: it converts the error, and `stops` is about the error itself.
-        match send_hello(rt, self, seat, out) {
-            Ok(true) => {}
-            Ok(false) => return Ok(false),
-            Err(e) => return Err(e),
-        }
-        match take_version(rt, self, seat, input) {
-            Ok(()) => Ok(true),
-            Err(e) => Err(e),
-        }
-    }
-
-    /// Steps the seat's lane until all of its calls have ended, and returns how many it has. Meanwhile it waits for
-    /// VERSION and for replies. Returns 0 if the seat names no lane.
-    ///
-    /// # Errors
-    ///
-    /// `BackgroundTaskFailure` once the session has recorded a fault, and `OutOfMemory` if an allocation fails.
-    pub fn poll_wait<R: Wait>(&self, rt: &R, seat: &mut Seat) -> Result<u64, Error>
-        requires own { seat.old.inner.table_id ≡ self.now.shared.table.shared.table_id }
-        ensures own { (seat.new.inner.table_id ≡ seat.old.inner.table_id) × (seat.new.lane ≡ seat.old.lane)
-            × ((claim_of seat.new.inner.me).share ≡ (claim_of seat.old.inner.me).share) }
-        ensures only { AddsEntries (by_step seat.old.lane) (claim_of seat.old.inner.me) (claim_of seat.new.inner.me) }
-        ensures polls { PollsUntil seat.old.lane result seat.old.inner.me seat.new.inner.me }
-        ensures ended { IfOk result (λ calls. SeesEnded seat.old.lane calls (sight_by seat.new.inner.me)) }
-    {
-        for _ in rt.forever() {
-            let seen = self.shared.changes(rt);
-            // No `?`: it converts the error, and `polls` is by cases on the result.
-            let polled = match self.poll(rt, seat) {
-                Ok(polled) => polled,
-                Err(e) => return Err(e),
-            };
-            if polled.is_ended() {
-                return Ok(polled.calls());
-            }
-            self.pause(rt, polled, seen);
-        }
-        unreachable!()
-    }
-
-    /// Polls the seat's lane once.
-    fn poll<R: Wait>(&self, rt: &R, seat: &mut Seat) -> Result<Polled, Error>
-        requires own { seat.old.inner.table_id ≡ self.now.shared.table.shared.table_id }
-        ensures own { (seat.new.inner.table_id ≡ seat.old.inner.table_id) × (seat.new.lane ≡ seat.old.lane)
-            × ((claim_of seat.new.inner.me).share ≡ (claim_of seat.old.inner.me).share) }
-        ensures only { AddsEntries (by_step seat.old.lane) (claim_of seat.old.inner.me) (claim_of seat.new.inner.me) }
-        ensures polls { InOneHold (PollsSeat seat.old.lane) result seat.old.inner.me seat.new.inner.me }
-    {
-        let (did, copied) = seat.apply(rt, self.alloc, &self.shared, Poll);
-        settle(did, copied)
-    }
-
-    /// Waits for a change if the poll found nothing to do.
-    fn pause<R: Wait>(&self, rt: &R, polled: Polled, seen: u64) {
-        if let Polled::Waits = polled {
-            self.shared.wait(rt, seen);
-        }
-    }
-
-    /// Waits for a change after a shift without work.
-    pub(crate) fn rest<R: Wait>(&self, rt: &R, shift: Shift, seen: u64) {
-        if let Shift::Idle = shift {
-            self.shared.wait(rt, seen);
-        }
-    }
-
-    /// Waits for a change after a shift without work, at most for the flush interval, if there is one.
-    pub(crate) fn rest_briefly<R: Wait + Clock>(&self, rt: &R, shift: Shift, seen: u64) {
-        if self.flush_interval.is_zero() {
-            self.rest(rt, shift, seen);
-        } else if let Shift::Idle = shift {
-            self.shared.wait_for(rt, seen, self.flush_interval);
-        }
     }
 }
 

@@ -184,3 +184,21 @@ pub fn read_worker<I: LinkIn, R: Wait>(
     }
     unreachable!()
 }
+
+impl SharedSftp {
+    /// Waits for a change after a shift without work.
+    fn rest<R: Wait>(&self, rt: &R, shift: Shift, seen: u64) {
+        if let Shift::Idle = shift {
+            self.shared.wait(rt, seen);
+        }
+    }
+
+    /// Waits for a change after a shift without work, at most for the flush interval, if there is one.
+    fn rest_briefly<R: Wait + Clock>(&self, rt: &R, shift: Shift, seen: u64) {
+        if self.flush_interval.is_zero() {
+            self.rest(rt, shift, seen);
+        } else if let Shift::Idle = shift {
+            self.shared.wait_for(rt, seen, self.flush_interval);
+        }
+    }
+}
