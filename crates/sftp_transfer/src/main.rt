@@ -4,6 +4,7 @@
 mod batch;
 mod compared;
 mod comparison;
+mod connection;
 mod copy;
 mod courier;
 mod ended;

@@ -1,15 +1,14 @@
 //! The environment of the program as it is run.
 ghost use Rattle.std.specs.Prelude.{◌<◌, ◌-◌, ◌^◌};
 
+use crate::connection::{set_stdio_blocking, stdio_link, tcp_link, unix_link};
 use crate::ended::{Reach, Text};
 use crate::run::Outside;
 use crate::texts::written;
 use crate::work::{can_begin, over};
-use sftp_link::{Duplex, ReadSource, StreamLink, WriteSink};
+use sftp_link::{Duplex, ReadSource, WriteSink};
 use std::env;
 use std::io::{self, ErrorKind};
-use std::net::TcpStream;
-use std::os::unix::net::UnixStream;
 use transfer_args::{Asked, LinkAt, Misfit, Work, misfit_of};
 
 /// The files, the streams and the network of the system. It does not record what is done with it.
@@ -37,6 +36,26 @@ fn has_other_bytes(rt: &HostRuntime) -> bool {
     match env::args(rt) {
         Ok(_) => false,
         Err(error) => error.kind() != ErrorKind::OutOfMemory,
+    }
+}
+
+/// Does the work over standard input and output. They block at the end, as they did before.
+fn over_stdio(rt: &HostRuntime, work: Work<'_>) -> Reach {
+    match stdio_link(rt) {
+        Ok(link) => {
+            let reach = over(rt, link, work);
+            set_stdio_blocking(rt);
+            reach
+        }
+        // A file never waits, and the system does not report when it is ready.
+        Err(why) if why.kind() == ErrorKind::PermissionDenied => {
+            let source = ReadSource::new(rt.stdin());
+            over(rt, Duplex::new(source, WriteSink::new(rt.stdout())), work)
+        }
+        Err(why) => {
+            set_stdio_blocking(rt);
+            no_link(rt, "stdio", why)
+        }
     }
 }
 
@@ -70,21 +89,15 @@ impl<'a> Outside for Terminal<'a> {
 
     fn go(&mut self, asked: &Asked<'_>) -> Reach {
         match asked.link {
-            LinkAt::Unix(path) => match UnixStream::connect(self.rt, path) {
-                Ok(stream) => over(self.rt, StreamLink::new(stream), asked.work),
+            LinkAt::Unix(path) => match unix_link(self.rt, path) {
+                Ok(link) => over(self.rt, link, asked.work),
                 Err(why) => no_link(self.rt, path, why),
             },
-            LinkAt::Tcp(address) => match TcpStream::connect(self.rt, address) {
-                Ok(stream) => over(self.rt, StreamLink::new(stream), asked.work),
+            LinkAt::Tcp(address) => match tcp_link(self.rt, address) {
+                Ok(link) => over(self.rt, link, asked.work),
                 Err(why) => no_link(self.rt, address, why),
             },
-            LinkAt::Stdio => {
-                let link = Duplex::new(
-                    ReadSource::new(self.rt.stdin()),
-                    WriteSink::new(self.rt.stdout()),
-                );
-                over(self.rt, link, asked.work)
-            }
+            LinkAt::Stdio => over_stdio(self.rt, asked.work),
         }
     }
 }

@@ -9,7 +9,6 @@ use crate::listing::list;
 use crate::local_side::{is_folder, make_local_folder};
 use crate::transfer_error::{TransferError, is_starved, tell, tell_of};
 use crate::verdicts::Verdicts;
-use link_buffered::BufferedLink;
 use sftp_client::Sftp;
 use sftp_link::Link;
 use sftp_model::SftpOptions;
@@ -74,11 +73,10 @@ fn folder_of(path: &str) -> &str {
     }
 }
 
-/// Does the requested work over a link, which is read ahead and dropped at the end, and returns the result.
+/// Does the requested work over a link, which is dropped at the end, and returns the result.
 pub(crate) fn over<L: Link + Drop>(rt: &HostRuntime, link: L, work: Work<'_>) -> Reach
     requires { (L.LinkState.state link).faults < 2 ^ 64 - 1 }
 {
-    let link = BufferedLink::new(rt.alloc(), link);
     match Sftp::new(rt.alloc(), link, &SftpOptions::new()) {
         Ok(sftp) => match work {
             Work::Copy(transfer) => {
