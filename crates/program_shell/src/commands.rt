@@ -78,7 +78,7 @@ fn command_of<'a>(commands: &[Command<'a>], word: &str) -> Option<Command<'a>>
 
 /// Returns the reason why arguments are not the operands of a command.
 fn operands_misfit<'a>(command: Command<'a>, words: &'a [String]) -> Option<Misfit<'a>>
-    ensures { option_map misfit_seen result ≡ operands_misfit (command_seen command) (map operand_seen command.operands.now) (map string_bytes words.now) }
+    ensures { option_map misfit_seen result ≡ operands_misfit (command_seen command.entry) (map operand_seen command.entry.operands.now) (map string_bytes words.now) }
 {
     let mut operands = command.operands;
     let mut rest = words;
