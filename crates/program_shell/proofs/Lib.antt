@@ -5,3 +5,4 @@ pub mod Exits
 pub mod Completing
 pub mod Causing
 pub mod Stopping
+mod Misfits
