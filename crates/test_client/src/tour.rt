@@ -3,7 +3,7 @@ ghost use Rattle.std.specs.Prelude.{IsSome};
 ghost use Rattle.sftp_core.specs.Info.{info_of};
 
 use crate::server::{Session, is_open, open_session, server};
-use crate::{files, names, paths, streams};
+use crate::{names, paths, served_files, streams};
 use sftp_client::{Core, Ended, Error, SftpOptions};
 use sftp_map_server::MapServer;
 use std::alloc::Global;
@@ -37,14 +37,16 @@ fn file_step(alloc: Global, sftp: &mut Session, step: Step, ended: Ended) -> Res
     requires { IsSome (info_of sftp.old.core.phase) }
 {
     match step {
-        Step::Put(path, content) => Ok(files::put(sftp, path, content, ended).is_ok()),
+        Step::Put(path, content) => Ok(served_files::put(sftp, path, content, ended).is_ok()),
         Step::Write(path, content) => Ok(paths::write(alloc, sftp, path, content).is_ok()),
         Step::Uploads(path, content) => streams::uploads(sftp, path, content, ended),
-        Step::BeginsWith(path, content) => files::begins_with(alloc, sftp, path, content, ended),
+        Step::BeginsWith(path, content) => served_files::begins_with(
+            alloc, sftp, path, content, ended,
+        ),
         Step::Holds(path, content) => paths::holds(alloc, sftp, path, content),
         Step::Downloads(path, content) => streams::downloads(alloc, sftp, path, content, ended),
-        Step::HasLen(path, len) => files::has_len(sftp, path, len, ended),
-        Step::Copy(from, to) => Ok(files::copy(sftp, from, to, ended).is_ok()),
+        Step::HasLen(path, len) => served_files::has_len(sftp, path, len, ended),
+        Step::Copy(from, to) => Ok(served_files::copy(sftp, from, to, ended).is_ok()),
         other => name_step(alloc, sftp, other),
     }
 }
