@@ -36,31 +36,43 @@ fn input_message(words: &[String]) -> &'static str {
 
 /// Reports why the arguments or the script are refused.
 pub(crate) fn tell_refused(rt: &HostRuntime, words: &[String]) {
+    let none: [Operand; 0] = [];
     let path = [Operand {
         name: "PATH",
         range: None,
     }];
     let numbers = NUMBERS;
+    tell_by_operands(rt, words, &none, &path, &numbers);
+}
+
+/// Reports the same, by the operands of the commands.
+fn tell_by_operands<'a>(
+    rt: &HostRuntime,
+    words: &[String],
+    none: &'a [Operand],
+    path: &'a [Operand],
+    numbers: &'a [Operand],
+) {
     let commands = [
         Command {
             word: "script",
-            operands: &[],
+            operands: none,
         },
         Command {
             word: "unix",
-            operands: &path,
+            operands: path,
         },
         Command {
             word: "bulk",
-            operands: &numbers,
+            operands: numbers,
         },
         Command {
             word: "--help",
-            operands: &[],
+            operands: none,
         },
         Command {
             word: "--version",
-            operands: &[],
+            operands: none,
         },
     ];
     tell_refusal(rt, "sftp_cli", &commands, words, input_message(words));

@@ -41,23 +41,36 @@ fn tell_refused(rt: &HostRuntime, words: &[String]) {
         name: "ROUNDS",
         range: Some((0, 4096)),
     };
-    let (copy, unix) = ([width, rounds], [path, width, rounds]);
+    let none: [Operand; 0] = [];
+    let copy = [width, rounds];
+    let unix = [path, width, rounds];
+    tell_by_operands(rt, words, &none, &copy, &unix);
+}
+
+/// Reports the same, by the operands of the commands.
+fn tell_by_operands<'a>(
+    rt: &HostRuntime,
+    words: &[String],
+    none: &'a [Operand],
+    copy: &'a [Operand],
+    unix: &'a [Operand],
+) {
     let commands = [
         Command {
             word: "copy",
-            operands: &copy,
+            operands: copy,
         },
         Command {
             word: "unix",
-            operands: &unix,
+            operands: unix,
         },
         Command {
             word: "--help",
-            operands: &[],
+            operands: none,
         },
         Command {
             word: "--version",
-            operands: &[],
+            operands: none,
         },
     ];
     tell_refusal(rt, "sftp_mirror", &commands, words, LIST);

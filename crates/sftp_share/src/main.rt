@@ -20,7 +20,7 @@ pub use laws::{a_difference_is_told, runs_are_complete, statuses_have_causes};
 pub use machine_answers::Machine;
 use machine_halves::MapPair;
 pub use outcome::Replay;
-use program_shell::{Command, tell_refusal};
+use program_shell::{Command, Operand, tell_refusal};
 pub use replay_laws::replays_serve;
 pub use script_grammar::Script;
 pub use session_model::Event;
@@ -39,16 +39,16 @@ const REFUSED: u8 = 2;
 /// The message if there are no arguments and the script is refused.
 const SCRIPT: &str = "the script on standard input is invalid; standard output names its line";
 
-/// Reports why the arguments are refused.
-fn tell_refused(rt: &HostRuntime, words: &[String]) {
+/// Reports why the arguments are refused. The commands have no operands.
+fn tell_refused<'a>(rt: &HostRuntime, words: &[String], none: &'a [Operand]) {
     let commands = [
         Command {
             word: "--help",
-            operands: &[],
+            operands: none,
         },
         Command {
             word: "--version",
-            operands: &[],
+            operands: none,
         },
     ];
     tell_refusal(
@@ -64,7 +64,8 @@ fn tell_refused(rt: &HostRuntime, words: &[String]) {
 /// fails too, the message is lost.
 fn exit_with(rt: &HostRuntime, words: &[String], unreadable: bool, status: u8) -> ExitCode {
     if status == REFUSED && (unreadable || !words.is_empty()) {
-        tell_refused(rt, words);
+        let none: [Operand; 0] = [];
+        tell_refused(rt, words, &none);
     } else if status == REFUSED {
         let _ = eprintln!(rt; "sftp_share: {SCRIPT}");
     } else if let Some(cause) = ending::cause_of(status) {

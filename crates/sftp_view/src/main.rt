@@ -40,18 +40,29 @@ fn tell_refused(rt: &HostRuntime, words: &[String]) {
             range: Some((1, 4096)),
         },
     ];
+    let none: [Operand; 0] = [];
+    tell_by_operands(rt, words, &none, &size);
+}
+
+/// Reports the same, by the operands of the commands.
+fn tell_by_operands<'a>(
+    rt: &HostRuntime,
+    words: &[String],
+    none: &'a [Operand],
+    size: &'a [Operand],
+) {
     let commands = [
         Command {
             word: "view",
-            operands: &size,
+            operands: size,
         },
         Command {
             word: "--help",
-            operands: &[],
+            operands: none,
         },
         Command {
             word: "--version",
-            operands: &[],
+            operands: none,
         },
     ];
     tell_refusal(rt, "sftp_view", &commands, words, LIST);
