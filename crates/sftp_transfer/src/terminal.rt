@@ -1,11 +1,12 @@
 //! The environment of the program as it is run.
 ghost use Rattle.std.specs.Prelude.{◌<◌, ◌-◌, ◌^◌};
 
-use crate::connection::{set_stdio_blocking, stdio_link, tcp_link, unix_link};
+use crate::connection::{tcp_link, unix_link};
 use crate::ended::{Reach, Text};
 use crate::run::Outside;
 use crate::texts::written;
 use crate::work::{can_begin, over};
+use link_buffered::BufferedLink;
 use sftp_link::{Duplex, ReadSource, WriteSink};
 use std::env;
 use std::io::{self, ErrorKind};
@@ -36,26 +37,6 @@ fn has_other_bytes(rt: &HostRuntime) -> bool {
     match env::args(rt) {
         Ok(_) => false,
         Err(error) => error.kind() != ErrorKind::OutOfMemory,
-    }
-}
-
-/// Does the work over standard input and output. They block at the end, as they did before.
-fn over_stdio(rt: &HostRuntime, work: Work<'_>) -> Reach {
-    match stdio_link(rt) {
-        Ok(link) => {
-            let reach = over(rt, link, work);
-            set_stdio_blocking(rt);
-            reach
-        }
-        // A file never waits, and the system does not report when it is ready.
-        Err(why) if why.kind() == ErrorKind::PermissionDenied => {
-            let source = ReadSource::new(rt.stdin());
-            over(rt, Duplex::new(source, WriteSink::new(rt.stdout())), work)
-        }
-        Err(why) => {
-            set_stdio_blocking(rt);
-            no_link(rt, "stdio", why)
-        }
     }
 }
 
@@ -97,7 +78,15 @@ impl<'a> Outside for Terminal<'a> {
                 Ok(link) => over(self.rt, link, asked.work),
                 Err(why) => no_link(self.rt, address, why),
             },
-            LinkAt::Stdio => over_stdio(self.rt, asked.work),
+            LinkAt::Stdio => {
+                let source = ReadSource::new(self.rt.stdin());
+                let link = Duplex::new(source, WriteSink::new(self.rt.stdout()));
+                over(
+                    self.rt,
+                    BufferedLink::new(self.rt.alloc(), link),
+                    asked.work,
+                )
+            }
         }
     }
 }
