@@ -108,13 +108,13 @@ module _ {S : Type 0} where
   }
 
   -- a block that was read, where none was kept
-  fetched_block : (block : ℕ) (cache mid : CacheValue) (path : List ℕ) (key : BlockKey) {a b : RunState S}
+  block_was_fetched : (block : ℕ) (cache mid : CacheValue) (path : List ℕ) (key : BlockKey) {a b : RunState S}
       {found : Found}
       → key ≡ key_of (components path) key.block → FindsBlock key None cache mid
       → DoesBySession (fetched_block block path key.block) pure a b (Ok found)
       → DoesBySession (block_of block cache path key) (λ (f : Found). pure (missed_by cache.capacity key cache.kept f))
       a b (Ok found)
-  fetched_block block cache mid path key {a = a} {b = b} {found = found} of finds run =
+  block_was_fetched block cache mid path key {a = a} {b = b} {found = found} of finds run =
       subst (λ (o : Option (List ℕ)). DoesBySession (block_by block cache.capacity path key.block cache.kept o)
       (λ (f : Found). pure (missed_by cache.capacity key cache.kept f)) a b (Ok found))
       finds.value
@@ -134,7 +134,7 @@ module _ {S : Type 0} where
       let same : new ≡ cache_of cache.capacity (missed_by cache.capacity key cache.kept found).kept =
       is ∙ ap (λ (c : CacheValue). cache_of c.capacity (missed_by c.capacity key c.kept found).kept) finds.after in
       record {
-        runs = gives found (fetched_block block cache mid path key of finds run)
+        runs = gives found (block_was_fetched block cache mid path key of finds run)
             (ap (λ (g : Gathered). pure g) (missed_as cache.capacity key cache.kept found
             ∙ (λ i. record { found = found; kept = ap (λ (c : CacheValue). c.kept) (sym same) i })));
         stays = record {
