@@ -1,6 +1,6 @@
 -- What a core keeps over a hand-out and a frame that comes.
 use Rattle.std.proofs.Common.{◌≡◌, ◌∙◌, ◌+◌, ◌<◌, true, false, arith, ap, subst, sym, Option, None, Some, Result, Ok, Err, IfOk, IfErr, OnOk, IsSome}
-use Rattle.sftp_core.specs.Core.{Core, IsGrant, record_at, handed_out, core_after_release, core_after_retain, users_of}
+use Rattle.sftp_core.specs.Core.{Core, IsGrant, record_at, failed_with, handed_out, core_after_release, core_after_retain, users_of}
 use Rattle.sftp_core.specs.Grant.{GrantValue}
 use Rattle.sftp_core.specs.declared.id_record.IdRecord.{IdRecord}
 use Rattle.sftp_core.specs.declared.id_record.IdRecord.TheVariants.{Granted}
@@ -8,6 +8,7 @@ use Rattle.sftp_core.specs.Info.{info_of}
 use Rattle.sftp_core.specs.Take.{IsTakeError, Read, TakenFrom, take_refusal}
 use Rattle.sftp_core.specs.declared.errors.TakeError.{TakeError}
 use Rattle.sftp_core.specs.declared.tokens.Taken.{Taken}
+use Rattle.sftp_model.specs.declared.error.Fault.{Fault}
 use Rattle.sftp_model.specs.declared.frame_error.FrameError.{FrameError}
 use Rattle.plan_state.specs.Keeping.{KeepsHeld, KeepsGrants}
 use Rattle.bytes.specs.Filled.{Filled}
@@ -18,6 +19,7 @@ use Rattle.sftp_file.specs.Files.{FileValue, file_at}
 use Rattle.sftp_file.specs.Gathers.{ReadAllValue, ReadsAll, reading_all}
 use Rattle.sftp_file.specs.declared.whole_reads.ReadAllError.{ReadAllError}
 use Rattle.sftp_file.proofs.GatherLaws.{reads_held}
+use Rattle.sftp_file.specs.Writes.{WriteAllValue, writing_all}
 use Rattle.sftp_fs.specs.WholeWrites.{IsWriteHeld}
 use Rattle.sftp_fs.specs.declared.fs_write.Writing.{Writing}
 use Rattle.sftp_fs.proofs.OpenedWrites.{write_still}
@@ -25,7 +27,7 @@ use Rattle.sftp_fs_read.specs.WholeReads.{IsReadHeld}
 use Rattle.sftp_fs_read.specs.declared.fs_read.Whole.{Whole}
 use Rattle.sftp_fs_read.proofs.ReadEnds.{read_still}
 use Rattle.sftp_file.proofs.Granting.{released_grant, retained_users}
-use Rattle.plan_state.proofs.Keeping.{keeps_handed_out, keeps_refused, keeps_taken}
+use Rattle.plan_state.proofs.Keeping.{keeps_failed, keeps_handed_out, keeps_refused, keeps_same, keeps_taken}
 use Rattle.plan_state.proofs.OthersKept.{grant_kept, still_under_way}
 
 pub handed : (old new : Core) → new ≡ handed_out old → KeepsHeld old new
@@ -64,6 +66,10 @@ pub bytes_stay : (old new : Core) (call : CallValue ReadAllValue) → KeepsHeld 
     → IsHeld reading_all old call → IsHeld reading_all new call
 bytes_stay old new call k on h = (still_under_way reading_all old new call k (record { over = on; held = h })).held
 
+pub writes_stay : (old new : Core) (call : CallValue WriteAllValue) → KeepsHeld old new → is_ended call.stage ≡ false
+    → IsHeld writing_all old call → IsHeld writing_all new call
+writes_stay old new call k on h = (still_under_way writing_all old new call k (record { over = on; held = h })).held
+
 pub bytes_held : (old new : Core) (p q : CallValue ReadAllValue) (before after : FileValue)
     (result : Poll (Result Filled ReadAllError))
     → ReadsAll old new p q before after result → IsHeld reading_all new q × (q.runner.file ≡ file_at after)
@@ -72,3 +78,11 @@ bytes_held old new p q before after result h = reads_held old new p q before aft
 pub copy_stays : (old new : Core) (call : CallValue CopyValue) → KeepsHeld old new → is_ended call.stage ≡ false
     → IsHeld copy_meaning old call → IsHeld copy_meaning new call
 copy_stays old new call k on h = (still_under_way copy_meaning old new call k (record { over = on; held = h })).held
+
+-- ---- what comes to a core
+
+pub nothing_came : (core : Core) → KeepsHeld core core
+nothing_came core = keeps_same core
+
+pub fault_came : (old new : Core) (fault : Fault) → new ≡ failed_with old fault → KeepsHeld old new
+fault_came old new fault is = subst (λ (x : Core). KeepsHeld old x) (sym is) (keeps_failed old fault)

@@ -74,7 +74,7 @@ fn a_source_and_a_sink_in_memory(rt: HostRuntime) -> Result<(), Fail> {
     Ok(())
 }
 
-// Tests that a link over a source and a sink sends to the one and fills from the other.
+// Tests that a link over a source and a sink sends to the one and fills from the other, and ends when the source does.
 #[test]
 fn a_source_and_a_sink_are_a_link(rt: HostRuntime) -> Result<(), Fail> {
     let alloc = rt.alloc();
@@ -83,6 +83,9 @@ fn a_source_and_a_sink_are_a_link(rt: HostRuntime) -> Result<(), Fail> {
     let sink = MemorySink::new(alloc, Vec::new(alloc));
     let mut link = Duplex::new(source, sink);
     assert_eq!(rt; ask(&mut link), Ok((true, reply)));
+    let none = MemorySource::new(Vec::new(alloc), Vec::new(alloc));
+    let mut ended = Duplex::new(none, MemorySink::new(alloc, Vec::new(alloc)));
+    assert_eq!(rt; recv_exact(&mut ended, &mut [0]), Ok(false));
     Ok(())
 }
 

@@ -1,4 +1,5 @@
-//! Tests of calls on paths and directories over a scripted core: what each sends, and its result for a reply. Frames have the layout of draft-ietf-secsh-filexfer-02, sections 3, 6 and 7, and OpenSSH's PROTOCOL,
+//! Tests of calls on paths and directories over a scripted core: what each sends, and its result for a reply, a refusal
+//! and a fault. Frames have the layout of draft-ietf-secsh-filexfer-02, sections 3, 6 and 7, and OpenSSH's PROTOCOL,
 //! section 4.
 ghost use Rattle.std.specs.Prelude.{◌≡◌, true, false, IsSome};
 ghost use Rattle.sftp_core.specs.Info.{info_of};
@@ -17,7 +18,7 @@ use plan_state::{Alone, PendingCall};
 use sftp_core::Core;
 use sftp_file::Poll;
 use sftp_fs::Fs;
-use sftp_model::{Error, Fault, IoKind, RemotePath, SftpOptions};
+use sftp_model::{Error, Fault, FormatKind, IoKind, RemotePath, SftpOptions};
 use std::alloc::Global;
 use std::process::Abort;
 use std::test::Fail;
@@ -28,8 +29,10 @@ pub(crate) const PLAIN: &[u8] = b"\x02\0\0\0\x03";
 const OFFERS: &[u8] =
     b"\x02\0\0\0\x03\0\0\0\x18posix-rename@openssh.com\0\0\0\x011\0\0\0\x14hardlink@openssh.com\0\0\0\x011\0\0\0\x17expand-path@openssh.com\0\0\0\x011";
 
-/// The body of a STATUS of 0 to the request 0.
+/// Bodies of a STATUS of 0 and of 4 to the request 0.
 pub(crate) const DONE: &[u8] = b"\x65\0\0\0\0\0\0\0\0\0\0\0\0\0\0\0\0";
+
+pub(crate) const REFUSED: &[u8] = b"\x65\0\0\0\0\0\0\0\x04\0\0\0\0\0\0\0\0";
 
 /// The result of a poll, or of a start.
 #[derive(Clone, Copy, Debug, PartialEq, Eq)]

@@ -1,6 +1,6 @@
-//! Tests of calls on a file over a scripted core: what each sends, its result for a reply, and the file's offset then
-//! (draft-ietf-secsh-filexfer-02, sections 6.3 to 6.5 and 6.8). The file has the handle `h`, whose OPEN has the id 0, so
-//! that each request has the id 1.
+//! Tests of calls on a file over a scripted core: what each sends, its result for a reply, a refusal and a fault, and
+//! the file's offset then (draft-ietf-secsh-filexfer-02, sections 6.3 to 6.5 and 6.8). The file has the handle `h`,
+//! whose OPEN has the id 0, so that each request has the id 1, or 2 if 1 is given up.
 ghost use Rattle.std.specs.Prelude.{◌≡◌, false, IfOk, IsSome};
 ghost use Rattle.sftp_core.specs.Info.{info_of};
 ghost use Rattle.plan_state.specs.Asked.{IsReady};
@@ -11,6 +11,7 @@ ghost use Rattle.sftp_file.specs.Settles.{settle_meaning};
 
 mod copies;
 mod read_all;
+mod write_all;
 
 use crate::buffered::opened;
 use crate::paths::{Seen, answer, error_seen, greeted, may_ask, poll_seen, sends, takes};
@@ -19,7 +20,7 @@ use plan_state::PendingCall;
 use sftp_core::Core;
 use sftp_file::{File, OnFile, Poll, PollFile, StatusCall};
 use sftp_meta::{MetaDataBuilder, Permissions};
-use sftp_model::Error;
+use sftp_model::{Error, Fault, FormatKind};
 use std::alloc::Global;
 use std::process::Abort;
 use std::test::Fail;
@@ -27,10 +28,17 @@ use std::test::Fail;
 /// A VERSION that offers `fsync@openssh.com`.
 const OFFERS_FSYNC: &[u8] = b"\x02\0\0\0\x03\0\0\0\x11fsync@openssh.com\0\0\0\x011";
 
-/// Bodies of replies to the request 1: a STATUS of 0, and a DATA of three bytes.
+/// Bodies of replies to the request 1: a STATUS of 0, of 4 and of 1, and a DATA of three bytes.
 const DONE: &[u8] = b"\x65\0\0\0\x01\0\0\0\0\0\0\0\0\0\0\0\0";
 
+const REFUSED: &[u8] = b"\x65\0\0\0\x01\0\0\0\x04\0\0\0\0\0\0\0\0";
+
+const END: &[u8] = b"\x65\0\0\0\x01\0\0\0\x01\0\0\0\0\0\0\0\0";
+
 const DATA: &[u8] = b"\x67\0\0\0\x01\0\0\0\x03abc";
+
+/// A body that is no reply, which is recorded as a fault.
+const BROKEN: &[u8] = b"\x65\0\0\0\x01";
 
 /// A call that moves the file.
 #[derive(Clone, Copy)]
@@ -42,7 +50,7 @@ enum Transfer {
     ZeroCopy(&'static [u8], &'static [u8]),
 }
 
-/// A call, its request, the reply, the result of the poll, and the file's offset then.
+/// A call, its request, the reply, which may be missing, the result of the poll, and the file's offset then.
 #[derive(Drop)]
 struct Row {
     call: Transfer,
@@ -149,6 +157,7 @@ fn first_unmet_of(alloc: Global, rows: &[Row]) -> Result<usize, Fail> {
 #[test]
 fn reads_and_writes(rt: HostRuntime) -> Result<(), Fail> {
     assert_eq!(rt; first_unmet_of(rt.alloc(), &ROWS)?, ROWS.len());
+    assert_eq!(rt; first_unmet_of(rt.alloc(), &UNANSWERED)?, UNANSWERED.len());
     Ok(())
 }
 
@@ -165,20 +174,22 @@ fn start_setting(file: &mut File, core: &mut Core, number: u8) -> Result<StatusC
     }
 }
 
-/// Returns the result of such a call for a STATUS of 0, if this is its request.
-fn set(rt: &impl Abort, file: &mut File, core: &mut Core, row: (u8, &[u8])) -> Seen {
+/// Returns the result of such a call for a reply, if this is its request.
+fn set(rt: &impl Abort, file: &mut File, core: &mut Core, row: (u8, &[u8]), reply: &[u8]) -> Seen {
     assert!(rt; may_ask(core));
     match start_setting(file, core, row.0) {
-        Ok(call) => poll_seen(&answer(rt, core, call, row.1, DONE)),
+        Ok(call) => poll_seen(&answer(rt, core, call, row.1, reply)),
         Err(e) => error_seen(&e),
     }
 }
 
-/// Returns the number of the first row that is not met, or of them all.
+/// Returns the number of the first row that is not met, done or refused, or of them all.
 fn first_unset(rt: &impl Abort, file: &mut File, core: &mut Core) -> usize {
     let mut met = 0;
     for row in SETTINGS {
-        if set(rt, file, core, row) != Seen::Given {
+        if set(rt, file, core, row, DONE) != Seen::Given
+            || set(rt, file, core, row, REFUSED) != Seen::Status(4)
+        {
             return met;
         }
         met = met.saturating_add(1);
@@ -217,7 +228,47 @@ const SETTINGS: [(u8, &[u8]); 4] = [
     ),
 ];
 
-const ROWS: [Row; 4] = [
+/// Writes that have no status, and calls after the fault.
+const UNANSWERED: [Row; 5] = [
+    Row {
+        call: Transfer::Write(b"xy"),
+        sends: b"\0\0\0\x18\x06\0\0\0\x01\0\0\0\x01h\0\0\0\0\0\0\0\0\0\0\0\x02xy",
+        reply: b"",
+        gives: Seen::Pending,
+        stands: 0,
+    },
+    Row {
+        call: Transfer::Vectored(b"x", b"y"),
+        sends: b"\0\0\0\x18\x06\0\0\0\x02\0\0\0\x01h\0\0\0\0\0\0\0\0\0\0\0\x02xy",
+        reply: BROKEN,
+        gives: Seen::Failed(Fault::Format(FormatKind::Length)),
+        stands: 0,
+    },
+    Row {
+        call: Transfer::ZeroCopy(b"x", b"y"),
+        sends: b"",
+        reply: b"",
+        gives: Seen::Failed(Fault::Format(FormatKind::Length)),
+        stands: 0,
+    },
+    Row {
+        call: Transfer::Read(1),
+        sends: b"",
+        reply: b"",
+        gives: Seen::Failed(Fault::Format(FormatKind::Length)),
+        stands: 0,
+    },
+    // A call for no bytes asks for nothing, with any recorded fault.
+    Row {
+        call: Transfer::Read(0),
+        sends: b"",
+        reply: b"",
+        gives: Seen::Given,
+        stands: 0,
+    },
+];
+
+const ROWS: [Row; 9] = [
     // The offset moves by the bytes that came, and not by those that were asked for.
     Row {
         call: Transfer::Read(5),
@@ -245,6 +296,45 @@ const ROWS: [Row; 4] = [
         sends: b"\0\0\0\x17\x06\0\0\0\x01\0\0\0\x01h\0\0\0\0\0\0\0\x07\0\0\0\x01z",
         reply: DONE,
         gives: Seen::Given,
+        stands: 8,
+    },
+    // A refusal, and the end of the file, leave the offset unchanged.
+    Row {
+        call: Transfer::Write(b"xy"),
+        sends: b"\0\0\0\x18\x06\0\0\0\x01\0\0\0\x01h\0\0\0\0\0\0\0\x08\0\0\0\x02xy",
+        reply: REFUSED,
+        gives: Seen::Status(4),
+        stands: 8,
+    },
+    Row {
+        call: Transfer::Read(1),
+        sends: b"\0\0\0\x16\x05\0\0\0\x01\0\0\0\x01h\0\0\0\0\0\0\0\x08\0\0\0\x01",
+        reply: END,
+        gives: Seen::Given,
+        stands: 8,
+    },
+    // Nothing is asked for no bytes.
+    Row {
+        call: Transfer::Write(b""),
+        sends: b"",
+        reply: b"",
+        gives: Seen::Given,
+        stands: 8,
+    },
+    // A read is given up before its reply.
+    Row {
+        call: Transfer::Read(1),
+        sends: b"\0\0\0\x16\x05\0\0\0\x01\0\0\0\x01h\0\0\0\0\0\0\0\x08\0\0\0\x01",
+        reply: b"",
+        gives: Seen::Pending,
+        stands: 8,
+    },
+    // A broken frame is recorded as the fault, and reported.
+    Row {
+        call: Transfer::Read(1),
+        sends: b"\0\0\0\x16\x05\0\0\0\x02\0\0\0\x01h\0\0\0\0\0\0\0\x08\0\0\0\x01",
+        reply: BROKEN,
+        gives: Seen::Failed(Fault::Format(FormatKind::Length)),
         stands: 8,
     },
 ];

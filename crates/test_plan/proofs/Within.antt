@@ -67,6 +67,10 @@ pub still_within : (bytes : List ℕ) (facts : Facts) (old new : Site) (n : Next
     → KeepsRunningSound bytes facts old new n → AreWithin facts old → AreWithin facts new
 still_within bytes facts old new n sound within = sound.0.limit within
 
+pub still_sixteen : (bytes : List ℕ) (facts : Facts) (old new : Site) (n : Next)
+    → KeepsRunningSound bytes facts old new n → length old.slots ≡ 16 → length new.slots ≡ 16
+still_sixteen bytes facts old new n sound count = sound.0.count ∙ count
+
 -- a call that isn't a whole read
 other_call : (r : Running) → ((place bound : ℕ) → r ≡ running.OpeningToRead place bound → ⊥)
     → ((grant bound : ℕ) (w : Window) → r ≡ running.ReadingWhole grant bound w → ⊥) → reads_whole r ≡ false

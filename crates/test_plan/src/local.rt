@@ -59,8 +59,11 @@ fn unbuffers(alloc: Global) -> Result<bool, Fail> {
 
 #[test]
 fn locals(rt: HostRuntime) -> Result<(), Fail> {
-    let alloc = rt.alloc();
-    assert!(rt; seeks(alloc)? && clones(alloc)? && enters(alloc)?);
-    assert!(rt; buffers(alloc)? && seeks_buffered(alloc)? && unbuffers(alloc)?);
+    assert!(rt; seeks(rt.alloc())?);
+    assert!(rt; clones(rt.alloc())?);
+    assert!(rt; enters(rt.alloc())?);
+    assert!(rt; buffers(rt.alloc())?);
+    assert!(rt; seeks_buffered(rt.alloc())?);
+    assert!(rt; unbuffers(rt.alloc())?);
     Ok(())
 }

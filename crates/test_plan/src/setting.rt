@@ -8,6 +8,7 @@ ghost use Rattle.plan_runner.specs.Runners.{after};
 ghost use Rattle.plan_runner.specs.Sound.{AreWithin, AsksWithin, IsSound, IsRunningSound};
 
 use crate::tell::{Row, Told, does, fits, reply_of};
+use crate::whole_reads::is_within;
 use bitflags::Flags;
 use plan_runner::site::set_slot;
 use plan_runner::{Next, Running, go_on};
@@ -115,8 +116,33 @@ pub(crate) fn go(
     }
 }
 
+/// Continues a call that asks this row without a reply; the next request has the place.
+pub(crate) fn go_at_once(
+    alloc: Global,
+    next: Next,
+    row: Row,
+    bytes: &[u8],
+    place: u64,
+    site: &mut Site,
+    facts: &Facts,
+) -> Result<Next, Fail>
+    requires sound { IsSound bytes.now site.old facts.now next }
+    requires within { AreWithin facts.now site.old }
+    ensures sound { IfOk result (IsSound bytes.now site.new facts.now) }
+    ensures within { IfOk result (λ n. AreWithin facts.now site.new) }
+{
+    if !does(&next, row) {
+        return Err(Fail::new(row.word));
+    }
+    match next {
+        Next::Ask(_asked, running) => resume_at_once(alloc, running, bytes, place, site, facts),
+        Next::Wait(_running) => Err(Fail::new("the call waits")),
+        Next::Done(_outcome) => Err(Fail::new("the call has ended")),
+    }
+}
+
 /// Returns true if a call is not a whole read: its next request is then within the range.
-fn is_other(running: &Running) -> bool
+pub(crate) fn is_other(running: &Running) -> bool
     ensures { result ≡ true → (bytes : List ℕ) (site : SiteValue) (facts : FactsValue) (reply : Option ReplyValue)
         → AsksWithin facts (after running.now bytes site facts reply) }
 {
@@ -124,6 +150,30 @@ fn is_other(running: &Running) -> bool
         Running::OpeningToRead { .. } => false,
         Running::ReadingWhole { .. } => false,
         _ => true,
+    }
+}
+
+/// Continues a call without a reply.
+#[tactic(auto, using(crate::proofs::Within::still_within))]
+fn resume_at_once(
+    alloc: Global,
+    running: Running,
+    bytes: &[u8],
+    place: u64,
+    site: &mut Site,
+    facts: &Facts,
+) -> Result<Next, Fail>
+    requires sound { IsRunningSound running bytes.now site.old facts.now }
+    requires within { AreWithin facts.now site.old }
+    ensures sound { IfOk result (IsSound bytes.now site.new facts.now) }
+    ensures within { IfOk result (λ n. AreWithin facts.now site.new) }
+{
+    if !is_other(&running) {
+        return Err(Fail::new("a whole read"));
+    }
+    match go_on(alloc, running, None, bytes, place, site, facts) {
+        Ok(next) => Ok(next),
+        Err(_) => Err(Fail::new("no memory to go on")),
     }
 }
 
@@ -149,8 +199,8 @@ fn resume(
     if !fits(&running, &reply) {
         return Err(Fail::new("more bytes than were asked"));
     }
-    if !is_other(&running) {
-        return Err(Fail::new("a whole read"));
+    if !is_within(&running, &reply, facts) {
+        return Err(Fail::new("a whole read that the tests don't know"));
     }
     match go_on(alloc, running, Some(reply), bytes, place, site, facts) {
         Ok(next) => Ok(next),

@@ -1,6 +1,6 @@
 //! Tests of whole calls, reply by reply.
 ghost use Rattle.std.specs.Prelude.{◌≡◌, [], length, IfOk};
-ghost use Rattle.plan_runner.specs.Sound.{IsSound};
+ghost use Rattle.plan_runner.specs.Sound.{AreWithin, IsSound};
 
 use crate::setting::{a_site, facts, go, offset_in};
 use crate::tell::{Row, Told, does, end, named, on_file, write};
@@ -12,6 +12,8 @@ use std::test::Fail;
 const TEXT: &[u8] = b"abcdef";
 
 const OK: Told<'static> = Told::Status(0);
+
+const HANDLE: Told<'static> = Told::Handle;
 
 /// Starts a call of the path `a`, or of the paths `a` and `/b`.
 fn of_paths(alloc: Global, call: &str, site: &Site, facts: &Facts) -> Result<Next, OutOfMemory>
@@ -125,6 +127,7 @@ fn paths(rt: HostRuntime) -> Result<(), Fail> {
 fn files(rt: HostRuntime) -> Result<(), Fail> {
     let alloc = rt.alloc();
     let (done, meta) = (end("Done", 0), end("Meta", 7));
+    let refused = end("Refused", 2);
     let open = named("OPEN", "a", "").with(1, 0, 0);
     let read = on_file("READ", 0, 0, 4);
     let ab = named("Bytes", "ab", "");
@@ -132,7 +135,9 @@ fn files(rt: HostRuntime) -> Result<(), Fail> {
     let perm = on_file("FSETSTAT", 0, 0, 0o644);
     let rows = [
         ("open", open, Told::Handle, end("Opened", 0), 0),
+        ("open", open, Told::Status(2), refused, 0),
         ("read", read, Told::Content(b"ab"), ab, 2),
+        ("read", read, Told::Status(1), end("End", 0), 0),
         ("set_len", len, OK, done, 0),
         ("set_perm", perm, OK, done, 0),
         ("meta", end("FSTAT", 0), Told::Attrs(7), meta, 0),
@@ -164,50 +169,96 @@ fn of_bytes(
     }
 }
 
-/// Returns true if a write of all bytes begins with a WRITE of as many as one may carry.
-fn bytes_begin(alloc: Global, call: &str) -> Result<bool, Fail> {
+/// Makes the two WRITEs of `abcdef` to the file of a grant; this code answers the second.
+fn write_twice(
+    alloc: Global,
+    begun: Next,
+    grant: u64,
+    code: u32,
+    bytes: &[u8],
+    site: &mut Site,
+    facts: &Facts,
+) -> Result<Next, Fail>
+    requires sound { IsSound bytes.now site.old facts.now begun }
+    requires within { AreWithin facts.now site.old }
+{
+    let first = write(grant, 0, "abcd");
+    let second = go(alloc, begun, first, OK, bytes, 3, site, facts)?;
+    let (rest, told) = (write(grant, 4, "ef"), Told::Status(code));
+    go(alloc, second, rest, told, bytes, 4, site, facts)
+}
+
+/// Returns true if a write of all bytes ends with this row, and leaves the file at this offset.
+fn bytes_end(alloc: Global, call: &str, code: u32, last: Row, offset: u64) -> Result<bool, Fail> {
     let facts = facts();
-    let site = a_site(alloc, &facts)?;
+    let mut site = a_site(alloc, &facts)?;
     let begun = of_bytes(alloc, call, TEXT, &site, &facts)?;
-    Ok(does(&begun, write(0, 0, "abcd")))
+    let ended = write_twice(alloc, begun, 0, code, TEXT, &mut site, &facts)?;
+    Ok(does(&ended, last) && offset_in(&site, 0) == Some(offset))
 }
 
 /// Checks one WRITE.
 fn writes(alloc: Global) -> Result<bool, Fail> {
     let facts = facts();
-    let site = a_site(alloc, &facts)?;
+    let mut site = a_site(alloc, &facts)?;
     let begun = begin_write(alloc, 0, TEXT, 1, &site, &facts)?;
-    Ok(does(&begun, write(0, 0, "abcd")))
+    let asked = write(0, 0, "abcd");
+    let ended = go(alloc, begun, asked, OK, TEXT, 2, &mut site, &facts)?;
+    Ok(does(&ended, end("Count", 4)) && offset_in(&site, 0) == Some(4))
 }
 
-/// Checks an OPEN that creates or truncates `/w/a`.
+/// Checks an OPEN that creates or truncates `/w/a`, and two WRITEs under its grant; slot 0 is unchanged.
 fn replaces(alloc: Global) -> Result<bool, Fail> {
     let facts = facts();
-    let site = a_site(alloc, &facts)?;
+    let mut site = a_site(alloc, &facts)?;
     let begun = begin_fs_write(alloc, b"a", TEXT, 1, &site, &facts)?;
-    Ok(does(&begun, named("OPEN", "/w/a", "").with(2 + 8 + 16, 0, 0)))
-}
-
-/// Checks a READ of as many bytes as one may ask for.
-fn reads_all(alloc: Global) -> Result<bool, Fail> {
-    let facts = facts();
-    let site = a_site(alloc, &facts)?;
-    let begun = begin_read_all(alloc, 0, 6, 1, &site, &facts);
-    Ok(does(&begun, on_file("READ", 0, 0, 4)))
-}
-
-/// Checks an OPENDIR.
-fn lists(alloc: Global) -> Result<bool, Fail> {
-    let facts = facts();
-    let site = a_site(alloc, &facts)?;
-    let begun = begin_list(alloc, b"a", 9, 1, &site, &facts)?;
-    Ok(does(&begun, named("OPENDIR", "/w/a", "")))
+    let asked = named("OPEN", "/w/a", "").with(2 + 8 + 16, 0, 0);
+    let opened = go(alloc, begun, asked, HANDLE, TEXT, 2, &mut site, &facts)?;
+    let ended = write_twice(alloc, opened, 1, 0, TEXT, &mut site, &facts)?;
+    Ok(does(&ended, end("Done", 0)) && offset_in(&site, 0) == Some(0))
 }
 
 #[test]
-fn first_requests(rt: HostRuntime) -> Result<(), Fail> {
+fn writings(rt: HostRuntime) -> Result<(), Fail> {
     let alloc = rt.alloc();
-    assert!(rt; writes(alloc)? && replaces(alloc)? && reads_all(alloc)? && lists(alloc)?);
-    assert!(rt; bytes_begin(alloc, "write_all")? && bytes_begin(alloc, "write_parts")?);
+    assert!(rt; writes(alloc)?);
+    assert!(rt; replaces(alloc)?);
+    assert!(rt; bytes_end(alloc, "write_all", 0, end("Done", 0), 6)?);
+    assert!(rt; bytes_end(alloc, "write_all", 4, end("Refused", 4), 4)?);
+    assert!(rt; bytes_end(alloc, "write_parts", 0, end("Done", 0), 6)?);
+    Ok(())
+}
+
+/// Checks two DATA of 3 bytes.
+fn reads_all(alloc: Global) -> Result<bool, Fail> {
+    let facts = facts();
+    let mut site = a_site(alloc, &facts)?;
+    let begun = begin_read_all(alloc, 0, 6, 1, &site, &facts);
+    let (all, abc) = (on_file("READ", 0, 0, 4), Told::Content(b"abc"));
+    let second = go(alloc, begun, all, abc, b"", 2, &mut site, &facts)?;
+    let (rest, def) = (on_file("READ", 0, 3, 3), Told::Content(b"def"));
+    let ended = go(alloc, second, rest, def, b"", 3, &mut site, &facts)?;
+    Ok(does(&ended, named("Bytes", "abcdef", "")) && offset_in(&site, 0) == Some(6))
+}
+
+/// Checks an OPENDIR, and READDIRs under its grant until STATUS 1.
+fn lists(alloc: Global) -> Result<bool, Fail> {
+    let facts = facts();
+    let mut site = a_site(alloc, &facts)?;
+    let begun = begin_list(alloc, b"a", 9, 1, &site, &facts)?;
+    let asked = named("OPENDIR", "/w/a", "");
+    let opened = go(alloc, begun, asked, HANDLE, b"", 2, &mut site, &facts)?;
+    let (further, x) = (end("READDIR", 1), Told::Name(b"x"));
+    let second = go(alloc, opened, further, x, b"", 3, &mut site, &facts)?;
+    let over = Told::Status(1);
+    let ended = go(alloc, second, further, over, b"", 4, &mut site, &facts)?;
+    Ok(does(&ended, named("Names", "x", "")))
+}
+
+#[test]
+fn others(rt: HostRuntime) -> Result<(), Fail> {
+    let alloc = rt.alloc();
+    assert!(rt; reads_all(alloc)?);
+    assert!(rt; lists(alloc)?);
     Ok(())
 }

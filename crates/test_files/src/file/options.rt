@@ -37,3 +37,20 @@ fn flags(rt: HostRuntime) {
         assert_eq!(rt; options(letters).flags().bits(), bits, "at {letters}");
     }
 }
+
+#[test]
+fn setters(rt: HostRuntime) {
+    let mut options = OpenOptions::default();
+    options
+        .read(true)
+        .write(true)
+        .append(true)
+        .truncate(true)
+        .create(true)
+        .create_new(true);
+    assert_eq!(rt; options.flags().bits(), 1 + 2 + 4 + 8 + 32);
+    options.create_new(false).append(false).read(false);
+    assert_eq!(rt; options.flags().bits(), 2 + 8 + 16);
+    options.write(false).create(false).truncate(false);
+    assert_eq!(rt; options, OpenOptions::new());
+}

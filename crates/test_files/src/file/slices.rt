@@ -36,7 +36,16 @@ fn first_bytes(rt: HostRuntime) -> Result<(), Fail> {
     for row in ROWS {
         assert!(rt; both_cut(alloc, &pieces, row));
     }
+    let empty = [Bytes::new()];
+    let none = take_io_slices(alloc, &empty, 1)?;
+    assert!(rt; none.is_none());
     Ok(())
 }
 
-const ROWS: [Row; 2] = [(3, 3, 2, b"c"), (9, 4, 3, b"")];
+const ROWS: [Row; 5] = [
+    (1, 1, 0, b"a"),
+    (2, 2, 2, b""),
+    (3, 3, 2, b"c"),
+    (4, 4, 3, b""),
+    (9, 4, 3, b""),
+];

@@ -1,7 +1,11 @@
 //! Tests of links, sources and sinks over a stream of which one call fails.
-use sftp_link::{DeviceError, LinkIn, LinkOut, ReadSource, Sink, Source, StreamLink, WriteSink};
+use sftp_link::{
+    DeviceError, LinkIn, LinkOut, ReadSource, Sink, Source, StreamLink, WriteSink, read_up_to,
+    recv_exact, send_all, write_all,
+};
 use std::io;
 use std::io::{Read, Write};
+use std::test::Fail;
 
 // A stream of which the call with this number fails. It gives sevens without end, takes at most two bytes at a write,
 // and knows how many of them were flushed.
@@ -110,12 +114,44 @@ fn written(fails: u32) -> ([Result<usize, DeviceError>; 2], usize, usize) {
 // Tests that each write is flushed, and that a flush that fails is an error of its write.
 #[test]
 fn each_write_is_flushed(rt: HostRuntime) {
-    for (fails, answers, taken, flushed) in [
-        (9, [Ok(2), Ok(1)], 3, 3),
-        (0, [FAILED, Ok(1)], 1, 1),
-        (1, [FAILED, Ok(1)], 3, 3),
-        (3, [Ok(2), FAILED], 3, 2),
+    assert_eq!(rt; written(9), ([Ok(2), Ok(1)], 3, 3));
+    assert_eq!(rt; written(0), ([FAILED, Ok(1)], 1, 1));
+    assert_eq!(rt; written(1), ([FAILED, Ok(1)], 3, 3));
+    assert_eq!(rt; written(2), ([Ok(2), FAILED], 2, 2));
+    assert_eq!(rt; written(3), ([Ok(2), FAILED], 3, 2));
+    assert_eq!(rt; WriteSink::new(Faulty::new(9)).write(&[]), Ok(0));
+}
+
+#[test]
+fn large_rooms_are_read_into(rt: HostRuntime) -> Result<(), Fail> {
+    let mut source = ReadSource::new(Faulty::new(3));
+    assert_eq!(rt; source.read(&mut [0; 4096]), Ok(4096));
+    let bytes = read_up_to(rt.alloc(), &mut source, 5000)?;
+    assert!(rt; bytes.len() == 5000 && bytes.iter().all(|byte| *byte == 7));
+    assert!(rt; read_up_to(rt.alloc(), &mut source, 5000).is_err());
+    Ok(())
+}
+
+// Returns whether five bytes were sent, received and written whole, each over a stream of its own.
+fn whole(fails: u32) -> (bool, bool, bool) {
+    let mut link = StreamLink::new(Faulty::new(fails));
+    let sent = send_all(&mut link, &[1, 2, 3, 4, 5]).is_ok();
+    let mut link = StreamLink::new(Faulty::new(fails));
+    let received = recv_exact(&mut link, &mut [0; 5]) == Ok(true);
+    let mut sink = WriteSink::new(Faulty::new(fails));
+    let written = write_all(&mut sink, &[1, 2, 3, 4, 5]).is_ok();
+    (sent, received, written)
+}
+
+#[test]
+fn a_fault_within_the_bytes_is_answered(rt: HostRuntime) {
+    for (fails, want) in [
+        (0, (false, false, false)),
+        (2, (false, true, false)),
+        (3, (true, true, false)),
+        (5, (true, true, false)),
+        (6, (true, true, true)),
     ] {
-        assert_eq!(rt; written(fails), (answers, taken, flushed));
+        assert_eq!(rt; whole(fails), want);
     }
 }

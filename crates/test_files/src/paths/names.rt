@@ -41,11 +41,18 @@ fn start(fs: &Fs, alloc: Global, core: &mut Core, number: u8) -> Result<StatusCa
     }
 }
 
-/// Returns the result of a call for a STATUS of 0, if this is its request.
-fn told(rt: &impl Abort, fs: &Fs, alloc: Global, core: &mut Core, row: (u8, &[u8])) -> Seen {
+/// Returns the result of a call for a reply, if this is its request.
+fn told(
+    rt: &impl Abort,
+    fs: &Fs,
+    alloc: Global,
+    core: &mut Core,
+    row: (u8, &[u8]),
+    reply: &[u8],
+) -> Seen {
     assert!(rt; may_ask(core));
     match start(fs, alloc, core, row.0) {
-        Ok(call) => poll_seen(&answer(rt, core, call, row.1, DONE)),
+        Ok(call) => poll_seen(&answer(rt, core, call, row.1, reply)),
         Err(e) => error_seen(&e),
     }
 }
@@ -57,9 +64,15 @@ fn calls_that_a_status_ends(rt: HostRuntime) -> Result<(), Fail> {
     let fs = from_x(alloc)?;
     for row in rows {
         assert_eq!(rt;
-            told(&rt, &fs, alloc, &mut core, row),
+            told(&rt, &fs, alloc, &mut core, row, DONE),
             Seen::Given,
             "done at {}",
+            row.0
+        );
+        assert_eq!(rt;
+            told(&rt, &fs, alloc, &mut core, row, REFUSED),
+            Seen::Status(4),
+            "refused at {}",
             row.0
         );
     }
@@ -177,5 +190,79 @@ fn paths_with_extensions(rt: HostRuntime) -> Result<(), Fail> {
     let call = fs.start_canonicalize(alloc, &mut core, b"~");
     let frame = b"\0\0\0\x25\xc8\0\0\0\0\0\0\0\x17expand-path@openssh.com\0\0\0\x01~";
     assert!(rt; names_y(&rt, &mut core, call, frame));
+    Ok(())
+}
+
+/// Returns the error that refuses the start of this call, if any; a call that was started is given up.
+fn refused(rt: &impl Abort, fs: &Fs, alloc: Global, core: &mut Core, number: u8) -> Option<Seen> {
+    assert!(rt; may_ask(core));
+    match start(fs, alloc, core, number) {
+        Ok(call) => {
+            call.cancel(core);
+            None
+        }
+        Err(e) => Some(error_seen(&e)),
+    }
+}
+
+#[test]
+fn starts_that_are_refused(rt: HostRuntime) -> Result<(), Fail> {
+    let alloc = rt.alloc();
+    let mut core = greeted(alloc, PLAIN)?;
+    let mut long = Vec::from_slice(alloc, b"/x")?;
+    long.resize(1048575, b'x')?;
+    let (near, far) = (from_x(alloc)?, Fs::new(RemotePath::new(long)));
+    assert_eq!(rt;
+        refused(&rt, &near, alloc, &mut core, 5),
+        Some(Seen::Unsupported)
+    );
+    for number in [0, 2, 3, 4, 6, 7, 8] {
+        assert_eq!(rt;
+            refused(&rt, &far, alloc, &mut core, number),
+            Some(Seen::TooLong),
+            "at {number}"
+        );
+    }
+    assert_eq!(rt; core.queued(), 0);
+    core.fail(Fault::Link);
+    for number in [0, 1, 2, 3, 4, 6, 7, 8] {
+        let failed = Some(Seen::Failed(Fault::Link));
+        assert_eq!(rt;
+            refused(&rt, &near, alloc, &mut core, number),
+            failed,
+            "failed at {number}"
+        );
+    }
+    assert_eq!(rt; core.queued(), 0);
+    Ok(())
+}
+
+/// Returns the result of a poll without a reply, and then after a fault.
+fn unanswered(core: &mut Core, call: StatusCall) -> (Seen, Seen)
+    requires { IsUnderWay settle_meaning core.old call }
+{
+    let mut call = call;
+    let before = poll_seen(&call.poll(core));
+    core.fail(Fault::Ended);
+    if call.is_ended() {
+        call.cancel(core);
+        return (before, Seen::Other);
+    }
+    let behind = poll_seen(&call.poll(core));
+    call.cancel(core);
+    (before, behind)
+}
+
+#[test]
+fn calls_without_a_reply(rt: HostRuntime) -> Result<(), Fail> {
+    let alloc = rt.alloc();
+    let mut core = greeted(alloc, PLAIN)?;
+    let fs = from_x(alloc)?;
+    assert!(rt; may_ask(&core));
+    let Ok(call) = start(&fs, alloc, &mut core, 0) else {
+        return Err("not started")?;
+    };
+    let want = (Seen::Pending, Seen::Failed(Fault::Ended));
+    assert_eq!(rt; unanswered(&mut core, call), want);
     Ok(())
 }

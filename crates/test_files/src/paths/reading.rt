@@ -1,4 +1,4 @@
-//! Tests of whole reads by a window of READs.
+//! Tests of whole reads by a window of READs; each case is also cancelled after each of its steps.
 ghost use Rattle.std.specs.Prelude.{IfOk};
 ghost use Rattle.sftp_fs_read.specs.WholeReads.{IsReadHeld};
 
@@ -17,6 +17,8 @@ enum Step {
     Sends(&'static [u8]),
     /// A body that is taken.
     Takes(&'static [u8]),
+    /// A body that is not taken.
+    Breaks(&'static [u8]),
 }
 
 /// A name, how many READs may be under way, and the steps.
@@ -59,6 +61,7 @@ fn went(core: &mut Core, call: &mut FsReadCall, step: Step) -> bool
         Step::Reads(bytes) => polled(core, call, bytes) == Seen::Given,
         Step::Sends(frame) => may_ask(core) && sends(core, frame),
         Step::Takes(body) => may_ask(core) && takes(core, body),
+        Step::Breaks(body) => may_ask(core) && !takes(core, body),
     }
 }
 
@@ -111,8 +114,31 @@ fn plays(alloc: Global, name: &'static str, window: u32, steps: &[Step]) -> Resu
 fn whole_reads(rt: HostRuntime) -> Result<(), Fail> {
     for case in CASES {
         let (name, window, steps) = *case;
+        for until in 0..steps.len() {
+            plays(rt.alloc(), name, window, &steps[..until])?;
+        }
         plays(rt.alloc(), name, window, steps)?;
     }
+    Ok(())
+}
+
+#[test]
+fn the_file_is_closed(rt: HostRuntime) -> Result<(), Fail> {
+    let (mut core, mut call) = started(rt.alloc(), 1)?;
+    let met = steps_met(&mut core, &mut call, OPENED);
+    call.cancel(&mut core);
+    assert_eq!(rt; met, OPENED.len());
+    assert!(rt; may_ask(&core));
+    assert!(rt; sends(&mut core, CLOSED));
+    Ok(())
+}
+
+#[test]
+fn a_read_is_let_go(rt: HostRuntime) -> Result<(), Fail> {
+    let (mut core, mut call) = started(rt.alloc(), 1)?;
+    let met = steps_met(&mut core, &mut call, BROKEN);
+    call.let_go(core.end());
+    assert_eq!(rt; met, BROKEN.len());
     Ok(())
 }
 
@@ -120,6 +146,10 @@ fn whole_reads(rt: HostRuntime) -> Result<(), Fail> {
 const OPEN: Step = Step::Sends(b"\0\0\0\x15\x03\0\0\0\0\0\0\0\x04/x/a\0\0\0\x01\0\0\0\0");
 
 const HANDLE: Step = Step::Takes(b"\x66\0\0\0\0\0\0\0\x01h");
+
+/// The READ of four bytes at 0, and the CLOSE.
+const CLOSED: &[u8] =
+    b"\0\0\0\x16\x05\0\0\0\x01\0\0\0\x01h\0\0\0\0\0\0\0\0\0\0\0\x04\0\0\0\x0a\x04\0\0\0\0\0\0\0\x01h";
 
 const CLOSE: Step = Step::Sends(b"\0\0\0\x0a\x04\0\0\0\0\0\0\0\x01h");
 
@@ -130,12 +160,27 @@ const AT_THREE: Step = Step::Sends(
     b"\0\0\0\x16\x05\0\0\0\x01\0\0\0\x01h\0\0\0\0\0\0\0\x03\0\0\0\x04",
 );
 
-/// DATA of three bytes, and EOF, to the id 1.
+/// DATA of three bytes, EOF and a refusal to the id 1.
 const ABC: Step = Step::Takes(b"\x67\0\0\0\x01\0\0\0\x03abc");
 
 const END: Step = Step::Takes(b"\x65\0\0\0\x01\0\0\0\x01\0\0\0\0\0\0\0\0");
 
+const NO: Step = Step::Takes(b"\x65\0\0\0\x01\0\0\0\x04\0\0\0\0\0\0\0\0");
+
 const WAITS: Step = Step::Polls(Seen::Pending);
+
+/// The file is open, and the first READ asked for.
+const OPENED: &[Step] = &[WAITS, OPEN, WAITS, HANDLE, WAITS];
+
+/// A broken reply to the first READ.
+const BROKEN: &[Step] = &[
+    OPEN,
+    HANDLE,
+    WAITS,
+    FIRST,
+    Step::Breaks(b"\x65\0\0\0\x01"),
+    Step::Polls(Seen::Failed(Fault::Format(FormatKind::Length))),
+];
 
 const CASES: &[Case] = &[
     (
@@ -158,6 +203,35 @@ const CASES: &[Case] = &[
             CLOSE,
         ],
     ),
+    (
+        "an empty file",
+        1,
+        &[OPEN, HANDLE, WAITS, FIRST, END, Step::Reads(b""), CLOSE],
+    ),
+    (
+        "a refused READ",
+        1,
+        &[
+            OPEN,
+            HANDLE,
+            WAITS,
+            FIRST,
+            NO,
+            Step::Polls(Seen::Status(4)),
+            CLOSE,
+        ],
+    ),
+    (
+        "a refused OPEN",
+        1,
+        &[
+            OPEN,
+            Step::Takes(REFUSED),
+            Step::Polls(Seen::Status(4)),
+            Step::Sends(b""),
+        ],
+    ),
+    ("a broken reply", 1, BROKEN),
     (
         "two READs at once, and a gap behind the first",
         2,

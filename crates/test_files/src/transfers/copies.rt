@@ -1,4 +1,4 @@
-//! Tests of copies from one file to another.
+//! Tests of copies from one file to another; each case is also given up after each of its steps.
 ghost use Rattle.std.specs.Prelude.{◌≡◌};
 ghost use Rattle.plan_state.specs.Calls.{IsHeld};
 ghost use Rattle.sftp_file.specs.Copies.{copy_meaning};
@@ -8,6 +8,7 @@ use crate::buffered::{opened, opened_as};
 use crate::paths::{Seen, greeted, may_ask, poll_seen, sends, takes};
 use sftp_core::Core;
 use sftp_file::{CopyCall, File, PollCopy};
+use sftp_model::{Fault, FormatKind};
 use std::alloc::Global;
 use std::test::Fail;
 
@@ -20,6 +21,8 @@ enum Step {
     Sends(&'static [u8]),
     /// A body that is taken.
     Takes(&'static [u8]),
+    /// A body that is not taken.
+    Breaks(&'static [u8]),
 }
 
 /// A name, how many bytes are copied, 0 for all, and the steps.
@@ -53,6 +56,7 @@ fn exchanged(core: &mut Core, call: &CopyCall, step: Step) -> bool
         Step::Polls(_, _, _) => false,
         Step::Sends(frame) => sends(core, frame),
         Step::Takes(body) => takes(core, body),
+        Step::Breaks(body) => !takes(core, body),
     }
 }
 
@@ -146,6 +150,9 @@ fn plays(alloc: Global, name: &'static str, n: u64, steps: &[Step]) -> Result<()
 fn copies(rt: HostRuntime) -> Result<(), Fail> {
     for case in CASES {
         let (name, n, steps) = *case;
+        for until in 0..steps.len() {
+            plays(rt.alloc(), name, n, &steps[..until])?;
+        }
         plays(rt.alloc(), name, n, steps)?;
     }
     Ok(())
@@ -166,8 +173,10 @@ const ALL: Step = Step::Sends(
     b"\0\0\0\x34\xc8\0\0\0\x02\0\0\0\x09copy-data\0\0\0\x01h\0\0\0\0\0\0\0\0\0\0\0\0\0\0\0\0\0\0\0\x01g\0\0\0\0\0\0\0\0",
 );
 
-/// STATUS of 0 to the id 2.
+/// STATUS of 0 and of 4 to the id 2.
 const DONE: Step = Step::Takes(b"\x65\0\0\0\x02\0\0\0\0\0\0\0\0\0\0\0\0");
+
+const NO: Step = Step::Takes(b"\x65\0\0\0\x02\0\0\0\x04\0\0\0\0\0\0\0\0");
 
 const WAITS: Step = Step::Polls(Seen::Pending, 0, 0);
 
@@ -181,5 +190,19 @@ const CASES: &[Case] = &[
         "all bytes",
         0,
         &[WAITS, ALL, WAITS, DONE, Step::Polls(Seen::Given, 0, 0)],
+    ),
+    (
+        "refused",
+        5,
+        &[FIVE, NO, Step::Polls(Seen::Status(4), 0, 0)],
+    ),
+    (
+        "a broken reply",
+        5,
+        &[
+            FIVE,
+            Step::Breaks(b"\x65\0\0\0\x02"),
+            Step::Polls(Seen::Failed(Fault::Format(FormatKind::Length)), 0, 0),
+        ],
     ),
 ];

@@ -1,4 +1,4 @@
-//! Tests of reads of `n` bytes.
+//! Tests of reads of `n` bytes, one READ after another; each case is also given up after each of its steps.
 ghost use Rattle.std.specs.Prelude.{◌≡◌, IfOk};
 ghost use Rattle.plan_state.specs.Calls.{IsHeld};
 ghost use Rattle.sftp_file.specs.Files.{file_at};
@@ -9,6 +9,7 @@ use crate::paths::{Seen, error_seen, may_ask, sends, takes};
 use bytes::BytesMut;
 use sftp_core::Core;
 use sftp_file::{File, Poll, PollReadAll, ReadAllCall, ReadAllError};
+use sftp_model::{Fault, FormatKind, IoKind};
 use std::alloc::Global;
 use std::test::Fail;
 
@@ -21,6 +22,8 @@ enum Step {
     Sends(&'static [u8]),
     /// A body that is taken.
     Takes(&'static [u8]),
+    /// A body that is not taken.
+    Breaks(&'static [u8]),
 }
 
 /// A name, how many bytes are read, and the steps.
@@ -63,6 +66,7 @@ fn exchanged(core: &mut Core, call: &ReadAllCall, step: Step) -> bool
         Step::Polls(_, _, _) => false,
         Step::Sends(frame) => sends(core, frame),
         Step::Takes(body) => takes(core, body),
+        Step::Breaks(body) => !takes(core, body),
     }
 }
 
@@ -129,40 +133,112 @@ fn plays(alloc: Global, name: &'static str, n: usize, steps: &[Step]) -> Result<
 fn so_many_bytes(rt: HostRuntime) -> Result<(), Fail> {
     for case in CASES {
         let (name, n, steps) = *case;
+        for until in 0..steps.len() {
+            plays(rt.alloc(), name, n, &steps[..until])?;
+        }
         plays(rt.alloc(), name, n, steps)?;
     }
     Ok(())
 }
 
-/// READs with the id 1: of four bytes at 0, and of two at 4.
+/// READs with the id 1: of four bytes at 0, of three at 3 and of two at 4.
 const FIRST: Step = Step::Sends(b"\0\0\0\x16\x05\0\0\0\x01\0\0\0\x01h\0\0\0\0\0\0\0\0\0\0\0\x04");
+
+const THREE_AT_THREE: Step = Step::Sends(
+    b"\0\0\0\x16\x05\0\0\0\x01\0\0\0\x01h\0\0\0\0\0\0\0\x03\0\0\0\x03",
+);
 
 const TWO_AT_FOUR: Step = Step::Sends(
     b"\0\0\0\x16\x05\0\0\0\x01\0\0\0\x01h\0\0\0\0\0\0\0\x04\0\0\0\x02",
 );
 
-/// DATA to the id 1.
+/// DATA, EOF and a refusal to the id 1.
+const ABC: Step = Step::Takes(b"\x67\0\0\0\x01\0\0\0\x03abc");
+
 const ABCD: Step = Step::Takes(b"\x67\0\0\0\x01\0\0\0\x04abcd");
+
+const DEF: Step = Step::Takes(b"\x67\0\0\0\x01\0\0\0\x03def");
 
 const EF: Step = Step::Takes(b"\x67\0\0\0\x01\0\0\0\x02ef");
 
-/// No answer yet, and the file is at 0 or 4.
+const END: Step = Step::Takes(b"\x65\0\0\0\x01\0\0\0\x01\0\0\0\0\0\0\0\0");
+
+const NO: Step = Step::Takes(b"\x65\0\0\0\x01\0\0\0\x04\0\0\0\0\0\0\0\0");
+
+/// No answer yet, and the file is at 0, 3 or 4.
 const WAITS: Step = Step::Polls(Seen::Pending, b"", 0);
+
+const WAITS_AT_THREE: Step = Step::Polls(Seen::Pending, b"", 3);
 
 const WAITS_AT_FOUR: Step = Step::Polls(Seen::Pending, b"", 4);
 
-const CASES: &[Case] = &[(
-    "six bytes by two READs",
-    6,
-    &[
-        WAITS,
-        FIRST,
-        WAITS,
-        ABCD,
-        WAITS_AT_FOUR,
-        TWO_AT_FOUR,
-        WAITS_AT_FOUR,
-        EF,
-        Step::Polls(Seen::Given, b"<abcdef", 6),
-    ],
-)];
+const CASES: &[Case] = &[
+    (
+        "six bytes by two READs",
+        6,
+        &[
+            WAITS,
+            FIRST,
+            WAITS,
+            ABCD,
+            WAITS_AT_FOUR,
+            TWO_AT_FOUR,
+            WAITS_AT_FOUR,
+            EF,
+            Step::Polls(Seen::Given, b"<abcdef", 6),
+        ],
+    ),
+    (
+        "a short READ is not the end",
+        6,
+        &[
+            FIRST,
+            ABC,
+            WAITS_AT_THREE,
+            THREE_AT_THREE,
+            DEF,
+            Step::Polls(Seen::Given, b"<abcdef", 6),
+        ],
+    ),
+    (
+        "no bytes",
+        0,
+        &[Step::Sends(b""), Step::Polls(Seen::Given, b"<", 0)],
+    ),
+    (
+        "the file ends before",
+        6,
+        &[
+            FIRST,
+            ABC,
+            WAITS_AT_THREE,
+            THREE_AT_THREE,
+            END,
+            Step::Polls(Seen::Io(IoKind::UnexpectedEof), b"<abc", 3),
+        ],
+    ),
+    (
+        "a READ is refused",
+        6,
+        &[
+            FIRST,
+            ABCD,
+            WAITS_AT_FOUR,
+            TWO_AT_FOUR,
+            NO,
+            Step::Polls(Seen::Status(4), b"<abcd", 4),
+        ],
+    ),
+    (
+        "a broken reply",
+        6,
+        &[
+            FIRST,
+            ABCD,
+            WAITS_AT_FOUR,
+            TWO_AT_FOUR,
+            Step::Breaks(b"\x65\0\0\0\x01"),
+            Step::Polls(Seen::Failed(Fault::Format(FormatKind::Length)), b"<abcd", 4),
+        ],
+    ),
+];
