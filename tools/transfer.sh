@@ -132,7 +132,7 @@ run nobody get "$room/far/file" "$room/near/file"
 [ $status -eq 6 ] && [ -z "$(ls -A "$room/near")" ]
 tell 'no server' $?
 run socket get "$room/far/file"
-[ $status -eq 2 ] && grep -q 'sftp_transfer --help' "$room/err"
+[ $status -eq 2 ] && grep -qxF "sftp_transfer: 'get' needs a source and a target (try --help)" "$room/err"
 tell 'a word too few' $?
 
 # ---- a server that ends in the middle: nothing new stands under a name
@@ -431,7 +431,7 @@ mkdir "$room/near/cage"
 run evil get -r evil "$room/near/cage/target"
 kill $fourth 2>/dev/null
 [ $status -eq 1 ] && [ "$(ls -A "$room/near/cage")" = target ] && [ -z "$(ls -A "$room/near/cage/target")" ] &&
-    [ "$(grep -c 'would lead out' "$room/err")" -eq 4 ]
+    [ "$(grep -c ': skipped: the name leads out of its directory$' "$room/err")" -eq 4 ]
 tell 'names that would lead out of the target' $?
 
 echo "transfer over OpenSSH's server: $passed passed, $failed failed"
