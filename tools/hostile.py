@@ -421,7 +421,7 @@ def main():
     get_tree(program, LeftPart(), 1, "another file is written under this name", {"in/t/a": line(b"a")})
     get_tree(program, LinkAndFolder(), 1, "sftp_transfer:", {"in/t/d/x": b"x"})
     get_tree(program, Endless(), 1, "more than 1000000 entries", {})
-    get_tree(program, EndlessDepth(), 1, "more than 64 folders in one another", {})
+    get_tree(program, EndlessDepth(), 1, "more than 64 nested directories", {})
     a = Server().files[b"/a"]
     get_file(program, Server(), 0, "", a)
     get_file(program, Grows(), 0, "", a)
@@ -429,7 +429,7 @@ def main():
     get_file(program, OneByte(), 0, "", a)
     for server in (TooMuch, OtherKind, OtherId, LongHandle, OldVersion, HugeFrame, EmptyFrame, RefusesReads):
         get_file(program, server(), 1, "sftp_transfer:", None)
-    put_file(program, RefusesWrites(), 1, "the server refused (status 4)", None)
+    put_file(program, RefusesWrites(), 1, "the server refused the request (status 4)", None)
     break_everywhere(program)
     for failure in failures:
         print("hostile:", failure)
