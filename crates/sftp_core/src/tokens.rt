@@ -40,7 +40,7 @@ impl Ticket {
 
 /// The name of one HANDLE reply, and one user of its handle. A contract sees it as the id and the handle.
 ///
-/// Used in `crates/sftp_fs/src/granting.rt`.
+/// Used in `crates/sftp_fs/src/grants.rt`.
 #[must_use]
 pub struct Grant {
     pub(crate) id: u32,
