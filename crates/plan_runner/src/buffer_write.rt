@@ -17,7 +17,7 @@ use crate::next::{Asked, Next, Running};
 use crate::replies::{failure, refused};
 use crate::site::{set_slot, slot_of};
 use crate::turn::Turn;
-use crate::writing::content_of;
+use crate::write_call::content_of;
 use sftp_model::{Buffer, Facts, FileAt, IoKind, Outcome, Reply, Site, Slot};
 use sftp_values::Items;
 use ssh_encoding::OutOfMemory;

@@ -16,11 +16,11 @@ ghost use Rattle.plan_runner.specs.Pending.{PendsAfter, pends_after, pends_idle}
 ghost use Rattle.plan_runner.specs.Asking.{AwaitsAsked, AsksOn, opened_after};
 
 use crate::next::{Asked, Next, Running};
-use crate::opening::{open_request, opened_file};
+use crate::open_call::{open_request, opened_file};
 use crate::replies::{refusal, refused, status_refusal};
 use crate::single::is_too_long;
 use crate::turn::Turn;
-use crate::writing::write_rest;
+use crate::write_call::write_rest;
 use bitflags::Flags;
 use sftp_model::numbers::{SSH_FX_EOF, SSH_FXF_CREAT, SSH_FXF_TRUNC, SSH_FXF_WRITE};
 use sftp_model::{

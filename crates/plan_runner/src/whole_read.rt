@@ -13,7 +13,7 @@ ghost use Rattle.plan_runner.specs.Asking.{opened_after};
 ghost use Rattle.plan_window.specs.Windows.{AsksInRange, FitsFirst, IsSound as IsSoundWindow};
 
 use crate::next::{Asked, Next, Running};
-use crate::opening::open_request;
+use crate::open_call::open_request;
 use crate::replies::{refusal, refused, status_refusal};
 use crate::single::is_too_long;
 use crate::turn::Turn;

@@ -14,7 +14,7 @@ use Rattle.plan_state.proofs.Keeping.{keeps_same}
 use Rattle.plan_state.proofs.OthersKept.{ended_idle, idle_others}
 use Rattle.plan_state.specs.Runners.{HandsGrantOn, GoesBehind, IsOwn, Meaning}
 use Rattle.plan_state.specs.declared.runner.Then.TheVariants as then
-use Rattle.plan_state.specs.declared.asking.Asking.{Asking}
+use Rattle.plan_state.specs.declared.submission.Asking.{Asking}
 use Rattle.plan_state.specs.Asked.{SubmitsAsking, request_of}
 use Rattle.plan_state.specs.Calls.{
   AsksAndAwaits,

@@ -73,8 +73,8 @@ use Rattle.sftp_core.proofs.Elsewhere.{
   take_elsewhere,
   take_phase,
 }
-use Rattle.plan_state.specs.declared.asking.Asking.{Asking}
-use Rattle.plan_state.specs.declared.asking.Asking.TheVariants.{Whole, Parts}
+use Rattle.plan_state.specs.declared.submission.Asking.{Asking}
+use Rattle.plan_state.specs.declared.submission.Asking.TheVariants.{Whole, Parts}
 use Rattle.plan_state.specs.declared.stage.Stage.{Stage}
 use Rattle.plan_state.specs.declared.stage.Stage.TheVariants.{Ended, Ready, Unsent, Asked, Came}
 use Rattle.plan_state.specs.declared.told.Told.TheVariants as told

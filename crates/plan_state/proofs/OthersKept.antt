@@ -37,7 +37,7 @@ use Rattle.sftp_core.specs.Core.{
 use Rattle.sftp_core.specs.Grant.{GrantValue}
 use Rattle.sftp_core.specs.Table.{expected_at}
 use Rattle.sftp_core.proofs.Elsewhere.{abandon_elsewhere, poll_elsewhere, put_here, release_elsewhere, retain_elsewhere}
-use Rattle.plan_state.specs.declared.asking.Asking.{Asking}
+use Rattle.plan_state.specs.declared.submission.Asking.{Asking}
 use Rattle.plan_state.specs.declared.stage.Stage.{Stage}
 use Rattle.plan_state.specs.declared.stage.Stage.TheVariants.{Ended, Ready, Unsent, Asked, Came}
 use Rattle.plan_state.specs.declared.told.Told.{Told}

@@ -10,7 +10,7 @@ use Rattle.plan_state.specs.Calls.{CallValue, CancelsAwaited, CountsGrant, IsGra
 use Rattle.plan_state.specs.Keeping.{KeepsHeld, SparesOthers}
 use Rattle.plan_state.specs.Runners.{Meaning}
 use Rattle.plan_state.specs.Told.{IsCounted}
-use Rattle.plan_state.specs.declared.asking.Asking.{Asking}
+use Rattle.plan_state.specs.declared.submission.Asking.{Asking}
 use Rattle.plan_state.specs.declared.poll.Poll.{Poll}
 use Rattle.plan_state.specs.declared.poll.Poll.TheVariants as poll
 use Rattle.plan_state.specs.declared.stage.Stage.{Stage}

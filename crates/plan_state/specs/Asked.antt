@@ -9,10 +9,10 @@ use Rattle.sftp_model.specs.declared.request.Request.{Request}
 use Rattle.sftp_core.specs.Core.{Core, record_at, is_ticket, queued_last, queued_parts, write_of}
 use Rattle.sftp_core.specs.Info.{MAX_IDS, info_of}
 use Rattle.sftp_core.specs.Table.{expected_at}
-use Rattle.plan_state.specs.declared.asking.Asking.{Asking}
-use Rattle.plan_state.specs.declared.asking.Asking.TheVariants.{Whole, Parts}
-use Rattle.plan_state.specs.declared.asking.Unsubmitted.{Unsubmitted}
-use Rattle.plan_state.specs.declared.asking.Unsubmitted.TheVariants as unsubmitted
+use Rattle.plan_state.specs.declared.submission.Asking.{Asking}
+use Rattle.plan_state.specs.declared.submission.Asking.TheVariants.{Whole, Parts}
+use Rattle.plan_state.specs.declared.submission.Unsubmitted.{Unsubmitted}
+use Rattle.plan_state.specs.declared.submission.Unsubmitted.TheVariants as unsubmitted
 
 -- The request, whose parts are joined.
 abbrev pub request_of : Asking → Request

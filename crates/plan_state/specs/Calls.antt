@@ -13,7 +13,7 @@ use Rattle.plan_model.specs.Moves.{Answers, Own, Plan}
 use Rattle.sftp_core.specs.declared.id_record.IdRecord.TheVariants.{Granted}
 use Rattle.sftp_core.specs.Core.{Core, core_after_abandon, after_poll, record_at, core_after_release, reply_in}
 use Rattle.sftp_core.specs.Grant.{GrantValue}
-use Rattle.plan_state.specs.declared.asking.Asking.{Asking}
+use Rattle.plan_state.specs.declared.submission.Asking.{Asking}
 use Rattle.plan_state.specs.declared.poll.Poll.{Poll}
 use Rattle.plan_state.specs.declared.poll.Poll.TheVariants as poll
 use Rattle.plan_state.specs.declared.stage.Stage.{Stage}

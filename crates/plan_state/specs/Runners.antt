@@ -11,7 +11,7 @@ use Rattle.plan_model.specs.Moves.{Answers, Own, Plan}
 use Rattle.sftp_model.specs.Frames.{is_too_long}
 use Rattle.sftp_core.specs.Core.{is_call}
 use Rattle.sftp_core.specs.Grant.{GrantValue}
-use Rattle.plan_state.specs.declared.asking.Asking.{Asking}
+use Rattle.plan_state.specs.declared.submission.Asking.{Asking}
 use Rattle.plan_state.specs.declared.runner.Then.{Then}
 use Rattle.plan_state.specs.declared.runner.Then.TheVariants as then
 use Rattle.plan_state.specs.Asked.{request_of}

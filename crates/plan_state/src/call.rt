@@ -12,7 +12,7 @@ ghost use Rattle.plan_state.specs.Keeping.{KeepsHeld};
 ghost use Rattle.plan_state.specs.Runners.{GoesBehind, MayAsk};
 ghost use Rattle.plan_state.specs.Told.{reply_of};
 
-use crate::asking::{Asking, Unsubmitted, refusal, submit};
+use crate::submission::{Asking, Unsubmitted, refusal, submit};
 use crate::poll::Poll;
 use crate::runner::{PlanRunner, Then};
 use crate::stage::Stage;

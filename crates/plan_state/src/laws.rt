@@ -10,7 +10,7 @@ ghost use Rattle.sftp_core.specs.Grant.{GrantValue};
 ghost use Rattle.sftp_core.specs.Info.{info_of};
 ghost use Rattle.sftp_core.specs.Take.{Read, TakenFrom, take_leaves, take_refusal};
 ghost use Rattle.sftp_core.specs.declared.tokens.Taken.{Taken};
-ghost use Rattle.plan_state.specs.declared.asking.Asking.{Asking};
+ghost use Rattle.plan_state.specs.declared.submission.Asking.{Asking};
 ghost use Rattle.plan_state.specs.declared.stage.Stage.TheVariants.{Asked};
 ghost use Rattle.plan_state.specs.Asked.{HoldsTicket, queued_by};
 ghost use Rattle.plan_state.specs.Calls.{core_after_cancel};

@@ -2,15 +2,15 @@
 //! Polling, cancelling and releasing are implemented here once, for any call.
 #![tactic(auto)]
 
-mod asking;
 mod call;
 mod laws;
 mod poll;
 mod runner;
 mod stage;
+mod submission;
 mod told;
 
-pub use asking::Asking;
+pub use submission::Asking;
 pub use call::{Alone, PendingCall};
 pub use laws::{calls_keep_what_is_held, cancelled_opens_are_closed, others_keep_what_they_hold};
 pub use poll::Poll;

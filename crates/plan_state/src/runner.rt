@@ -6,7 +6,7 @@ ghost use Rattle.plan_model.specs.Moves.{Answers, Own};
 ghost use Rattle.plan_state.specs.Runners.{FollowsPlan, HandsGrantOn, IsStep, Meaning};
 ghost use Rattle.plan_state.specs.Told.{IsBack, IsFormed, reply_of};
 
-use crate::asking::Asking;
+use crate::submission::Asking;
 use crate::told::Told;
 use sftp_model::Error;
 

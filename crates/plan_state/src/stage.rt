@@ -7,7 +7,7 @@ ghost use Rattle.plan_state.specs.declared.told.Told.{Told as ToldValue};
 ghost use Rattle.plan_state.specs.Calls.{CancelsAwaited, is_ended, ticket_of};
 ghost use Rattle.plan_state.specs.Told.{IsCounted};
 
-use crate::asking::Asking;
+use crate::submission::Asking;
 use crate::told::Told;
 use sftp_core::{Core, Ended, Grant, Ticket};
 use std::mem;

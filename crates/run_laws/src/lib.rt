@@ -5,7 +5,7 @@
 #![tactic(auto)]
 
 mod journals;
-mod reading;
+mod read_laws;
 mod sessions;
 mod texts;
 mod whole_runs;
@@ -14,7 +14,7 @@ pub use journals::{
     closes_stand_after_all_uses, handles_are_those_of_grants, requests_bear_held_handles,
     requests_of_whole_runs_were_sent, served_requests_use_grants,
 };
-pub use reading::{
+pub use read_laws::{
     deferred_writes_are_joined, ended_calls_went_by_their_plans, flushed_writes_are_in_the_file,
     listings_give_directories, reads_give_what_was_there, served_journals_are_runs,
     spared_names_stay, whole_reads_give_the_file, whole_writes_leave_their_bytes,

@@ -12,7 +12,7 @@ mod seat;
 mod shared;
 mod users;
 mod view;
-mod waiting;
+mod waits;
 
 pub use ended::{Ended, Ending, NotEnded};
 pub use event::Event;

@@ -4,9 +4,9 @@
 
 mod ends;
 mod laws;
-mod running;
+mod run;
 mod seats;
 
 pub use laws::link_faults_are_counted;
-pub use running::run_shared;
+pub use run::run_shared;
 pub use sftp_tasks::SharedReport;

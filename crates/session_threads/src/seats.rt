@@ -23,7 +23,7 @@ use std::time::Clock;
 
 /// The seats of a run, all at one session. The home seat gave the others.
 ///
-/// Used in `crates/session_threads/src/running.rt`.
+/// Used in `crates/session_threads/src/run.rt`.
 #[derive(Drop)]
 pub struct Crew {
     pub(crate) home: Seat,
@@ -37,7 +37,7 @@ pub struct Crew {
 
 /// The result of a worker's thread: its seat, and the result of the worker.
 ///
-/// Used in `crates/session_threads/src/running.rt`.
+/// Used in `crates/session_threads/src/run.rt`.
 #[derive(Drop)]
 pub struct Told {
     pub(crate) seat: Seat,

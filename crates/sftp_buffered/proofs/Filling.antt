@@ -47,7 +47,7 @@ use Rattle.sftp_core.specs.Core.{Core, after_poll, record_at}
 use Rattle.sftp_core.proofs.Elsewhere.{poll_elsewhere}
 use Rattle.plan_state.specs.Asked.{HoldsTicket, SubmitsAsking}
 use Rattle.plan_state.specs.Keeping.{KeepsHeld}
-use Rattle.plan_state.specs.declared.asking.Asking.TheVariants.{Whole}
+use Rattle.plan_state.specs.declared.submission.Asking.TheVariants.{Whole}
 use Rattle.plan_state.specs.declared.poll.Poll.{Poll}
 use Rattle.plan_state.specs.declared.poll.Poll.TheVariants as poll
 use Rattle.plan_state.proofs.Keeping.{submitted_holds}

@@ -31,8 +31,8 @@ use Rattle.sftp_model.specs.declared.answers.Expected.TheVariants as expected
 use Rattle.plan_state.proofs.Keeping.{holds_still, submitted_holds}
 use Rattle.plan_state.proofs.OthersKept.{submitted_keeps}
 use Rattle.plan_state.specs.Asked.{HoldsTicket, SubmitsAsking, queued_by}
-use Rattle.plan_state.specs.declared.asking.Asking.{Asking}
-use Rattle.plan_state.specs.declared.asking.Asking.TheVariants.{Whole, Parts}
+use Rattle.plan_state.specs.declared.submission.Asking.{Asking}
+use Rattle.plan_state.specs.declared.submission.Asking.TheVariants.{Whole, Parts}
 use Rattle.sftp_core.specs.Core.{Core, after_poll, record_at, reply_in}
 use Rattle.sftp_core.specs.Table.{expected_at}
 use Rattle.sftp_core.proofs.Elsewhere.{poll_elsewhere, put_elsewhere}

@@ -38,8 +38,8 @@ use Rattle.sftp_core.specs.Table.{handle_in_reply}
 use Rattle.sftp_core.proofs.Elsewhere.{abandon_phase, poll_phase}
 use Rattle.plan_state.specs.Asked.{SubmitsAsking, queued_by}
 use Rattle.plan_state.specs.Keeping.{KeepsHeld}
-use Rattle.plan_state.specs.declared.asking.Asking.{Asking}
-use Rattle.plan_state.specs.declared.asking.Asking.TheVariants.{Whole, Parts}
+use Rattle.plan_state.specs.declared.submission.Asking.{Asking}
+use Rattle.plan_state.specs.declared.submission.Asking.TheVariants.{Whole, Parts}
 use Rattle.plan_state.specs.declared.poll.Poll.TheVariants as poll
 use Rattle.plan_state.proofs.Keeping.{grants_both, keeps_same, submitted_holds}
 use Rattle.plan_state.proofs.OthersKept.{

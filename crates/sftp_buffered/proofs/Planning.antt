@@ -78,7 +78,7 @@ use Rattle.plan_model.specs.BufferPlans.{
 use Rattle.sftp_core.specs.Core.{Core}
 use Rattle.plan_state.specs.Asked.{SubmitsAsking}
 use Rattle.plan_state.specs.Calls.{IsUnfinished}
-use Rattle.plan_state.specs.declared.asking.Asking.{Asking}
+use Rattle.plan_state.specs.declared.submission.Asking.{Asking}
 use Rattle.plan_state.specs.declared.poll.Poll.TheVariants as poll
 use Rattle.sftp_file.specs.Files.{FileValue, file_at}
 use Rattle.sftp_buffered.proofs.Holding.{counted_less, freed_core_deferring, freed_deferring, freed_file, parts_of}

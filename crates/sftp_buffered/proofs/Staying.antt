@@ -8,7 +8,7 @@ use Rattle.sftp_model.specs.declared.outcome.Outcome.{Outcome}
 use Rattle.plan_model.specs.Moves.{Answers, Plan}
 use Rattle.sftp_core.specs.Core.{Core}
 use Rattle.plan_state.specs.Asked.{HoldsTicket}
-use Rattle.plan_state.specs.declared.asking.Asking.{Asking}
+use Rattle.plan_state.specs.declared.submission.Asking.{Asking}
 use Rattle.plan_state.specs.declared.poll.Poll.{Poll}
 use Rattle.plan_state.specs.declared.poll.Poll.TheVariants as poll
 use Rattle.sftp_buffered.specs.declared.file.DeferredWrite.{DeferredWrite}

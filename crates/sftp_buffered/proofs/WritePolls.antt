@@ -33,7 +33,7 @@ use Rattle.plan_model.specs.Moves.{Answers, refuse_locally}
 use Rattle.plan_model.specs.BufferPlans.{send_next, with_capacity}
 use Rattle.sftp_core.specs.Core.{Core}
 use Rattle.plan_state.specs.Calls.{IsUnfinished}
-use Rattle.plan_state.specs.declared.asking.Asking.{Asking}
+use Rattle.plan_state.specs.declared.submission.Asking.{Asking}
 use Rattle.plan_state.specs.declared.poll.Poll.TheVariants as poll
 use Rattle.sftp_file.specs.Files.{facts_of, file_at}
 use Rattle.sftp_buffered.proofs.Holding.{parts_of}

@@ -63,7 +63,7 @@ use Rattle.plan_model.specs.Moves.{
 }
 use Rattle.sftp_core.specs.Core.{Core, after_poll, record_at, reply_in}
 use Rattle.plan_state.specs.Asked.{SubmitsAsking}
-use Rattle.plan_state.specs.declared.asking.Asking.TheVariants.{Whole}
+use Rattle.plan_state.specs.declared.submission.Asking.TheVariants.{Whole}
 use Rattle.plan_state.specs.declared.poll.Poll.{Poll}
 use Rattle.plan_state.specs.declared.poll.Poll.TheVariants as poll
 use Rattle.sftp_file.specs.Files.{facts_of}

@@ -10,8 +10,8 @@ use Rattle.plan_model.specs.BufferPlans.{buf_write_next, is_good}
 use Rattle.plan_model.specs.Moves.{Answers, Plan}
 use Rattle.sftp_core.specs.Core.{Core}
 use Rattle.plan_state.specs.Asked.{SubmitsAsking}
-use Rattle.plan_state.specs.declared.asking.Asking.{Asking}
-use Rattle.plan_state.specs.declared.asking.Asking.TheVariants.{Parts}
+use Rattle.plan_state.specs.declared.submission.Asking.{Asking}
+use Rattle.plan_state.specs.declared.submission.Asking.TheVariants.{Parts}
 use Rattle.plan_state.specs.declared.poll.Poll.{Poll}
 use Rattle.plan_state.specs.declared.poll.Poll.TheVariants as poll
 use Rattle.sftp_file.specs.Files.{facts_of}

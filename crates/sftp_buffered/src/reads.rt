@@ -11,7 +11,7 @@ ghost use Rattle.sftp_buffered.specs.Reads.{end_of, fill_value, read_reply, with
 ghost use Rattle.std.specs.Option.{option_copied};
 ghost use Rattle.sftp_model.specs.declared.reply.Reply.{Reply as ReplyValue};
 ghost use Rattle.sftp_model.specs.declared.request.Request.TheVariants as request;
-ghost use Rattle.plan_state.specs.declared.asking.Asking.TheVariants as asking;
+ghost use Rattle.plan_state.specs.declared.submission.Asking.TheVariants as asking;
 ghost use Rattle.sftp_file.specs.Files.{facts_of};
 ghost use Rattle.sftp_buffered.specs.Steps.{IsStopped, read_taken, read_dropped, without_first_bytes};
 ghost use Rattle.sftp_buffered.specs.Whole.{ShrinksCapacity};

@@ -6,7 +6,7 @@ ghost use Rattle.sftp_model.specs.Numbers.{MAX_TRANSFER_LEN};
 ghost use Rattle.sftp_model.specs.Pieces.{joined_pieces};
 ghost use Rattle.plan_model.specs.BufferPlans.{is_good};
 ghost use Rattle.plan_state.specs.Asked.{IsReady, SubmitsAsking};
-ghost use Rattle.plan_state.specs.declared.asking.Asking.TheVariants as asking;
+ghost use Rattle.plan_state.specs.declared.submission.Asking.TheVariants as asking;
 ghost use Rattle.sftp_buffered.specs.Buffered.{IsCounted, IsHeld, IsSound, AreHeld, IsHeldRead};
 ghost use Rattle.sftp_buffered.specs.Polls.{AnyCut};
 ghost use Rattle.sftp_buffered.specs.Steps.{IsLeft, IsStopped, with_oldest_settled, oldest_reply, after_written};

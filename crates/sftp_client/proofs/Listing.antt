@@ -13,7 +13,7 @@ use Rattle.sftp_core.specs.Info.{info_of}
 use Rattle.sftp_link.specs.Views.{LinkView}
 use Rattle.plan_state.specs.Keeping.{KeepsHeld, KeepsGrants, SparesOthers}
 use Rattle.plan_state.proofs.Sparing.{spares_both, spares_kept, spares_then}
-use Rattle.plan_state.specs.declared.asking.Asking.TheVariants.{Whole}
+use Rattle.plan_state.specs.declared.submission.Asking.TheVariants.{Whole}
 use Rattle.plan_state.specs.declared.poll.Poll.TheVariants.{Pending, Ready}
 use Rattle.plan_state.proofs.Keeping.{grants_both, keeps_same, submitted_missing}
 use Rattle.plan_state.proofs.OthersKept.{grant_kept}

@@ -12,7 +12,7 @@ use thiserror::Error;
 
 /// The reason why a request was not submitted. The core is unchanged.
 ///
-/// Used in `crates/plan_state/src/asking.rt`.
+/// Used in `crates/plan_state/src/submission.rt`.
 #[derive(Clone, Copy, Debug, PartialEq, Eq, Error)]
 pub enum SubmitError {
     /// An allocation failed.

@@ -17,7 +17,7 @@ use Rattle.sftp_core.specs.declared.id_record.IdRecord.TheVariants.{Granted, Wai
 use Rattle.sftp_core.specs.Core.{Core, record_at, queued_last, release_gives, release_leaves, core_after_release, users_of, with_record}
 use Rattle.sftp_core.specs.Grant.{GrantValue}
 use Rattle.sftp_core.proofs.Elsewhere.{put_here}
-use Rattle.plan_state.specs.declared.asking.Asking.TheVariants.{Whole}
+use Rattle.plan_state.specs.declared.submission.Asking.TheVariants.{Whole}
 use Rattle.plan_state.specs.declared.stage.Stage.{Stage}
 use Rattle.plan_state.specs.Calls.{CallValue, IsHeldAt, IsUnderWay}
 use Rattle.plan_state.specs.Runners.{GoesBehind}

@@ -14,8 +14,8 @@ use Rattle.sftp_model.specs.declared.slot.Move.TheVariants.{Ask, Done}
 use Rattle.plan_model.specs.FilePlans.{copy_next}
 use Rattle.plan_model.specs.Moves.{Answers, handle_of, offers, overflows, refuse_locally, refuses_extension}
 use Rattle.sftp_core.specs.Core.{Core}
-use Rattle.plan_state.specs.declared.asking.Asking.{Asking}
-use Rattle.plan_state.specs.declared.asking.Asking.TheVariants.{Whole}
+use Rattle.plan_state.specs.declared.submission.Asking.{Asking}
+use Rattle.plan_state.specs.declared.submission.Asking.TheVariants.{Whole}
 use Rattle.plan_state.specs.Calls.{BeginsCall, CallValue, IsUnderWay}
 use Rattle.plan_state.specs.Keeping.{KeepsHeld}
 use Rattle.plan_state.specs.Runners.{GoesBehind}

@@ -9,7 +9,7 @@ use Rattle.sftp_model.specs.declared.slot.Move.{Move}
 use Rattle.sftp_model.specs.declared.slot.Move.TheVariants.{Ask, Done}
 use Rattle.plan_model.specs.Moves.{Answers, handle_of}
 use Rattle.plan_model.specs.TransferPlans.{read_all_next}
-use Rattle.plan_state.specs.declared.asking.Asking.{Asking}
+use Rattle.plan_state.specs.declared.submission.Asking.{Asking}
 use Rattle.plan_state.specs.Asked.{request_of}
 use Rattle.sftp_core.specs.Core.{Core}
 use Rattle.plan_state.specs.declared.stage.Stage.{Stage}

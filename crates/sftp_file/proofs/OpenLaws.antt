@@ -16,8 +16,8 @@ use Rattle.plan_model.specs.Moves.{Answers, handle_of, on_handle, once_answered}
 use Rattle.sftp_model.specs.Frames.{is_too_long}
 use Rattle.sftp_core.specs.Core.{Core}
 use Rattle.sftp_core.specs.Grant.{GrantValue}
-use Rattle.plan_state.specs.declared.asking.Asking.{Asking}
-use Rattle.plan_state.specs.declared.asking.Asking.TheVariants.{Whole}
+use Rattle.plan_state.specs.declared.submission.Asking.{Asking}
+use Rattle.plan_state.specs.declared.submission.Asking.TheVariants.{Whole}
 use Rattle.plan_state.specs.declared.poll.Poll.TheVariants as poll
 use Rattle.plan_state.specs.declared.stage.Stage.{Stage}
 use Rattle.plan_state.specs.declared.stage.Stage.TheVariants.{Asked}

@@ -17,8 +17,8 @@ use Rattle.plan_model.specs.Moves.{Answers, Plan, ask_read, handle_of, offers, r
 use Rattle.sftp_model.specs.Numbers.{FSYNC}
 use Rattle.plan_model.specs.TransferPlans.{read_next}
 use Rattle.sftp_core.specs.Core.{Core}
-use Rattle.plan_state.specs.declared.asking.Asking.{Asking}
-use Rattle.plan_state.specs.declared.asking.Asking.TheVariants.{Whole}
+use Rattle.plan_state.specs.declared.submission.Asking.{Asking}
+use Rattle.plan_state.specs.declared.submission.Asking.TheVariants.{Whole}
 use Rattle.plan_state.specs.declared.stage.Stage.TheVariants.{Ready}
 use Rattle.plan_state.specs.Calls.{BeginsCall, CallValue, IsUnderWay, StartsByPlan}
 use Rattle.plan_state.specs.Keeping.{KeepsHeld}

@@ -15,8 +15,8 @@ use Rattle.sftp_model.specs.declared.slot.Site.{Site}
 use Rattle.plan_model.specs.Moves.{Answers, ask_write, handle_of}
 use Rattle.plan_model.specs.TransferPlans.{next_part, part_len, write_all_next, write_next}
 use Rattle.sftp_core.specs.Core.{Core, queued_parts}
-use Rattle.plan_state.specs.declared.asking.Asking.{Asking}
-use Rattle.plan_state.specs.declared.asking.Asking.TheVariants.{Parts}
+use Rattle.plan_state.specs.declared.submission.Asking.{Asking}
+use Rattle.plan_state.specs.declared.submission.Asking.TheVariants.{Parts}
 use Rattle.plan_state.specs.declared.stage.Stage.{Stage}
 use Rattle.plan_state.specs.declared.stage.Stage.TheVariants.{Asked, Ready}
 use Rattle.plan_state.specs.Asked.{queued_by}

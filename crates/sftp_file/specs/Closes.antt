@@ -8,7 +8,7 @@ use Rattle.sftp_model.specs.Slots.{has_grant, with_slot}
 use Rattle.plan_model.specs.FilePlans.{close_next}
 use Rattle.plan_model.specs.Moves.{Answers, Plan}
 use Rattle.sftp_core.specs.Core.{Core, record_at, release_gives, core_after_release, users_of}
-use Rattle.plan_state.specs.declared.asking.Asking.TheVariants.{Whole}
+use Rattle.plan_state.specs.declared.submission.Asking.TheVariants.{Whole}
 use Rattle.plan_state.specs.declared.stage.Stage.{Stage}
 use Rattle.plan_state.specs.declared.stage.Stage.TheVariants.{Ready, Asked}
 use Rattle.plan_state.specs.Calls.{CallValue, IsLeftAt, IsUnderWay}

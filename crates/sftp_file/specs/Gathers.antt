@@ -42,8 +42,8 @@ use Rattle.sftp_core.specs.Core.{Core}
 use Rattle.plan_state.specs.Asked.{request_of}
 use Rattle.plan_state.specs.Calls.{CallValue, MayPoll, StepsByPlan, is_ended}
 use Rattle.plan_state.specs.Runners.{Meaning}
-use Rattle.plan_state.specs.declared.asking.Asking.{Asking}
-use Rattle.plan_state.specs.declared.asking.Asking.TheVariants.{Whole}
+use Rattle.plan_state.specs.declared.submission.Asking.{Asking}
+use Rattle.plan_state.specs.declared.submission.Asking.TheVariants.{Whole}
 use Rattle.plan_state.specs.declared.poll.Poll.{Poll}
 use Rattle.plan_state.specs.declared.poll.Poll.TheVariants as poll
 use Rattle.sftp_file.specs.Files.{FileValue, IsMoved, StartsOnFile, file_at, one_slot}

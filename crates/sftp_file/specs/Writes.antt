@@ -17,8 +17,8 @@ use Rattle.sftp_core.specs.Core.{Core, is_call, queued_parts}
 use Rattle.plan_state.specs.Asked.{request_of}
 use Rattle.plan_state.specs.Calls.{CallValue}
 use Rattle.plan_state.specs.Runners.{IsOwn, Meaning}
-use Rattle.plan_state.specs.declared.asking.Asking.{Asking}
-use Rattle.plan_state.specs.declared.asking.Asking.TheVariants.{Parts}
+use Rattle.plan_state.specs.declared.submission.Asking.{Asking}
+use Rattle.plan_state.specs.declared.submission.Asking.TheVariants.{Parts}
 use Rattle.plan_state.specs.declared.stage.Stage.TheVariants.{Asked}
 use Rattle.sftp_file.specs.declared.whole_writes.Part.{Part}
 use Rattle.sftp_file.specs.declared.whole_writes.Part.TheVariants as part

@@ -7,7 +7,7 @@ ghost use Rattle.sftp_file.specs.Files.{FileValue};
 ghost use Rattle.sftp_model.specs.Frames.{is_too_long};
 ghost use Rattle.sftp_model.specs.declared.request.Request.TheVariants as request;
 ghost use Rattle.plan_state.specs.Asked.{IsReady, request_of};
-ghost use Rattle.plan_state.specs.declared.asking.Asking.TheVariants as asking;
+ghost use Rattle.plan_state.specs.declared.submission.Asking.TheVariants as asking;
 ghost use Rattle.sftp_file.specs.Copies.{CopiesBetween, CopyStarts, CopyValue, MayCopy, copies_wait, copy_meaning};
 
 use crate::facts::facts;

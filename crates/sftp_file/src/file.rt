@@ -14,7 +14,7 @@ ghost use Rattle.sftp_file.specs.Outcomes.{seek_outcome};
 ghost use Rattle.sftp_model.specs.Frames.{is_too_long, no_attributes};
 ghost use Rattle.sftp_model.specs.declared.request.Request.TheVariants as request;
 ghost use Rattle.plan_state.specs.Asked.{IsReady, request_of};
-ghost use Rattle.plan_state.specs.declared.asking.Asking.TheVariants as asking;
+ghost use Rattle.plan_state.specs.declared.submission.Asking.TheVariants as asking;
 ghost use Rattle.sftp_file.specs.Tells.{attrs_meaning};
 ghost use Rattle.sftp_file.specs.Settles.{settle_meaning};
 

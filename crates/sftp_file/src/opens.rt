@@ -6,7 +6,7 @@ ghost use Rattle.sftp_model.specs.OpenOptions.{flags_of};
 ghost use Rattle.plan_model.specs.FilePlans.{open_request};
 ghost use Rattle.sftp_model.specs.Frames.{is_too_long};
 ghost use Rattle.plan_state.specs.Asked.{IsReady, request_of};
-ghost use Rattle.plan_state.specs.declared.asking.Asking.TheVariants as asking;
+ghost use Rattle.plan_state.specs.declared.submission.Asking.TheVariants as asking;
 ghost use Rattle.sftp_file.specs.Opens.{OpenStarts, open_waits, open_meaning};
 
 use crate::file::File;

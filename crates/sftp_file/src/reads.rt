@@ -4,7 +4,7 @@ ghost use Rattle.sftp_model.specs.Frames.{is_too_long};
 ghost use Rattle.sftp_model.specs.declared.request.Request.TheVariants as request;
 ghost use Rattle.plan_model.specs.TransferPlans.{read_next};
 ghost use Rattle.plan_state.specs.Asked.{IsReady, request_of};
-ghost use Rattle.plan_state.specs.declared.asking.Asking.TheVariants as asking;
+ghost use Rattle.plan_state.specs.declared.submission.Asking.TheVariants as asking;
 ghost use Rattle.sftp_file.specs.Files.{StartsOnFile, file_at};
 ghost use Rattle.sftp_file.specs.Outcomes.{read_answer};
 ghost use Rattle.sftp_file.specs.Reads.{ReadValue, read_waits, read_meaning};

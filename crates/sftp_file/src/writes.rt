@@ -10,7 +10,7 @@ ghost use Rattle.sftp_file.specs.Files.{StartsOnFile, facts_of, file_at};
 ghost use Rattle.sftp_file.specs.Parts.{cut_at};
 ghost use Rattle.sftp_file.specs.Writes.{WriteValue, WritesParts, write_waits, write_meaning};
 ghost use Rattle.sftp_model.specs.Frames.{is_too_long};
-ghost use Rattle.plan_state.specs.declared.asking.Asking.TheVariants as asking;
+ghost use Rattle.plan_state.specs.declared.submission.Asking.TheVariants as asking;
 
 use crate::facts::facts;
 use crate::file::File;

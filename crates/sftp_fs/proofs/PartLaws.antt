@@ -7,8 +7,8 @@ use Rattle.sftp_model.specs.declared.slot.Facts.{Facts}
 use Rattle.plan_model.specs.TransferPlans.{next_part, part_len}
 use Rattle.sftp_model.specs.Frames.{is_too_long}
 use Rattle.plan_state.specs.Asked.{request_of}
-use Rattle.plan_state.specs.declared.asking.Asking.{Asking}
-use Rattle.plan_state.specs.declared.asking.Asking.TheVariants.{Parts}
+use Rattle.plan_state.specs.declared.submission.Asking.{Asking}
+use Rattle.plan_state.specs.declared.submission.Asking.TheVariants.{Parts}
 use Rattle.sftp_file.proofs.BodyLens.{write_is_short}
 use Rattle.sftp_fs.specs.Parts.{IsPart, PartValue, asked_part}
 

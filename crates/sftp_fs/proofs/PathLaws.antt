@@ -13,8 +13,8 @@ use Rattle.sftp_model.specs.Frames.{is_too_long}
 use Rattle.plan_model.specs.Moves.{Answers, Plan, refuse_locally}
 use Rattle.plan_model.specs.PathPlans.{from_directory}
 use Rattle.sftp_core.specs.Core.{Core}
-use Rattle.plan_state.specs.declared.asking.Asking.{Asking}
-use Rattle.plan_state.specs.declared.asking.Asking.TheVariants.{Whole}
+use Rattle.plan_state.specs.declared.submission.Asking.{Asking}
+use Rattle.plan_state.specs.declared.submission.Asking.TheVariants.{Whole}
 use Rattle.plan_state.specs.Calls.{BeginsCall, CallValue, IsNoneOfCall, IsUnderWay, StartsByPlan}
 use Rattle.plan_state.specs.Keeping.{KeepsHeld, SparesOthers}
 use Rattle.plan_state.specs.Runners.{Meaning}

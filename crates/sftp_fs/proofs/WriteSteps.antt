@@ -40,7 +40,7 @@ use Rattle.sftp_core.specs.Core.{Core}
 use Rattle.plan_state.proofs.OthersKept.{keeps_unchanged}
 use Rattle.plan_state.proofs.Sparing.{closed_spares, spares_also, spares_as, spares_both, spares_kept, stepped_spares, submitted_spares}
 use Rattle.sftp_core.specs.Grant.{GrantValue}
-use Rattle.plan_state.specs.declared.asking.Asking.{Asking}
+use Rattle.plan_state.specs.declared.submission.Asking.{Asking}
 use Rattle.plan_state.specs.declared.poll.Poll.TheVariants.{Pending, Ready}
 use Rattle.plan_state.specs.declared.stage.Stage.{Stage}
 use Rattle.plan_state.specs.declared.stage.Stage.TheVariants as stage

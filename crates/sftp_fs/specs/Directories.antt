@@ -30,7 +30,7 @@ use Rattle.plan_model.specs.PathPlans.{from_directory}
 use Rattle.plan_model.specs.WholePlans.{entries_next, list_next, once_opened}
 use Rattle.sftp_core.specs.Core.{Core, record_at, release_gives, core_after_release, users_of}
 use Rattle.sftp_core.specs.Grant.{GrantValue}
-use Rattle.plan_state.specs.declared.asking.Asking.TheVariants.{Whole}
+use Rattle.plan_state.specs.declared.submission.Asking.TheVariants.{Whole}
 use Rattle.plan_state.specs.declared.stage.Stage.{Stage}
 use Rattle.plan_state.specs.declared.stage.Stage.TheVariants.{Ready, Asked}
 use Rattle.plan_state.specs.Calls.{CallValue, IsUnderWay, StartsByPlan}

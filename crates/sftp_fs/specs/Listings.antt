@@ -29,7 +29,7 @@ use Rattle.sftp_model.specs.declared.reply.Reply.TheVariants as reply
 use Rattle.sftp_model.specs.declared.request.Request.TheVariants as request
 use Rattle.sftp_core.specs.Core.{Core, IsGrant, core_after_abandon, after_poll, record_at, reply_in}
 use Rattle.sftp_core.specs.Grant.{GrantValue}
-use Rattle.plan_state.specs.declared.asking.Asking.TheVariants.{Whole}
+use Rattle.plan_state.specs.declared.submission.Asking.TheVariants.{Whole}
 use Rattle.plan_state.specs.declared.poll.Poll.{Poll}
 use Rattle.plan_state.specs.declared.poll.Poll.TheVariants.{Pending, Ready}
 use Rattle.plan_state.specs.Asked.{HoldsTicket, IsReady, SubmitsAsking}

@@ -12,8 +12,8 @@ use Rattle.plan_model.specs.WholePlans.{nowhere, to_replace}
 use Rattle.sftp_model.specs.Frames.{is_too_long}
 use Rattle.plan_state.specs.Asked.{request_of}
 use Rattle.plan_state.specs.Runners.{Meaning}
-use Rattle.plan_state.specs.declared.asking.Asking.{Asking}
-use Rattle.plan_state.specs.declared.asking.Asking.TheVariants.{Parts}
+use Rattle.plan_state.specs.declared.submission.Asking.{Asking}
+use Rattle.plan_state.specs.declared.submission.Asking.TheVariants.{Parts}
 use Rattle.sftp_file.specs.Outcomes.{done_outcome}
 
 -- The WRITE of a part under way: the file's handle, the session's facts, the place of the WRITE, how many bytes were

@@ -12,7 +12,7 @@ use Rattle.sftp_core.specs.Core.{Core, is_call}
 use Rattle.plan_state.specs.Calls.{CallValue, IsNoneOfCall, IsUnderWay, StartsByPlan}
 use Rattle.plan_state.specs.Keeping.{KeepsHeld, SparesOthers}
 use Rattle.plan_state.specs.Runners.{Meaning}
-use Rattle.plan_state.specs.declared.asking.Asking.TheVariants.{Whole}
+use Rattle.plan_state.specs.declared.submission.Asking.TheVariants.{Whole}
 use Rattle.sftp_file.specs.Files.{facts_of}
 
 -- The plan of a call on paths, in a lane and by the facts of its session.

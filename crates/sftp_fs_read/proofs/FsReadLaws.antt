@@ -36,7 +36,7 @@ use Rattle.plan_window.specs.declared.window.ReadAt.{ReadAt}
 use Rattle.plan_window.proofs.PlanLaws.{after_asking}
 use Rattle.sftp_core.specs.Core.{Core}
 use Rattle.sftp_core.specs.Grant.{GrantValue}
-use Rattle.plan_state.specs.declared.asking.Asking.TheVariants.{Whole as WholeRequest}
+use Rattle.plan_state.specs.declared.submission.Asking.TheVariants.{Whole as WholeRequest}
 use Rattle.plan_state.specs.declared.poll.Poll.TheVariants.{Pending, Ready}
 use Rattle.plan_state.specs.Asked.{SubmitsAsking}
 use Rattle.plan_state.specs.Keeping.{SparesOthers}

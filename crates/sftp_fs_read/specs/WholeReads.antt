@@ -35,7 +35,7 @@ use Rattle.plan_model.specs.WindowPlans.{fs_read_next}
 use Rattle.plan_window.specs.Windows.{empty_window, window_move, window_plan}
 use Rattle.sftp_core.specs.Core.{Core}
 use Rattle.sftp_core.specs.Grant.{GrantValue}
-use Rattle.plan_state.specs.declared.asking.Asking.TheVariants.{Whole as WholeRequest}
+use Rattle.plan_state.specs.declared.submission.Asking.TheVariants.{Whole as WholeRequest}
 use Rattle.plan_state.specs.declared.poll.Poll.{Poll}
 use Rattle.plan_state.specs.declared.poll.Poll.TheVariants.{Pending, Ready}
 use Rattle.plan_state.specs.Asked.{IsReady, SubmitsAsking}

@@ -3,7 +3,7 @@ ghost use Rattle.std.specs.Prelude.{◌≡◌, IfErr, IfOk};
 ghost use Rattle.sftp_model.specs.declared.answers.Expected.TheVariants as expected;
 ghost use Rattle.sftp_model.specs.declared.request.Request.TheVariants as request;
 ghost use Rattle.plan_state.specs.Asked.{HoldsTicket, IsReady, SubmitsAsking};
-ghost use Rattle.plan_state.specs.declared.asking.Asking.TheVariants as asking;
+ghost use Rattle.plan_state.specs.declared.submission.Asking.TheVariants as asking;
 ghost use Rattle.sftp_fs_read.specs.Tickets.{AreTickets, IsAnswer, IsUnasked, core_without_tickets};
 
 use sftp_core::{Core, Polled, SubmitError, Ticket};

@@ -11,7 +11,7 @@ ghost use Rattle.sftp_lanes.specs.Events.{HandsHello, HandsQuery, HasFailed, IsR
 ghost use Rattle.session_work.specs.Working.{past_of};
 
 use crate::session::Session;
-use crate::telling::{offers_limits, query_entry, tell};
+use crate::server_report::{offers_limits, query_entry, tell};
 use session_driver::Phase;
 use session_model::{Entry, Event};
 use sftp_core::{Chunk, TakeError, Taken};

@@ -8,8 +8,8 @@ mod given;
 mod greeting;
 mod laws;
 mod report;
+mod server_report;
 mod session;
-mod telling;
 
 pub use driver::run_lanes;
 pub use laws::serving_links_keep_files;

@@ -12,7 +12,7 @@ mod logged;
 mod memory;
 mod memory_dial;
 mod piece;
-mod remaining;
+mod rest;
 mod scripted_link;
 mod stream;
 mod unix;

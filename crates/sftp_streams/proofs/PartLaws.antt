@@ -9,8 +9,8 @@ use Rattle.sftp_core.specs.Core.{Core, abandon_leaves, core_after_abandon, after
 use Rattle.sftp_core.proofs.Elsewhere.{abandon_phase, poll_phase}
 use Rattle.plan_state.specs.Asked.{HoldsTicket, SubmitsAsking}
 use Rattle.plan_state.specs.Keeping.{KeepsHeld, KeepsGrants}
-use Rattle.plan_state.specs.declared.asking.Asking.{Asking}
-use Rattle.plan_state.specs.declared.asking.Asking.TheVariants.{Whole, Parts}
+use Rattle.plan_state.specs.declared.submission.Asking.{Asking}
+use Rattle.plan_state.specs.declared.submission.Asking.TheVariants.{Whole, Parts}
 use Rattle.plan_state.proofs.Keeping.{grants_both, keeps_same}
 use Rattle.plan_state.proofs.OthersKept.{
   cancelled_keeps_grants,

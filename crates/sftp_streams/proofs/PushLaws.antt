@@ -8,7 +8,7 @@ use Rattle.sftp_core.specs.Core.{Core, write_of}
 use Rattle.plan_state.proofs.Keeping.{submitted_holds}
 use Rattle.plan_state.proofs.OthersKept.{submitted_keeps}
 use Rattle.plan_state.specs.Asked.{SubmitsAsking}
-use Rattle.plan_state.specs.declared.asking.Asking.TheVariants as asking
+use Rattle.plan_state.specs.declared.submission.Asking.TheVariants as asking
 use Rattle.sftp_file.proofs.BodyLens.{write_is_short}
 use Rattle.sftp_streams.specs.Uploads.{AsksWrite, MayPush, MayWrite, UploadValue, room_of, status_kind}
 use Rattle.sftp_streams.proofs.PartLaws.{apart_from, keeps_parts, last_awaited, last_count, last_len}

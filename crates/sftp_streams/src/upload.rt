@@ -6,7 +6,7 @@ ghost use Rattle.sftp_model.specs.declared.answers.Expected.TheVariants as expec
 ghost use Rattle.sftp_core.specs.Core.{Core as CoreValue};
 ghost use Rattle.sftp_core.specs.Info.{info_of};
 ghost use Rattle.plan_state.specs.Asked.{SubmitsAsking};
-ghost use Rattle.plan_state.specs.declared.asking.Asking.TheVariants as asking;
+ghost use Rattle.plan_state.specs.declared.submission.Asking.TheVariants as asking;
 ghost use Rattle.sftp_streams.specs.Parts.{AreAwaited, IsUnasked, KeepsOthersHeld, without_parts};
 ghost use Rattle.sftp_streams.specs.Uploads.{AsksWrite, BeginsUpload, IsAccepted, IsRefusedPush, IsWriting, MayPush, MayWrite, PollsUpload, room_of, status_kind};
 

@@ -4,7 +4,7 @@ use Rattle.std.specs.Int.RustNames.{bit_and}
 use Rattle.std.specs.Option.{option_map}
 use Rattle.std.specs.String.{string_bytes}
 use Rattle.sftp_model.specs.declared.file_attrs.FileAttrs.{FileAttrs}
-use Rattle.transfer_pool.specs.declared.running.CopyJob.{CopyJob}
+use Rattle.transfer_pool.specs.declared.copy_job.CopyJob.{CopyJob}
 use Rattle.transfer_plan.specs.Cuts.{part_of}
 use Rattle.transfer_plan.specs.declared.found.Found.{Found}
 use Rattle.transfer_args.specs.declared.asked.Direction.{Direction}

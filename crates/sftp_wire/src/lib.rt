@@ -4,22 +4,22 @@
 #![tactic(auto)]
 
 mod body;
+mod body_shapes;
+mod extension_bodies;
+mod field_readers;
 mod fields;
 mod frame_reader;
 mod head;
 mod measure;
 mod names;
-mod reading_extensions;
-mod reading_fields;
-mod reading_replies;
-mod reading_requests;
-mod reading_shapes;
+mod reply_bodies;
+mod request_bodies;
 mod write;
 
 pub use frame_reader::{FrameReader, Reservation};
 pub use head::write_request_head;
-pub use reading_replies::{read_limits, read_reply};
-pub use reading_requests::read_request;
+pub use reply_bodies::{read_limits, read_reply};
+pub use request_bodies::read_request;
 pub use sftp_model::{
     Choice, Content, Expected, Extensions, FileAttrs, FormatKind, FrameError, Handle, Limits,
     NameEntry, OpenFlags, RemotePath, Reply, Request, ServerConfig, TryCopy, frames_read_back,

@@ -9,8 +9,8 @@ ghost use Rattle.plan_state.specs.Keeping.{KeepsHeld};
 
 mod listing;
 mod names;
-mod reading;
-mod writing;
+mod whole_reads;
+mod whole_writes;
 
 use bytes::Bytes;
 pub(crate) use listing::unasked;

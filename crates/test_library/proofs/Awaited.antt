@@ -6,7 +6,7 @@ use Rattle.sftp_model.specs.declared.request.Request.{Request}
 use Rattle.sftp_core.specs.Core.{Core}
 use Rattle.plan_state.specs.Asked.{SubmitsAsking}
 use Rattle.plan_state.specs.Calls.{CallValue, IsHeldAt, IsUnderWay, is_ended}
-use Rattle.plan_state.specs.declared.asking.Asking.TheVariants.{Whole}
+use Rattle.plan_state.specs.declared.submission.Asking.TheVariants.{Whole}
 use Rattle.plan_state.specs.declared.stage.Stage.{Stage}
 use Rattle.plan_state.specs.declared.stage.Stage.TheVariants.{Asked}
 use Rattle.plan_state.proofs.Keeping.{submitted_holds}

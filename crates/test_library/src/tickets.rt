@@ -3,7 +3,7 @@ ghost use Rattle.std.specs.Prelude.{◌≡◌, false, IfOk, IsTrue};
 ghost use Rattle.sftp_core.specs.Core.{is_call};
 ghost use Rattle.plan_state.specs.Asked.{SubmitsAsking};
 ghost use Rattle.plan_state.specs.Calls.{IsUnderWay};
-ghost use Rattle.plan_state.specs.declared.asking.Asking.TheVariants.{Whole};
+ghost use Rattle.plan_state.specs.declared.submission.Asking.TheVariants.{Whole};
 
 use crate::scene::{PLAIN, exchange, greeted, may_ask};
 use plan_state::{Alone, PendingCall};

@@ -27,7 +27,7 @@ pub enum LinkAt<'a> {
 
 /// Files to copy.
 ///
-/// Used in `crates/transfer_args/src/reading.rt`.
+/// Used in `crates/transfer_args/src/parser.rt`.
 #[derive(Clone, Copy)]
 pub struct Transfer<'a> {
     /// The direction.
@@ -42,7 +42,7 @@ pub struct Transfer<'a> {
 
 /// A directory of the server whose names are to be written.
 ///
-/// Used in `crates/transfer_args/src/reading.rt`.
+/// Used in `crates/transfer_args/src/parser.rt`.
 #[derive(Clone, Copy)]
 pub struct Listing<'a> {
     /// `-l`: with types and sizes.
@@ -64,7 +64,7 @@ pub enum Work<'a> {
 
 /// The request of a command line: a server and the work to do there.
 ///
-/// Used in `crates/transfer_args/src/reading.rt`.
+/// Used in `crates/transfer_args/src/parser.rt`.
 #[derive(Clone, Copy)]
 pub struct Asked<'a> {
     /// The address of the server.

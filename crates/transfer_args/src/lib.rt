@@ -5,9 +5,9 @@ mod asked;
 mod misfit;
 mod numbers;
 mod options;
-mod reading;
+mod parser;
 
 pub use asked::{Asked, Direction, LinkAt, Listing, Transfer, Work};
 pub use misfit::{Misfit, misfit_of};
 pub use options::Options;
-pub use reading::read_words;
+pub use parser::read_words;

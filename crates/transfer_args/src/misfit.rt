@@ -1,6 +1,6 @@
 //! The reason why a command line can't be used.
 use crate::options::Counted;
-use crate::reading::{counted_by, link_at, options_by, plain_options, with_count, with_flag};
+use crate::parser::{counted_by, link_at, options_by, plain_options, with_count, with_flag};
 use std::fmt;
 
 /// The reason why a command line can't be used.

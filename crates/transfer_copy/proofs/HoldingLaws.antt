@@ -14,8 +14,8 @@ use Rattle.sftp_core.specs.Table.{asks_handle, handle_in_reply}
 use Rattle.sftp_core.proofs.Elsewhere.{poll_elsewhere, poll_phase, put_elsewhere}
 use Rattle.plan_state.specs.Asked.{HoldsTicket, SubmitsAsking, queued_by, request_of}
 use Rattle.plan_state.specs.Keeping.{KeepsHeld}
-use Rattle.plan_state.specs.declared.asking.Asking.{Asking}
-use Rattle.plan_state.specs.declared.asking.Asking.TheVariants.{Whole, Parts}
+use Rattle.plan_state.specs.declared.submission.Asking.{Asking}
+use Rattle.plan_state.specs.declared.submission.Asking.TheVariants.{Whole, Parts}
 use Rattle.plan_state.proofs.Keeping.{submitted_holds}
 use Rattle.plan_state.proofs.OthersKept.{polled_keeps_grants, polled_on, submitted_keeps}
 use Rattle.sftp_model.specs.declared.reply.Reply.TheVariants as reply

@@ -8,8 +8,8 @@ use Rattle.sftp_model.specs.declared.request.Request.TheVariants as request
 use Rattle.sftp_core.specs.Core.{Core}
 use Rattle.sftp_core.specs.Info.{info_of}
 use Rattle.plan_state.specs.Asked.{request_of}
-use Rattle.plan_state.specs.declared.asking.Asking.{Asking}
-use Rattle.plan_state.specs.declared.asking.Asking.TheVariants.{Whole, Parts}
+use Rattle.plan_state.specs.declared.submission.Asking.{Asking}
+use Rattle.plan_state.specs.declared.submission.Asking.TheVariants.{Whole, Parts}
 use Rattle.transfer_copy.specs.declared.copy_error.CopyError.{CopyError}
 use Rattle.transfer_copy.specs.declared.holding.PartAnswer.TheVariants as part_answer
 use Rattle.transfer_copy.specs.declared.progress.Progress.{Progress}

@@ -30,7 +30,7 @@ use Rattle.plan_model.specs.FilePlans.{open_request}
 use Rattle.sftp_core.specs.Core.{Core}
 use Rattle.sftp_core.specs.Grant.{GrantValue}
 use Rattle.plan_state.specs.Asked.{SubmitsAsking}
-use Rattle.plan_state.specs.declared.asking.Asking.TheVariants.{Whole}
+use Rattle.plan_state.specs.declared.submission.Asking.TheVariants.{Whole}
 use Rattle.transfer_copy.specs.Local.{Got, HasDone, LocalAct, Opened, reads_of}
 use Rattle.transfer_copy.specs.Acts.{end_acts}
 use Rattle.transfer_copy.specs.declared.holding.FileAnswer.TheVariants as file_answer

@@ -17,8 +17,8 @@ use Rattle.sftp_core.specs.Table.{asks_handle}
 use Rattle.sftp_core.specs.declared.id_record.IdRecord.{IdRecord}
 use Rattle.sftp_core.specs.declared.id_record.IdRecord.TheVariants.{Granted}
 use Rattle.plan_state.specs.Asked.{HoldsTicket, SubmitsAsking, request_of}
-use Rattle.plan_state.specs.declared.asking.Asking.{Asking}
-use Rattle.plan_state.specs.declared.asking.Asking.TheVariants.{Whole, Parts}
+use Rattle.plan_state.specs.declared.submission.Asking.{Asking}
+use Rattle.plan_state.specs.declared.submission.Asking.TheVariants.{Whole, Parts}
 use Rattle.transfer_copy.specs.declared.holding.FileAnswer.{FileAnswer}
 use Rattle.transfer_copy.specs.declared.holding.FileAnswer.TheVariants as file_answer
 use Rattle.transfer_copy.specs.declared.holding.FileHold.{FileHold}

@@ -8,7 +8,7 @@ ghost use Rattle.transfer_copy.specs.Holdings.{AsksFile, ClosesFile, DropsParts,
 ghost use Rattle.transfer_copy.specs.declared.holding.FileHold.{FileHold as FileValue};
 
 use crate::answers::{TicketAnswer, answer_to};
-use crate::asking::{submit, submit_write};
+use crate::submission::{submit, submit_write};
 use crate::copy_error::CopyError;
 use crate::refusals::{faulted, settled};
 use bytes::Bytes;

@@ -2,7 +2,6 @@
 #![tactic(auto)]
 
 mod answers;
-mod asking;
 mod copy_error;
 mod get;
 mod holding;
@@ -12,6 +11,7 @@ mod paths;
 mod progress;
 mod put;
 mod refusals;
+mod submission;
 
 pub use copy_error::CopyError;
 pub use get::{FileGet, GetStage};

@@ -8,7 +8,7 @@ ghost use Rattle.transfer_copy.specs.declared.put.PutStage.TheVariants as stage;
 ghost use Rattle.transfer_copy.specs.Holdings.{SparesIds, drops_file, drops_parts, nothing_held};
 ghost use Rattle.transfer_copy.specs.Puts.{AcceptsWrite, AsksAt, IsBehindWrite, IsOpenToWrite, IsPutting, MayPut, OpensPut, PutAsksAttrs, PutEndsSending, PutStepDid, PutFinishes, PutGivesUp, PutHasEnded, PutLeaves, PutReadsNext, PutSendsOn, StartsPut, PutWritesNext, WritesOn, put_begun, put_is_over, write_flags};
 
-mod naming;
+mod end;
 
 use crate::LocalFile;
 use crate::copy_error::CopyError;
@@ -24,7 +24,7 @@ use std::alloc::Global;
 
 /// The stage of a copy to the server.
 ///
-/// Used in `crates/transfer_copy/src/put/naming.rt`.
+/// Used in `crates/transfer_copy/src/put/end.rt`.
 #[derive(Clone, Copy, Debug, PartialEq, Eq)]
 pub enum PutStage {
     /// Nothing was asked.

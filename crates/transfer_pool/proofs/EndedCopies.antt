@@ -18,11 +18,11 @@ use Rattle.transfer_copy.specs.WholePuts.{IsPutLeg, SentWhole}
 use Rattle.transfer_copy.proofs.WholeGetSteps.{got_whole}
 use Rattle.transfer_copy.proofs.WholePutSteps.{sent_whole}
 use Rattle.transfer_pool.specs.declared.jobs.Wanted.{Wanted}
-use Rattle.transfer_pool.specs.declared.running.Copied.{Copied}
-use Rattle.transfer_pool.specs.declared.running.CopyJob.{CopyJob}
-use Rattle.transfer_pool.specs.declared.running.CopyState.{CopyState}
-use Rattle.transfer_pool.specs.declared.running.CopyState.TheVariants as state
-use Rattle.transfer_pool.specs.declared.running.Running.{Running}
+use Rattle.transfer_pool.specs.declared.copy_job.Copied.{Copied}
+use Rattle.transfer_pool.specs.declared.copy_job.CopyJob.{CopyJob}
+use Rattle.transfer_pool.specs.declared.copy_job.CopyState.{CopyState}
+use Rattle.transfer_pool.specs.declared.copy_job.CopyState.TheVariants as state
+use Rattle.transfer_pool.specs.declared.copy_job.Running.{Running}
 use Rattle.transfer_args.specs.declared.asked.Direction.{Direction}
 use Rattle.transfer_args.specs.declared.asked.Direction.TheVariants as way
 use Rattle.transfer_pool.specs.Copies.{CopyStepDid, NextEnded, Working, copy_begun, job_begun}

@@ -39,9 +39,9 @@ use Rattle.transfer_pool.specs.declared.jobs.Beginning.TheVariants as beginning
 use Rattle.transfer_pool.specs.declared.jobs.JobTurn.TheVariants as turn
 use Rattle.transfer_pool.specs.declared.jobs.Telling.TheVariants as telling
 use Rattle.transfer_pool.specs.declared.jobs.Wanted.{Wanted}
-use Rattle.transfer_pool.specs.declared.running.Copied.{Copied}
-use Rattle.transfer_pool.specs.declared.running.CopyJob.{CopyJob}
-use Rattle.transfer_pool.specs.declared.running.Running.{Running}
+use Rattle.transfer_pool.specs.declared.copy_job.Copied.{Copied}
+use Rattle.transfer_pool.specs.declared.copy_job.CopyJob.{CopyJob}
+use Rattle.transfer_pool.specs.declared.copy_job.Running.{Running}
 use Rattle.transfer_pool.specs.Copies.{AreTogether, CopierValue, NextEnded, SparesAll, WorkedOn, Working, WorksOnce, job_begun}
 use Rattle.transfer_pool.specs.Jobs.{
   BeginsJob,

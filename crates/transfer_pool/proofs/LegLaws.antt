@@ -15,11 +15,11 @@ use Rattle.transfer_copy.specs.Puts.{put_begun}
 use Rattle.transfer_copy.specs.WholeGets.{IsGetLeg}
 use Rattle.transfer_copy.specs.WholePuts.{IsPutLeg}
 use Rattle.transfer_pool.specs.declared.jobs.Wanted.{Wanted}
-use Rattle.transfer_pool.specs.declared.running.Copied.{Copied}
-use Rattle.transfer_pool.specs.declared.running.CopyJob.{CopyJob}
-use Rattle.transfer_pool.specs.declared.running.CopyState.{CopyState}
-use Rattle.transfer_pool.specs.declared.running.CopyState.TheVariants as state
-use Rattle.transfer_pool.specs.declared.running.Running.{Running}
+use Rattle.transfer_pool.specs.declared.copy_job.Copied.{Copied}
+use Rattle.transfer_pool.specs.declared.copy_job.CopyJob.{CopyJob}
+use Rattle.transfer_pool.specs.declared.copy_job.CopyState.{CopyState}
+use Rattle.transfer_pool.specs.declared.copy_job.CopyState.TheVariants as state
+use Rattle.transfer_pool.specs.declared.copy_job.Running.{Running}
 use Rattle.transfer_args.specs.declared.asked.Direction.{Direction}
 use Rattle.transfer_args.specs.declared.asked.Direction.TheVariants as way
 use Rattle.transfer_pool.specs.Copies.{CopyStepDid, TakesTurn, WorkedOn, Working}

@@ -13,8 +13,8 @@ use Rattle.transfer_pool.specs.Sessions.{IsGoing, TookTurn}
 use Rattle.transfer_pool.specs.declared.copier.Advance.TheVariants as advance
 use Rattle.transfer_pool.specs.declared.copier.CopierStep.{CopierStep}
 use Rattle.transfer_pool.specs.declared.copier.CopierStep.TheVariants as copier_step
-use Rattle.transfer_pool.specs.declared.running.Copied.{Copied}
-use Rattle.transfer_pool.specs.declared.running.Running.{Running}
+use Rattle.transfer_pool.specs.declared.copy_job.Copied.{Copied}
+use Rattle.transfer_pool.specs.declared.copy_job.Running.{Running}
 use Rattle.transfer_pool.specs.Copies.{AdvancesCopies, AreTogether, CopierSteps, NextEnded, StepsCopies, WorkedOn, Working}
 use Rattle.transfer_pool.proofs.TogetherLaws.{together_kept}
 

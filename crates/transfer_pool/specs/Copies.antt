@@ -40,11 +40,11 @@ use Rattle.transfer_pool.specs.declared.copier.Advance.{Advance}
 use Rattle.transfer_pool.specs.declared.copier.Advance.TheVariants as advance
 use Rattle.transfer_pool.specs.declared.copier.CopierStep.{CopierStep}
 use Rattle.transfer_pool.specs.declared.copier.CopierStep.TheVariants as copier_step
-use Rattle.transfer_pool.specs.declared.running.Copied.{Copied}
-use Rattle.transfer_pool.specs.declared.running.CopyJob.{CopyJob}
-use Rattle.transfer_pool.specs.declared.running.CopyState.{CopyState}
-use Rattle.transfer_pool.specs.declared.running.CopyState.TheVariants as state
-use Rattle.transfer_pool.specs.declared.running.Running.{Running}
+use Rattle.transfer_pool.specs.declared.copy_job.Copied.{Copied}
+use Rattle.transfer_pool.specs.declared.copy_job.CopyJob.{CopyJob}
+use Rattle.transfer_pool.specs.declared.copy_job.CopyState.{CopyState}
+use Rattle.transfer_pool.specs.declared.copy_job.CopyState.TheVariants as state
+use Rattle.transfer_pool.specs.declared.copy_job.Running.{Running}
 use Rattle.transfer_args.specs.declared.asked.Direction.{Direction}
 use Rattle.transfer_args.specs.declared.asked.Direction.TheVariants as way
 

@@ -5,9 +5,9 @@ use Rattle.sftp_link.specs.Views.{LinkView}
 use Rattle.sftp_client.specs.Sessions.{SftpValue}
 use Rattle.transfer_copy.specs.declared.copy_error.CopyError.{CopyError}
 use Rattle.transfer_copy.specs.Local.{LocalAct}
-use Rattle.transfer_pool.specs.declared.running.Copied.{Copied}
-use Rattle.transfer_pool.specs.declared.running.CopyJob.{CopyJob}
-use Rattle.transfer_pool.specs.declared.running.Running.{Running}
+use Rattle.transfer_pool.specs.declared.copy_job.Copied.{Copied}
+use Rattle.transfer_pool.specs.declared.copy_job.CopyJob.{CopyJob}
+use Rattle.transfer_pool.specs.declared.copy_job.Running.{Running}
 use Rattle.transfer_pool.specs.CopyLegs.{HasOwnLegs, done_legs}
 use Rattle.transfer_pool.specs.Jobs.{JobNote, JobsDone, Over, all_noted, given_in, jobs_at, over_in}
 

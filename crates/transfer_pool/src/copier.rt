@@ -5,8 +5,8 @@ ghost use Rattle.sftp_core.specs.Info.{info_of};
 ghost use Rattle.transfer_pool.specs.Copies.{AdvancesCopies, AreTogether, CopierSteps, NextEnded, SparesAll, job_begun};
 ghost use Rattle.transfer_pool.specs.Sessions.{IsGoing};
 
-use crate::running::{Copied, CopyJob, CopyState, Running};
-use crate::turning::turn_on;
+use crate::copy_job::{Copied, CopyJob, CopyState, Running};
+use crate::turn::turn_on;
 use sftp_client::Sftp;
 use sftp_core::Core;
 use sftp_link::Link;

@@ -6,7 +6,7 @@ ghost use Rattle.transfer_pool.specs.Sessions.{IsGoing};
 ghost use Rattle.transfer_pool.specs.Told.{CopiesAll};
 
 use crate::copier::Copier;
-use crate::running::{Copied, CopyJob};
+use crate::copy_job::{Copied, CopyJob};
 use sftp_client::Sftp;
 use sftp_link::Link;
 use ssh_encoding::OutOfMemory;

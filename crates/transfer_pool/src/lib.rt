@@ -2,16 +2,16 @@
 #![tactic(auto)]
 
 mod copier;
+mod copy_job;
 mod jobs;
-mod running;
-mod turning;
+mod turn;
 
 pub use copier::{Copier, CopierStep};
 pub use jobs::{CopyJobs, Wanted, copy_all};
-pub use running::{Copied, CopyJob, CopyState, Running};
+pub use copy_job::{Copied, CopyJob, CopyState, Running};
 pub use transfer_args::Direction;
 pub use transfer_copy::{CopyError, LocalError, LocalFile, Progress};
-pub use turning::turn;
+pub use turn::turn;
 
 #[cfg(test)]
 mod tests;

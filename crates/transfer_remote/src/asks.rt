@@ -5,7 +5,7 @@ ghost use Rattle.transfer_remote.specs.Awaits.{IsPlain};
 ghost use Rattle.transfer_pool.specs.Sessions.{IsGoing};
 ghost use Rattle.transfer_remote.specs.Runs.{FinishesCall, IsFree, IsLive};
 
-use crate::awaiting::await_call;
+use crate::wait::await_call;
 use crate::remote_error::RemoteError;
 use plan_state::{Alone, PendingCall};
 use sftp_client::Sftp;

@@ -2,10 +2,10 @@
 #![tactic(auto)]
 
 mod asks;
-mod awaiting;
 mod listing;
 mod paths;
 mod remote_error;
+mod wait;
 
 pub use listing::list_remote;
 pub use paths::{

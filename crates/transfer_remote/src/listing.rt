@@ -8,7 +8,7 @@ ghost use Rattle.transfer_remote.specs.Listed.{ListingTold, ClosedTold, FolderTo
 ghost use Rattle.transfer_remote.specs.Runs.{RunsCall};
 
 use crate::asks::{finish, plain_paths, ready};
-use crate::awaiting::await_call;
+use crate::wait::await_call;
 use crate::remote_error::RemoteError;
 use sftp_client::{Dir, DirEntry, ReadDir, Sftp};
 use sftp_file::Poll;

@@ -2,7 +2,7 @@ use Rattle.std.proofs.Common.{◌≡◌, ◌∙◌, ℕ, List, [], ◌∷◌, �
 use Rattle.sftp_model.specs.declared.request.Request.TheVariants as request
 use Rattle.sftp_core.specs.Core.{Core}
 use Rattle.plan_state.specs.Asked.{SubmitsAsking}
-use Rattle.plan_state.specs.declared.asking.Asking.TheVariants.{Whole as WholeRequest}
+use Rattle.plan_state.specs.declared.submission.Asking.TheVariants.{Whole as WholeRequest}
 use Rattle.sftp_fs_read.specs.Tickets.{AreTickets}
 use Rattle.sftp_fs_read.proofs.FsReadLaws.{asked_failed, asked_pending, asked_short, more_owned, more_tickets}
 use Rattle.sftp_fs_read.proofs.TicketLaws.{read_tickets}

@@ -1,6 +1,6 @@
 use Rattle.std.proofs.Common.{Ok, subst}
 use Rattle.std.specs.Prelude.{Option}
-use Rattle.transfer_pool.specs.declared.running.Copied.{Copied}
+use Rattle.transfer_pool.specs.declared.copy_job.Copied.{Copied}
 use Rattle.transfer_pool.specs.Copies.{NextEnded}
 use Rattle.transfer_pool.proofs.jobs.tell_next.Goals as goal
 

@@ -2,7 +2,7 @@ use Rattle.std.proofs.Common.{rules, ◌≡◌, ◌==◌, arith, false}
 use Rattle.std.specs.Prelude.{min}
 use Rattle.std.proofs.lemmas.Bool.Decides.{nat_tests}
 use Rattle.sftp_model.specs.declared.request.Request.TheVariants as request
-use Rattle.plan_state.specs.declared.asking.Asking.TheVariants.{Whole}
+use Rattle.plan_state.specs.declared.submission.Asking.TheVariants.{Whole}
 use Rattle.plan_model.specs.TransferPlans.{read_next}
 use Rattle.sftp_file.specs.Files.{alone, facts_of}
 use Rattle.sftp_file.specs.Reads.{read_meaning}

@@ -1,5 +1,5 @@
 use Rattle.std.proofs.Common.{◌≡◌, refl, subst, Option, Some, Ok, rules}
-use Rattle.plan_state.specs.declared.asking.Asking.{Asking}
+use Rattle.plan_state.specs.declared.submission.Asking.{Asking}
 use Rattle.plan_state.proofs.Keeping.{keeps_same}
 use Rattle.plan_model.specs.TransferPlans.{read_all_next}
 use Rattle.sftp_file.specs.Files.{facts_of}

@@ -1,7 +1,7 @@
 use Rattle.std.proofs.Common.{◌≡◌, ◌∙◌, ap, subst, Option, Some, Ok, rules}
 use Rattle.sftp_model.specs.declared.reply.Reply.{Reply}
 use Rattle.sftp_model.specs.declared.reply.Reply.TheVariants as reply
-use Rattle.plan_state.specs.declared.asking.Asking.{Asking}
+use Rattle.plan_state.specs.declared.submission.Asking.{Asking}
 use Rattle.plan_state.specs.Told.{reply_of}
 use Rattle.sftp_file.specs.Gathers.{IsNextRead, after_data, next_read}
 use Rattle.sftp_file.proofs.GatherLaws.{MovesAs, gathers_behind, gathers_refused}

@@ -1,6 +1,6 @@
 use Rattle.std.proofs.Common.{rules, subst, [], ◌∷◌}
 use Rattle.plan_state.specs.Asked.{SubmitsAsking}
-use Rattle.plan_state.specs.declared.asking.Asking.TheVariants as asking
+use Rattle.plan_state.specs.declared.submission.Asking.TheVariants as asking
 use Rattle.sftp_streams.specs.Uploads.{UploadValue}
 use Rattle.sftp_streams.proofs.PushLaws.{pushed}
 use Rattle.sftp_streams.proofs.upload.Upload.ask.Goals as goal

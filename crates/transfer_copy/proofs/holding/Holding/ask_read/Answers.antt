@@ -1,6 +1,6 @@
 use Rattle.std.proofs.Common.{rules, refl}
 use Rattle.plan_state.specs.Asked.{SubmitsAsking}
-use Rattle.plan_state.specs.declared.asking.Asking.TheVariants.{Whole}
+use Rattle.plan_state.specs.declared.submission.Asking.TheVariants.{Whole}
 use Rattle.sftp_model.specs.declared.request.Request.TheVariants as request
 use Rattle.transfer_copy.specs.Holdings.{AsksForRead, file_handle}
 use Rattle.transfer_copy.proofs.HoldingLaws.{part_asked}

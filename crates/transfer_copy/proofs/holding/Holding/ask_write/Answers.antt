@@ -1,6 +1,6 @@
 use Rattle.std.proofs.Common.{rules, refl, [], ◌∷◌}
 use Rattle.plan_state.specs.Asked.{SubmitsAsking}
-use Rattle.plan_state.specs.declared.asking.Asking.TheVariants.{Parts}
+use Rattle.plan_state.specs.declared.submission.Asking.TheVariants.{Parts}
 use Rattle.transfer_copy.specs.Holdings.{AsksForWrite, file_handle}
 use Rattle.transfer_copy.proofs.HoldingLaws.{part_asked}
 use Rattle.transfer_copy.proofs.holding.Holding.ask_write.Goals as goal

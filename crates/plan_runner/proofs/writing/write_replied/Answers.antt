@@ -1,6 +1,0 @@
-use Rattle.std.proofs.Common.{arith, rules}
-use Rattle.plan_runner.proofs.Fewer.{fewer_file}
-use Rattle.plan_runner.proofs.writing.write_replied.Goals as goal
-
-pub returns : goal.returns
-returns c = record { gives = search rules; sound = λ facts. search rules; fewer = grind (arith, fewer_file) }

@@ -1,5 +1,0 @@
-use Rattle.run_laws.proofs.DeferredLaws.{deferred_writes}
-use Rattle.run_laws.proofs.reading.deferred_writes_are_joined.Goals as goal
-
-pub returns : goal.returns
-returns c = deferred_writes

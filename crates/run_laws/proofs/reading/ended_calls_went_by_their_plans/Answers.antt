@@ -1,5 +1,0 @@
-use Rattle.run_laws.proofs.JournalCalls.{ended_calls}
-use Rattle.run_laws.proofs.reading.ended_calls_went_by_their_plans.Goals as goal
-
-pub returns : goal.returns
-returns c = ended_calls

@@ -1,5 +1,0 @@
-use Rattle.run_laws.proofs.BufferLaws.{flushed_writes}
-use Rattle.run_laws.proofs.reading.flushed_writes_are_in_the_file.Goals as goal
-
-pub returns : goal.returns
-returns c = flushed_writes

@@ -1,5 +1,0 @@
-use Rattle.run_laws.proofs.StepLaws.{steps_node, steps_bytes}
-use Rattle.run_laws.proofs.reading.spared_names_stay.Goals as goal
-
-pub returns : goal.returns
-returns c = record { node = steps_node; bytes = steps_bytes }

@@ -1,5 +1,0 @@
-use Rattle.ssh_encoding.specs.Exact.{string_exact}
-use Rattle.sftp_wire.proofs.reading_fields.text.Goals as goal
-
-pub returns-clause-short : goal.returns-clause-short
-returns-clause-short g c = ((string_exact _ _ _).takes c.in_ok-decode.ensures.read).is.small
