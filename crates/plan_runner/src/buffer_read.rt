@@ -14,8 +14,8 @@ ghost use Rattle.plan_runner.specs.Pending.{PendsAfter, pends_idle};
 ghost use Rattle.plan_runner.specs.Asking.{BeginsAsking};
 
 use crate::buffer_seek::{after_first, rebuffer};
-use crate::read_all_call::no_bytes;
 use crate::next::{Asked, Next, Running};
+use crate::read_all_call::no_bytes;
 use crate::replies::{refused, status_refusal};
 use crate::site::{set_slot, slot_of, take_slot};
 use sftp_model::numbers::SSH_FX_EOF;

@@ -9,8 +9,8 @@ ghost use Rattle.plan_runner.specs.Seeks.{with_buffer_at, sought_bytes};
 ghost use Rattle.plan_runner.specs.Sound.{KeepsSite};
 ghost use Rattle.plan_runner.specs.Pending.{AwaitsNoMore};
 
-use crate::read_all_call::no_bytes;
 use crate::local_calls::sought;
+use crate::read_all_call::no_bytes;
 use crate::replies::refused;
 use crate::site::{set_slot, slot_of, take_slot};
 use sftp_model::{Buffer, FileAt, Outcome, Site, Slot};

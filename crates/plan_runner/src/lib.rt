@@ -7,15 +7,15 @@ mod buffer_read;
 mod buffer_seek;
 mod buffer_write;
 mod close_call;
-mod file_calls;
-mod read_all_call;
 mod continuation;
+mod file_calls;
 mod laws;
 mod local_calls;
 mod next;
 mod open_call;
 mod own;
 mod path_calls;
+mod read_all_call;
 mod read_call;
 mod replies;
 mod single;
@@ -30,9 +30,8 @@ pub use buffer_read::begin_buf_read;
 pub use buffer_seek::begin_buf_seek;
 pub use buffer_write::{begin_buf_write, begin_buf_write_all};
 pub use close_call::begin_close;
-pub use file_calls::{begin_copy, begin_meta, begin_set_len, begin_set_perm, begin_sync};
-pub use read_all_call::{begin_read_all, read_rest};
 pub use continuation::go_on;
+pub use file_calls::{begin_copy, begin_meta, begin_set_len, begin_set_perm, begin_sync};
 pub use laws::{
     calls_go_on_by_awaited_replies, cancelled_calls_leave_by_awaited_replies,
     cancelled_flushes_take_oldest_first, own_calls_leave_their_site,
@@ -44,6 +43,7 @@ pub use path_calls::{
     begin_canonicalize, begin_hard_link, begin_lstat, begin_mkdir, begin_read_link, begin_remove,
     begin_rename, begin_rmdir, begin_set_stat, begin_stat, begin_symlink,
 };
+pub use read_all_call::{begin_read_all, read_rest};
 pub use read_call::begin_read;
 pub use replies::is_good;
 pub use whole::{begin_fs_write, begin_list};

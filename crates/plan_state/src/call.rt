@@ -12,10 +12,10 @@ ghost use Rattle.plan_state.specs.Keeping.{KeepsHeld};
 ghost use Rattle.plan_state.specs.Runners.{GoesBehind, MayAsk};
 ghost use Rattle.plan_state.specs.Told.{reply_of};
 
-use crate::submission::{Asking, Unsubmitted, refusal, submit};
 use crate::poll::Poll;
 use crate::runner::{PlanRunner, Then};
 use crate::stage::Stage;
+use crate::submission::{Asking, Unsubmitted, refusal, submit};
 use crate::told::{Told, Untold, take_told};
 use sftp_core::{Core, Ended, Ticket};
 use sftp_model::Error;

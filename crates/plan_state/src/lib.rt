@@ -10,10 +10,10 @@ mod stage;
 mod submission;
 mod told;
 
-pub use submission::Asking;
 pub use call::{Alone, PendingCall};
 pub use laws::{calls_keep_what_is_held, cancelled_opens_are_closed, others_keep_what_they_hold};
 pub use poll::Poll;
 pub use runner::{PlanRunner, Then};
 pub use stage::Stage;
+pub use submission::Asking;
 pub use told::Told;

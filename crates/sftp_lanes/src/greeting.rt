@@ -10,8 +10,8 @@ ghost use Rattle.session_driver.specs.Refusals.{refuses, refuses_hello};
 ghost use Rattle.sftp_lanes.specs.Events.{HandsHello, HandsQuery, HasFailed, IsRefused, TakesLimits, TakesVersion};
 ghost use Rattle.session_work.specs.Working.{past_of};
 
-use crate::session::Session;
 use crate::server_report::{offers_limits, query_entry, tell};
+use crate::session::Session;
 use session_driver::Phase;
 use session_model::{Entry, Event};
 use sftp_core::{Chunk, TakeError, Taken};

@@ -5,9 +5,9 @@ ghost use Rattle.sftp_model.specs.declared.request.Request.TheVariants as reques
 ghost use Rattle.sftp_model.specs.RequestReadings.{two_texts_at, one_text_at, copy_data_at, extension_fields_at, handles_of_request};
 ghost use Rattle.sftp_wire.specs.Reading.{GivesBody, after_id, to_end};
 
-use crate::names;
-use crate::field_readers::{finished, handle_of, long, text};
 use crate::body_shapes::{one_handle, one_path, two_paths};
+use crate::field_readers::{finished, handle_of, long, text};
+use crate::names;
 use sftp_model::{FormatKind, FrameError, Request, numbers};
 use ssh_encoding::Reader;
 use std::alloc::Global;

@@ -6,8 +6,8 @@ ghost use Rattle.sftp_model.specs.Frames.{extension_table};
 ghost use Rattle.sftp_model.specs.ReplyReadings.{version_at, status_at, handle_at, content_at, entry_at, entries_at, names_at, attrs_at, extended_at, handles_of_reply, reply_at, limits_at};
 ghost use Rattle.sftp_wire.specs.Reading.{ReadsField, GivesBody, to_end};
 
-use crate::names;
 use crate::field_readers::{attributes, finished, handle_of, long, number, shared_text, text};
+use crate::names;
 use bitflags::Flags;
 use sftp_model::{
     Extensions, FormatKind, FrameError, Limits, NameEntry, RemotePath, Reply, numbers,

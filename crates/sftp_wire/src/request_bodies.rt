@@ -6,9 +6,9 @@ ghost use Rattle.sftp_model.specs.Readings.{without_id};
 ghost use Rattle.sftp_model.specs.RequestReadings.{init_at, open_at, read_at, write_at, one_text_at, two_texts_at, text_and_attributes_at, handles_of_request, request_at, extended_request_at};
 ghost use Rattle.sftp_wire.specs.Reading.{GivesBody, after_id, to_end};
 
+use crate::body_shapes::{one_handle, one_path, path_and_attributes, two_paths};
 use crate::extension_bodies::extension;
 use crate::field_readers::{attributes, finished, handle_of, long, number, shared_text, text};
-use crate::body_shapes::{one_handle, one_path, path_and_attributes, two_paths};
 use bitflags::Flags;
 use bytes::Bytes;
 use sftp_model::{Content, FormatKind, FrameError, OpenFlags, RemotePath, Request, numbers};

@@ -8,9 +8,9 @@ ghost use Rattle.transfer_copy.specs.Holdings.{AsksFile, ClosesFile, DropsParts,
 ghost use Rattle.transfer_copy.specs.declared.holding.FileHold.{FileHold as FileValue};
 
 use crate::answers::{TicketAnswer, answer_to};
-use crate::submission::{submit, submit_write};
 use crate::copy_error::CopyError;
 use crate::refusals::{faulted, settled};
+use crate::submission::{submit, submit_write};
 use bytes::Bytes;
 use sftp_core::{Core, Grant, Ticket};
 use sftp_model::{Expected, Fault, FileAttrs, Reply, Request};

@@ -7,8 +7,8 @@ mod jobs;
 mod turn;
 
 pub use copier::{Copier, CopierStep};
-pub use jobs::{CopyJobs, Wanted, copy_all};
 pub use copy_job::{Copied, CopyJob, CopyState, Running};
+pub use jobs::{CopyJobs, Wanted, copy_all};
 pub use transfer_args::Direction;
 pub use transfer_copy::{CopyError, LocalError, LocalFile, Progress};
 pub use turn::turn;

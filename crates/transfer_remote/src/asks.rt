@@ -5,8 +5,8 @@ ghost use Rattle.transfer_remote.specs.Awaits.{IsPlain};
 ghost use Rattle.transfer_pool.specs.Sessions.{IsGoing};
 ghost use Rattle.transfer_remote.specs.Runs.{FinishesCall, IsFree, IsLive};
 
-use crate::wait::await_call;
 use crate::remote_error::RemoteError;
+use crate::wait::await_call;
 use plan_state::{Alone, PendingCall};
 use sftp_client::Sftp;
 use sftp_core::MAX_IDS;

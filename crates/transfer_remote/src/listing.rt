@@ -8,8 +8,8 @@ ghost use Rattle.transfer_remote.specs.Listed.{ListingTold, ClosedTold, FolderTo
 ghost use Rattle.transfer_remote.specs.Runs.{RunsCall};
 
 use crate::asks::{finish, plain_paths, ready};
-use crate::wait::await_call;
 use crate::remote_error::RemoteError;
+use crate::wait::await_call;
 use sftp_client::{Dir, DirEntry, ReadDir, Sftp};
 use sftp_file::Poll;
 use sftp_link::Link;
