@@ -91,6 +91,9 @@ impl SharedMap {
     }
 }
 
+/// The most bytes that one send takes, and so the most that are copied for a piece of the log.
+const PIECE: usize = 16384;
+
 /// Adds a piece to a log that has room for it.
 fn add_piece(log: &mut Vec<Piece>, piece: Piece)
     requires { vec_len log.old < vec_capacity log.old }
@@ -150,16 +153,18 @@ impl<R: Wait> LinkOut for MapOut<R> {
         requires some { 0 < length bytes.now }
         ensures sends { HasSent (Unit {0}) bytes.now (half_view self.old) (half_view self.new) result }
     {
-        let mut copy = Vec::from_slice(self.alloc, bytes)?;
+        let part = &bytes[..bytes.len().min(PIECE)];
+        let mut copy = Vec::from_slice(self.alloc, part)?;
         self.log.reserve(1)?;
         let mut server = self.server.lock(&self.rt);
-        let sent = send_to(&mut *server, bytes);
+        let sent = send_to(&mut *server, part);
         drop(server);
         let n = match sent {
             Ok(n) => n,
             Err(OutOfMemory) => return Err(DeviceError::OutOfMemory),
         };
         copy.truncate(n);
+        copy.shrink_to_fit();
         add_piece(&mut self.log, Piece::Sent(ByteText::new(copy)));
         Ok(n)
     }
@@ -186,6 +191,7 @@ impl<R: Wait> LinkIn for MapIn<R> {
             Err(OutOfMemory) => return Err(DeviceError::OutOfMemory),
         };
         copy.extend_from_slice(&room[..n]).unwrap();
+        copy.shrink_to_fit();
         add_piece(&mut self.log, Piece::Got(ByteText::new(copy)));
         self.ended = n == 0;
         Ok(n)
