@@ -58,7 +58,8 @@ use Rattle.session_model.proofs.CountLaws.{count_same, count_one, count_some}
 use Rattle.session_model.proofs.GrantLaws.{any_where}
 use Rattle.session_model.proofs.HolderLaws.{may_of, got_more, ending}
 use Rattle.session_model.proofs.LetGoLaws.{settled_each, granted_below}
-use Rattle.session_model.proofs.OverLaws.{runs_are_journals, runs_are_over, runs_settle}
+use Rattle.session_model.proofs.OverLaws.{runs_are_journals, runs_are_over}
+use Rattle.session_model.proofs.SettledLaws.{journals_settle}
 use Rattle.session_model.proofs.PlannedLaws.{held_less}
 use Rattle.session_model.proofs.RequestLaws.{sent_asked, answer_beyond, answer_new, answer_other}
 
@@ -140,23 +141,28 @@ over_unheld s past g j over =
       | inr asks ↦ asker_called s past w (count_ended past w) g j asks idle.0
     ])
 
--- ---- whole runs
+-- ---- where the session is over
 
-run_closed : (s : Setting) (turns : List Turn) (past : List Entry) (g : ℕ) → IsRun s turns past → is_grant past g ≡ true
+over_closed : (s : Setting) (past : List Entry) (g : ℕ) → IsJournal s past → IsOver s past → is_grant past g ≡ true
     → is_one_of (closed_grants s past) g ≡ true
-run_closed s turns past g run granted =
-    let unheld : is_held s past g ≡ false = over_unheld s past g (runs_are_journals s turns past run)
-    (runs_are_over s turns past run) in
+over_closed s past g j over granted =
+    let unheld : is_held s past g ≡ false = over_unheld s past g j over in
     not-false (is_one_of (closed_grants s past) g) (rw (granted, unheld) at
-    (settled_each s past g (runs_settle s turns past run)))
+    (settled_each s past g (journals_settle s past j over.1.0)))
+
+-- where the session is over each grant has one CLOSE
+pub over_closed_exactly : (s : Setting) (past : List Entry) (g : ℕ) → IsJournal s past → IsOver s past
+    → is_grant past g ≡ true → closes_of s past g ≡ 1
+over_closed_exactly s past g j over granted =
+    let most : closes_of s past g ≤ 1 = closed_once s past g j in
+    let least : 1 ≤ closes_of s past g = some_counted (closed_grants s past) g (over_closed s past g j over granted)
+    in omega arith
 
 -- behind a whole run each grant has one CLOSE
 pub closed_exactly : (s : Setting) (turns : List Turn) (past : List Entry) (g : ℕ) → IsRun s turns past
     → is_grant past g ≡ true → closes_of s past g ≡ 1
-closed_exactly s turns past g run granted =
-    let most : closes_of s past g ≤ 1 = closed_once s past g (runs_are_journals s turns past run) in
-    let least : 1 ≤ closes_of s past g = some_counted (closed_grants s past) g (run_closed s turns past g run granted)
-    in omega arith
+closed_exactly s turns past g run = over_closed_exactly s past g (runs_are_journals s turns past run)
+    (runs_are_over s turns past run)
 
 -- ---- handles
 
@@ -262,17 +268,22 @@ pub handles_most : (s : Setting) (past : List Entry) (handle : List ℕ) → IsJ
     → times handle (closed_handles past) ≤ times handle (granted_handles past)
 handles_most s past handle j = let sum = balance s past handle j in omega (arith, sum)
 
--- behind a whole run each handle was closed as often as it was granted
-pub handles_closed : (s : Setting) (turns : List Turn) (past : List Entry) → IsRun s turns past → AreClosed past
-handles_closed s turns past run handle =
+-- where the session is over each handle was closed as often as it was granted
+pub over_handles_closed : (s : Setting) (past : List Entry) → IsJournal s past → IsOver s past → AreClosed past
+over_handles_closed s past j over handle =
     let all : (k : ℕ) → is_open s past handle k ≡ true → ⊥ = λ k h.
     (let p = and_parts (not (is_one_of (closed_grants s past) k)) (brings handle (answer past k)) h in
     both_ways (is_one_of (closed_grants s past) k) (not-true (is_one_of (closed_grants s past) k) p.0)
-    (run_closed s turns past k run (brings_grant handle (answer past k) p.1))) in
+    (over_closed s past k j over (brings_grant handle (answer past k) p.1))) in
     let none : count_below (is_open s past handle) (count_submitted past) ≡ 0 =
     elim (cases_eq (count_below (is_open s past handle) (count_submitted past)) 0) [
       | inl is ↦ is
       | inr ne ↦ (let some = count_some (is_open s past handle) (count_submitted past) (omega (arith, ne)) in
           absurd (all some.0 some.1.1))
     ] in
-    let sum = balance s past handle (runs_are_journals s turns past run) in omega (arith, sum, none)
+    let sum = balance s past handle j in omega (arith, sum, none)
+
+-- behind a whole run each handle was closed as often as it was granted
+pub handles_closed : (s : Setting) (turns : List Turn) (past : List Entry) → IsRun s turns past → AreClosed past
+handles_closed s turns past run = over_handles_closed s past (runs_are_journals s turns past run)
+    (runs_are_over s turns past run)

@@ -13,6 +13,7 @@ pub mod PlannedLaws
 pub mod CallsSoFar
 pub mod RequestLaws
 pub mod RunLaws
+mod SettledLaws
 pub mod WholeRunLaws
 mod NoRuns
 pub mod WithinLaws

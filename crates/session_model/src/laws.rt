@@ -67,20 +67,24 @@ pub fn letting_go_settles()
         → IsSettled s now }
 {}
 
-/// Each grant has at most one CLOSE. If it has one, the grant came by a HANDLE and nothing holds it any more. After a
-/// whole run each grant has one.
+/// Each grant has at most one CLOSE. If it has one, the grant came by a HANDLE and nothing holds it any more. Once a
+/// session is over, and so after a whole run, each grant has one.
 pub fn grants_are_closed_once()
     ensures once { (s : Setting) (past : List Entry) (g : ℕ) → IsJournal s past → closes_of s past g ≤ 1 }
     ensures granted { (s : Setting) (past : List Entry) (g : ℕ) → IsJournal s past
         → is_one_of (closed_grants s past) g ≡ true → (is_grant past g ≡ true) × (is_held s past g ≡ false) }
+    ensures over { (s : Setting) (past : List Entry) (g : ℕ) → IsJournal s past → IsOver s past
+        → is_grant past g ≡ true → closes_of s past g ≡ 1 }
     ensures all { (s : Setting) (turns : List Turn) (past : List Entry) (g : ℕ) → IsRun s turns past
         → is_grant past g ≡ true → closes_of s past g ≡ 1 }
 {}
 
-/// No handle was closed more often than it was granted, and after a whole run each was closed exactly as often.
+/// No handle was closed more often than it was granted. Once a session is over, and so after a whole run, each was
+/// closed exactly as often.
 pub fn handles_are_closed()
     ensures so_far { (s : Setting) (past : List Entry) (handle : List ℕ) → IsJournal s past
         → times handle (closed_handles past) ≤ times handle (granted_handles past) }
+    ensures over { (s : Setting) (past : List Entry) → IsJournal s past → IsOver s past → AreClosed past }
     ensures all { (s : Setting) (turns : List Turn) (past : List Entry) → IsRun s turns past → AreClosed past }
 {}
 
