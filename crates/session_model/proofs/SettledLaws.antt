@@ -61,6 +61,7 @@ lets_go s (entry.Event (Submit owner.Close id r) ∷ past) j = closing (lets_go 
     due = was_due (last_cancel past) (next_due s past) (MayCome s past (entry.Event (Submit owner.Close id r)))
         (λ g. MustClose past g (entry.Event (Submit owner.Close id r)))
         (λ l. entry.Event (Submit owner.Close id r) ≡ cancelled_end past l) (j.0) (λ none. none) (λ l e. cc e)
+
     closing : (letting_go s past ≡ None) ⊎ LetsGo s past
         → (letting_go s past ≡ None) ⊎ LetsGo s (entry.Event (Submit owner.Close id r) ∷ past)
     closing (inl none) = inl none
