@@ -1,4 +1,4 @@
--- Behind a whole run all requests were sent.
+-- Where each request has its reply, as behind a whole run, all were sent.
 use Rattle.std.proofs.Common.{
   ◌≡◌,
   ◌≢◌,
@@ -100,8 +100,13 @@ sent_all s past n (r ∷ requests) j none le known =
     r.0 none (omega (arith, lt, le))) in
     (answered_sent s past r.0 got.0 j got.1, sent_all s past n requests j none le known.1)
 
+-- where each request has its reply, each was sent
+pub answered_run_sent : (s : Setting) (past : List Entry) (lane call : ℕ) → IsJournal s past → count_unanswered past ≡ 0
+    → AreBelow (count_sent past) (own past lane call)
+answered_run_sent s past lane call j none = sent_all s past (count_submitted past) (own past lane call) j none
+    (omega arith) (own_listed past lane call).1
+
 pub whole_run_sent : (s : Setting) (turns : List Turn) (past : List Entry) (lane call : ℕ) → IsRun s turns past
     → AreBelow (count_sent past) (own past lane call)
-whole_run_sent s turns past lane call run =
-    sent_all s past (count_submitted past) (own past lane call) (runs_are_journals s turns past run)
-    (runs_are_over s turns past run).2 (omega arith) (own_listed past lane call).1
+whole_run_sent s turns past lane call run = answered_run_sent s past lane call (runs_are_journals s turns past run)
+    (runs_are_over s turns past run).2

@@ -11,7 +11,7 @@ ghost use Rattle.session_model.specs.declared.event.Event.TheVariants.{Submit};
 ghost use Rattle.session_model.specs.declared.event.Owner.{Owner};
 ghost use Rattle.session_model.specs.Calls.{Setting};
 ghost use Rattle.session_model.specs.Journals.{IsJournal};
-ghost use Rattle.session_model.specs.Readings.{AskedRequest, answer, asked_at, own, count_sent};
+ghost use Rattle.session_model.specs.Readings.{AskedRequest, answer, asked_at, count_sent, count_unanswered, own};
 ghost use Rattle.session_model.specs.Runs.{IsRun};
 ghost use Rattle.session_model.specs.declared.turn.Turn.{Turn};
 ghost use Rattle.run_laws.specs.InJournals.{AreBelow};
@@ -48,8 +48,10 @@ pub fn served_requests_use_grants()
         → UseGrants (answer past) (grant_at s past) [] run.steps }
 {}
 
-/// After a whole run each request of a call was sent.
+/// In a run so far where each request has its reply, and so after a whole run, each request of a call was sent.
 pub fn requests_of_whole_runs_were_sent()
-    ensures { (s : Setting) (turns : List Turn) (past : List Entry) (lane call : ℕ) → IsRun s turns past
+    ensures answered { (s : Setting) (past : List Entry) (lane call : ℕ) → IsJournal s past
+        → count_unanswered past ≡ 0 → AreBelow (count_sent past) (own past lane call) }
+    ensures whole { (s : Setting) (turns : List Turn) (past : List Entry) (lane call : ℕ) → IsRun s turns past
         → AreBelow (count_sent past) (own past lane call) }
 {}
