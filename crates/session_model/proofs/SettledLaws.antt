@@ -1,5 +1,6 @@
 -- In a run so far where no CLOSE is due, no grant at all is to be closed.
-use Rattle.std.proofs.Common.{◌≡◌, ◌≢◌, ◌∙◌, ◌⊎◌, ℕ, List, [], ◌∷◌, Option, Some, None, refl, sym, ap, inl, inr}
+use Rattle.std.proofs.Common.{◌≡◌, ◌∙◌, ℕ, List, [], ◌∷◌, Option, Some, None, MatchOption, refl, sym, inl, inr}
+use Rattle.std.specs.Prelude.{◌⊎◌}
 use Rattle.session_model.specs.declared.event.Owner.TheVariants as owner
 use Rattle.session_model.specs.declared.event.Event.TheVariants.{Submit, End}
 use Rattle.session_model.specs.declared.entry.Entry.{Entry}
