@@ -148,7 +148,7 @@ over_closed : (s : Setting) (past : List Entry) (g : ℕ) → IsJournal s past �
 over_closed s past g j over granted =
     let unheld : is_held s past g ≡ false = over_unheld s past g j over in
     not-false (is_one_of (closed_grants s past) g) (rw (granted, unheld) at
-    (settled_each s past g (journals_settle s past j over.1.0)))
+    (settled_each s past g (journals_settle s past j over.1)))
 
 -- where the session is over each grant has one CLOSE
 pub over_closed_exactly : (s : Setting) (past : List Entry) (g : ℕ) → IsJournal s past → IsOver s past

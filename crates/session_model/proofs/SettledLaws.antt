@@ -53,7 +53,7 @@ lets_go s (entry.LetGo lane ∷ past) j =
       before = past;
       lane = lane;
       settled = settled_by s past (lets_go s past j.1) may.0;
-      idle = may.1.1.0;
+      idle = may.1.1;
       closes = inl refl;
     })
 lets_go s (entry.Event (Submit owner.Close id r) ∷ past) j = closing (lets_go s past j.1)
