@@ -41,6 +41,7 @@ use Rattle.session_model.specs.Calls.{Setting}
 use Rattle.session_model.specs.Grants.{next_due}
 use Rattle.session_model.specs.Journals.{IsJournal, MayCome}
 use Rattle.session_model.specs.Readings.{count_below, last_cancel, count_unanswered, was_let_go}
+use Rattle.session_model.proofs.AllClosedLaws.{over_handles_closed}
 use Rattle.session_model.proofs.CallLaws.{next_by, next_take}
 use Rattle.session_model.proofs.CountLaws.{count_one, unanswered_submit, unanswered_take}
 use Rattle.plan_model.specs.declared.call.Lane.{Lane}
@@ -156,10 +157,10 @@ each f (suc n) e k lt = by_test (f n) refl e (λ full small. each f n full k sma
 -- ---- both
 
 pub ended : (s : Setting) (journal past : List Entry) (lanes : ℕ) → reverse journal ≡ past → IsJournal s past
-    → length s.lanes ≡ lanes
+    → next_due s past ≡ None → length s.lanes ≡ lanes
     → (list_all is_handed_in journal && (length (filter is_submit journal) == length (filter is_take journal))
     && (length (filter is_let_go journal) == lanes)) ≡ true → IsEnded lanes (reverse journal)
-ended s journal past lanes is j long looks =
+ended s journal past lanes is j due long looks =
     let outer = and_parts (list_all is_handed_in journal && (length (filter is_submit journal) == length
     (filter is_take journal)))
     (length (filter is_let_go journal) == lanes) looks in
@@ -173,10 +174,17 @@ ended s journal past lanes is j long looks =
     let all : length (filter is_let_go journal) ≡ lanes = grind (outer.1, arith) in
     let b = balance s (reverse journal) k in
     let g = gone s (reverse journal) k in
+    let full : count_below (was_let_go (reverse journal)) (length s.lanes) ≡ length s.lanes =
+    omega (arith, g, went, all, long) in
+    let answered : count_unanswered (reverse journal) ≡ 0 = omega (arith, b, submitted, taken, same) in
     record {
-      let_go = λ lane lt. each (was_let_go (reverse journal)) (length s.lanes) (omega (arith, g, went, all, long)) lane
-          (omega (arith, lt, long));
-      answered = omega (arith, b, submitted, taken, same);
+      let_go = λ lane lt. each (was_let_go (reverse journal)) (length s.lanes) full lane (omega (arith, lt, long));
+      answered = answered;
+      closed = over_handles_closed s (reverse journal) k (
+        each (was_let_go (reverse journal)) (length s.lanes) full,
+        subst (λ (l : List Entry). next_due s l ≡ None) (sym is) due,
+        answered,
+      );
       handed_in = all_of is_handed_in journal inner.0;
     }
 
@@ -189,7 +197,7 @@ pub ended_run : (lanes : List Lane) (options : SftpOptions) (r : SharedReport) (
     → IsEnded (length lanes) (reverse r.journal.items)
 ended_run lanes options r looked found h same is stands =
     ended (setting_by h.now.lanes h.now.options h.now.version h.info) r.journal.items (entries h.now.log) (length lanes)
-    h.journal h.run
+    h.journal h.run h.settled
     (ap (λ (l : List Lane). length l) h.made.0)
     (subst (λ (l : List Entry). (list_all is_handed_in l && (length (filter is_submit l) == length (filter is_take l))
     && (length (filter is_let_go l) == length lanes)) ≡ true) same (sym is ∙ stands))

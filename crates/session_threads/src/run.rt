@@ -290,7 +290,7 @@ fn run_crew<O: LinkOut + Send + Drop, I: LinkIn + Send + Drop, R: Threads + Wait
 /// grant left to close. Each place of it is in one list of receipts, once. Those of the lanes come first, in lane
 /// order, each with all entries of its lane. Then come those of the home seat, which sends and takes none, of the
 /// worker that sends and of the one that reads. Both workers came to the end: each lane was released, each request has
-/// its reply, and no call was added or cancelled.
+/// its reply, each handle was closed exactly as often as it was granted, and no call was added or cancelled.
 ///
 /// If the halves report it, the one was sent the hello's frame and then the frames of all Sends of the journal, in
 /// order. From the other came a frame that reads as VERSION and then one for each Take, in order.
