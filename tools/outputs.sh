@@ -1,8 +1,9 @@
 #!/bin/sh
 # Runs each program with a standard output that can't be written: a full device, a pipe that nobody reads, and a closed
-# descriptor. The status is that of the manual page, and a line on standard error names the program and the cause. Over
-# a Unix socket neither the text nor a message goes into the socket, though its number is free. The parts over a socket
-# are skipped if socat or OpenSSH's SFTP server is missing.
+# descriptor. The status is that of the manual page, and a line on standard error names the program and the cause. If
+# nobody reads a pipe, SIGPIPE ends the program, unless it is ignored. Over a Unix socket neither the text nor a message
+# goes into the socket, though its number is free. The parts over a socket are skipped if socat or OpenSSH's SFTP server
+# is missing.
 set -u
 cd "$(dirname "$0")/.." || exit 1
 
@@ -23,7 +24,9 @@ done
 
 # Compares a status and standard error with what is wanted.
 tell() {
-    if [ "$status" = "$2" ] && printf '%s\n' "$3" | cmp -s - "$room/err"; then
+    printf '%s' "${3:+$3
+}" >"$room/wanted"
+    if [ "$status" = "$2" ] && cmp -s "$room/wanted" "$room/err"; then
         passed=$((passed + 1))
         return
     fi
@@ -54,8 +57,14 @@ refuse() {
     exec 3<>"$room/pipe" 4>"$room/pipe" 3>&-
     timeout 60 "$program" "$@" <"$input" >&4 2>"$room/err" 4>&-
     status=$?
+    tell "$name $* with an output that nobody reads" 141 ''
+    (
+        trap '' PIPE
+        timeout 60 "$program" "$@" <"$input" >&4 2>"$room/err" 4>&-
+    )
+    status=$?
     exec 4>&-
-    tell "$name $* with an output that nobody reads" "$wanted" "$(cause 'broken pipe')"
+    tell "$name $* with an output that nobody reads, without SIGPIPE" "$wanted" "$(cause 'broken pipe')"
     timeout 60 "$program" "$@" <"$input" >&- 2>"$room/err"
     status=$?
     tell "$name $* with a closed output" "$wanted" "$(cause 'bad file descriptor')"

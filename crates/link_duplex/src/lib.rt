@@ -13,7 +13,7 @@ mod write_behind;
 pub use dial::DuplexDial;
 pub use duplex::DuplexLink;
 pub use sftp_link::{DeviceError, Link, LinkIn, LinkOut, LinkState};
-pub use standard::{StandardStreams, StdioWire, over_stdio, release_stdio};
+pub use standard::{StandardStreams, StdioOutput, StdioWire, over_stdio, release_stdio};
 pub use stream::{StreamWire, UnixWire, over_unix};
 pub use wire::{Readiness, Wire};
 

@@ -4,23 +4,70 @@ ghost use Rattle.std.specs.Prelude.{◌≡◌, IfOk, false};
 use crate::stream::StreamWire;
 use std::alloc::Global;
 use std::fs::{File, OpenOptions};
-use std::io::{self, Stdin, Stdout};
-use std::os::fd::AsFd;
+use std::io::{self, Stdin, Stdout, Write};
+use std::os::fd::{AsFd, AsRawFd, RawFd};
 use std::os::unix::net::UnixStream;
 use std::time::Duration;
 
+/// Standard output as the connection to a peer.
+///
+/// Used by `over_stdio`.
+#[derive(Drop)]
+pub enum StdioOutput {
+    /// It is a socket: a write after the peer has gone is an error.
+    Socket(UnixStream),
+    /// It is a pipe or a terminal: by default the signal SIGPIPE ends the process if nobody reads the pipe.
+    Other(Stdout),
+}
+
+impl Write for StdioOutput {
+    fn write(&mut self, bytes: &[u8]) -> io::Result<usize> {
+        match self {
+            StdioOutput::Socket(stream) => stream.write(bytes),
+            StdioOutput::Other(stream) => stream.write(bytes),
+        }
+    }
+
+    fn flush(&mut self) -> io::Result<()> {
+        Ok(())
+    }
+}
+
+impl AsRawFd for StdioOutput {
+    fn as_raw_fd(&self) -> RawFd {
+        match self {
+            StdioOutput::Socket(stream) => stream.as_raw_fd(),
+            StdioOutput::Other(stream) => stream.as_raw_fd(),
+        }
+    }
+}
+
 /// Standard input and output as a wire.
-pub type StdioWire = StreamWire<Stdin, Stdout>;
+pub type StdioWire = StreamWire<Stdin, StdioOutput>;
+
+/// Returns another descriptor of a stream, as the one type of std that sets modes. It need not be a socket.
+fn handle_of<F: AsFd>(stream: &F) -> io::Result<UnixStream> {
+    let descriptor = stream.as_fd();
+    let clone = descriptor.try_clone_to_owned()?;
+    Ok(UnixStream::from(clone))
+}
 
 /// Sets whether calls on a stream wait.
 ///
 /// The mode belongs to the open pipe or socket. So it holds in each process that has it.
 fn set_nonblocking<F: AsFd>(stream: &F, nonblocking: bool) -> io::Result<()> {
-    let descriptor = stream.as_fd();
-    let clone = descriptor.try_clone_to_owned()?;
-    // std sets the mode of sockets alone. This handle does nothing else, and the stream need not be a socket.
-    let handle = UnixStream::from(clone);
+    let handle = handle_of(stream)?;
     handle.set_nonblocking(nonblocking)
+}
+
+/// Returns standard output as the connection to a peer.
+fn output_of(stream: Stdout) -> io::Result<StdioOutput> {
+    let handle = handle_of(&stream)?;
+    // Only a socket has an error of its own.
+    match handle.take_error() {
+        Ok(_) => Ok(StdioOutput::Socket(handle)),
+        Err(_) => Ok(StdioOutput::Other(stream)),
+    }
 }
 
 /// Creates the wire over standard input and output, which do not block from then on. If there is a timeout, a wait
@@ -40,6 +87,7 @@ pub fn over_stdio(
     let output = rt.stdout();
     set_nonblocking(&input, true)?;
     set_nonblocking(&output, true)?;
+    let output = output_of(output)?;
     StreamWire::new(rt, alloc, input, output, timeout)
 }
 
