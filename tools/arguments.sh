@@ -62,6 +62,11 @@ done
 refuse "unknown argument 'scirpt'" sftp_cli scirpt
 refuse "'script' takes no argument 'x'" sftp_cli script x
 refuse "'unix' needs an argument, PATH" sftp_cli unix
+refuse "'unix' takes no argument '--time'" sftp_cli unix s --time 5
+refuse "option '--timeout' needs a number" sftp_cli unix s --timeout
+refuse "SECONDS is a number from 0 to 86400, not '86401'" sftp_cli unix s --timeout 86401
+refuse "SECONDS is a number from 0 to 86400, not ''" sftp_cli unix s --timeout ''
+refuse "'unix' takes no argument '--timeout'" sftp_cli unix s --timeout 5 --timeout 5
 refuse "'bulk' needs 3 arguments, START, LANES and CALLS" sftp_cli bulk 1 2
 refuse "'bulk' takes no argument '4'" sftp_cli bulk 1 2 3 4
 refuse "LANES is a number from 0 to 256, not '257'" sftp_cli bulk 1 257 3
@@ -72,12 +77,18 @@ refuse "'copy' needs 2 arguments, WIDTH and ROUNDS" sftp_mirror copy 1
 refuse "WIDTH is a number from 1 to 64, not '0'" sftp_mirror copy 0 1
 refuse "'unix' needs 3 arguments, PATH, WIDTH and ROUNDS" sftp_mirror unix s 1
 refuse "ROUNDS is a number from 0 to 4096, not 'x'" sftp_mirror unix s 1 x
+refuse "'copy' takes no argument '--timeout'" sftp_mirror copy 1 1 --timeout 5
+refuse "SECONDS is a number from 0 to 86400, not 'x'" sftp_mirror unix s 1 1 --timeout x
 
 refuse "unknown argument 'vew'" sftp_view vew 2 1
 refuse "'view' needs 2 arguments, BLOCK and CAPACITY" sftp_view view
 refuse "'view' takes no argument 'x'" sftp_view view 2 1 x
 refuse "BLOCK is a number from 1 to 65536, not '65537'" sftp_view view 65537 1
 refuse "CAPACITY is a number from 1 to 4096, not '0'" sftp_view view 2 0
+
+# An option with its number is no reason to refuse: nobody listens there.
+expect 6 'sftp_cli: no/socket: no server listens' sftp_cli unix no/socket --timeout 86400
+expect 6 'sftp_mirror: no/socket: no server listens' sftp_mirror unix no/socket 1 1 --timeout 0
 
 expect 2 'sftp_serve: word 1 word' sftp_serve no-such-argument
 expect 2 'sftp_serve: word 2 hex' sftp_serve 'dir 64' 'dir x'
@@ -90,6 +101,10 @@ refuse "unknown option '-x'" sftp_transfer unix:s list -x
 refuse "option '--files' needs a number" sftp_transfer unix:s put -r --files
 refuse "the number of '--window' is from 1 to 1024, not '1025'" sftp_transfer unix:s get --window 1025 a b
 refuse "the number of '--limit' is from 1 to 1073741824, not 'a'" sftp_transfer unix:s get --limit a b
+refuse "the number of '--timeout' is from 0 to 86400, not '86401'" sftp_transfer unix:s get --timeout 86401 a b
+refuse "the number of '--timeout' is from 0 to 86400, not ''" sftp_transfer unix:s list --timeout ''
+refuse "unknown option '--window'" sftp_transfer unix:s list --window 8
+refuse "unknown option '-l'" sftp_transfer unix:s get -l a b
 refuse "'get' needs a source and a target" sftp_transfer unix:s get -r a
 refuse "'put' needs a source and a target" sftp_transfer unix:s put -- -r
 refuse "'list' takes no argument 'b'" sftp_transfer unix:s list -l a b

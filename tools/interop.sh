@@ -28,9 +28,11 @@ room=$(mktemp -d) || exit 1
 room=$(cd "$room" && pwd -P)
 socat "UNIX-LISTEN:$room/socket,fork" "EXEC:$server" 2>/dev/null &
 listener=$!
-trap 'kill $listener 2>/dev/null; rm -rf "$room"' EXIT
+socat "UNIX-LISTEN:$room/silent,fork" EXEC:'sleep 60' 2>/dev/null &
+silent=$!
+trap 'kill $listener $silent 2>/dev/null; rm -rf "$room"' EXIT
 tries=0
-while ! [ -S "$room/socket" ] && [ $tries -lt 100 ]; do
+while ! { [ -S "$room/socket" ] && [ -S "$room/silent" ]; } && [ $tries -lt 100 ]; do
     sleep 0.1
     tries=$((tries + 1))
 done
@@ -394,6 +396,27 @@ for pairs in 4 16; do
     tell "$pairs large pieces down and $pairs up at once" $?
 done
 
+# ---- a server that is silent is given up after the time limit, and one that answers is not
+
+printf 'lane\nstat %s\n' "$(at file)" >"$room/script"
+: >"$room/outcomes"
+timeout 20 "$program" unix "$room/silent" --timeout 1 <"$room/script" >"$room/text" 2>"$room/err"
+status=$?
+[ $status -eq 1 ] && [ "$(cat "$room/text")" = 'error LinkFault' ] &&
+    [ "$(cat "$room/err")" = 'sftp_cli: the server was silent for 1 seconds' ]
+tell 'a silent server' $?
+timeout 2 "$program" unix "$room/silent" --timeout 0 <"$room/script" >"$room/text" 2>"$room/err"
+status=$?
+[ $status -eq 124 ] && ! [ -s "$room/text" ] && ! [ -s "$room/err" ]
+tell 'a silent server without a time limit' $?
+for limit in 0 1 86400; do
+    timeout 60 "$program" unix "$room/socket" --timeout $limit <"$room/script" >"$room/text" 2>"$room/err"
+    status=$?
+    grep '^lane' "$room/text" >"$room/outcomes"
+    [ $status -eq 0 ] && grep -q '^lane 0 call 0 meta ' "$room/outcomes" && ! [ -s "$room/err" ]
+    tell "a server with a time limit of $limit" $?
+done
+
 # ---- 200 files of 0 to 100,000 bytes are copied up by 16 lanes, and down again
 
 mirror=$PWD/crates/sftp_mirror/out/sftp_mirror
@@ -425,6 +448,16 @@ if [ -x "$mirror" ]; then
     printf 'got %s %s\n' "$(at large)" "$(hex <"$room/large")" >"$room/wanted"
     [ $status -eq 0 ] && grep -qxF -f "$room/wanted" "$room/outcomes" && cmp "$room/large" "$room/copy"
     tell 'a large file down and one up at once' $?
+
+    timeout 20 "$mirror" unix "$room/silent" 2 8 --timeout 1 <"$room/list" >"$room/text" 2>"$room/err"
+    status=$?
+    [ $status -eq 1 ] && [ "$(cat "$room/text")" = 'error LinkFault' ] &&
+        [ "$(cat "$room/err")" = 'sftp_mirror: the server was silent for 1 seconds' ]
+    tell 'files over a silent server' $?
+    timeout 60 "$mirror" unix "$room/socket" 2 8 --timeout 20 <"$room/list" >"$room/outcomes" 2>"$room/err"
+    status=$?
+    [ $status -eq 0 ] && ! [ -s "$room/err" ]
+    tell 'files with a time limit' $?
 else
     echo "interop: $mirror is missing: no list of files was copied"
 fi

@@ -41,8 +41,10 @@ socat "UNIX-LISTEN:$room/writes,fork" "EXEC:$room/hears_writes" 2>/dev/null &
 third=$!
 socat "UNIX-LISTEN:$room/ends,fork" "EXEC:$room/hears_files" 2>/dev/null &
 sixth=$!
-trap 'kill $first $second $third $sixth 2>/dev/null; rm -rf "$room"' EXIT
-for name in socket reads writes ends; do
+socat "UNIX-LISTEN:$room/silent,fork" EXEC:'sleep 60' 2>/dev/null &
+seventh=$!
+trap 'kill $first $second $third $sixth $seventh 2>/dev/null; rm -rf "$room"' EXIT
+for name in socket reads writes ends silent; do
     tries=0
     while ! [ -S "$room/$name" ] && [ $tries -lt 100 ]; do
         sleep 0.1
@@ -92,6 +94,60 @@ status=0
 timeout 60 socat "EXEC:$server" "EXEC:$program stdio get $room/far/file $room/near/file" 2>"$room/err"
 cmp "$room/far/file" "$room/near/file" && ! [ -s "$room/err" ]
 tell 'a file down over standard input and output' $?
+rm -f "$room/near/file"
+
+# two pipes, and files that are larger than what pipes hold: the server writes a reply before it reads on
+head -c 3000000 /dev/urandom >"$room/far/large"
+mkfifo "$room/requests" "$room/replies"
+for way in get put; do
+    case $way in
+    get) set -- "$room/far/large" "$room/near/large" ;;
+    put) set -- "$room/near/large" "$room/far/again" ;;
+    esac
+    timeout 60 "$server" <"$room/requests" >"$room/replies" 2>/dev/null &
+    timeout 60 "$program" stdio $way "$@" >"$room/requests" <"$room/replies" 2>"$room/err"
+    status=$?
+    wait $!
+    [ $status -eq 0 ] && cmp "$1" "$2" && ! [ -s "$room/err" ]
+    tell "a large file over two pipes by $way" $?
+done
+rm -f "$room/far/large" "$room/far/again" "$room/near/large"
+
+# a pipe that the program had blocks again for who has it later
+exec 5<>"$room/requests" 6<>"$room/replies"
+timeout 60 "$server" <"$room/requests" >"$room/replies" 2>/dev/null 5>&- 6>&- &
+timeout 60 "$program" stdio get "$room/far/file" "$room/near/file" <&6 >&5 2>"$room/err"
+status=$?
+kill $! 2>/dev/null
+timeout 1 head -c 1 <&6 >"$room/out" 2>"$room/out"
+[ $? -eq 124 ] && [ $status -eq 0 ] && cmp "$room/far/file" "$room/near/file" && ! [ -s "$room/out" ]
+tell 'pipes block again after the program' $?
+exec 5>&- 6>&-
+rm -f "$room/near/file" "$room/requests" "$room/replies"
+
+timeout 60 "$program" stdio get "$room/far/file" "$room/near/file" </dev/null >"$room/out" 2>"$room/err"
+status=$?
+[ $status -eq 6 ] && grep -q '^sftp_transfer: stdio: ' "$room/err" && [ "$(wc -l <"$room/err")" -eq 1 ]
+tell 'standard input and output that are no pipes' $?
+
+# ---- a server that is silent is given up after the time limit, and one that answers is not
+
+for work in "get $room/far/file $room/near/file" "list $room/far"; do
+    words=${work#* }
+    # shellcheck disable=SC2086
+    timeout 20 "$program" "unix:$room/silent" "${work%% *}" --timeout 1 $words >"$room/out" 2>"$room/err"
+    status=$?
+    [ $status -eq 1 ] && [ "$(tail -n 1 "$room/err")" = 'sftp_transfer: the server was silent for 1 seconds' ] &&
+        ! [ -s "$room/out" ]
+    tell "a silent server, for ${work%% *}" $?
+done
+timeout 2 "$program" "unix:$room/silent" list --timeout 0 >"$room/out" 2>"$room/err"
+status=$?
+[ $status -eq 124 ] && ! [ -s "$room/out" ] && ! [ -s "$room/err" ]
+tell 'a silent server without a time limit' $?
+run socket get --timeout 1 "$room/far/file" "$room/near/file"
+[ $status -eq 0 ] && cmp "$room/far/file" "$room/near/file" && ! [ -s "$room/err" ]
+tell 'a file with a time limit' $?
 rm -f "$room/near/file"
 
 # ---- TCP
@@ -146,6 +202,9 @@ printf old >"$room/far/big"
 run writes put "$room/near/big" "$room/far/big"
 [ $status -eq 1 ] && [ "$(cat "$room/far/big")" = old ] && [ "$(wc -l <"$room/err")" -eq 1 ]
 tell 'a server that ends while a file goes up' $?
+timeout 60 socat "EXEC:$room/hears_writes" "EXEC:$program stdio put $room/near/big $room/far/big" 2>"$room/err"
+[ "$(cat "$room/far/big")" = old ] && [ "$(grep -c '^sftp_transfer: ' "$room/err")" -eq 1 ]
+tell 'a server that ends while a file goes up over standard input and output' $?
 run socket put "$room/near/big" "$room/far/big"
 [ $status -eq 0 ] && cmp "$room/near/big" "$room/far/big" && ! [ -e "$room/far/.big.part" ]
 tell 'the same file once more' $?

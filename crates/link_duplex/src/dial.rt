@@ -58,6 +58,14 @@ impl<R: Net> DuplexDial<R> {
             faults: 0,
         }
     }
+
+    /// Returns true if the link that was put back failed because the peer did nothing until the timeout.
+    pub fn is_silent(&self) -> bool {
+        match &self.last {
+            Some(link) => link.inner().wire().is_silent(),
+            None => false,
+        }
+    }
 }
 
 impl<R: Net> Dial for DuplexDial<R> {

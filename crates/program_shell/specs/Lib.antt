@@ -6,3 +6,5 @@ pub mod Stopped
 pub mod Completed
 pub mod Commands
 pub mod CommandRows
+pub mod Servers
+pub mod ServerRows

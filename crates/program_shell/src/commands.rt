@@ -2,7 +2,7 @@
 ghost use Rattle.std.specs.Prelude.{◌≡◌, map};
 ghost use Rattle.std.specs.Option.{option_map};
 ghost use Rattle.std.specs.String.{string_bytes};
-ghost use Rattle.program_shell.specs.Commands.{command_of, command_seen, fits, misfit_of, misfit_seen, operand_seen, operands_misfit};
+ghost use Rattle.program_shell.specs.Commands.{command_of, command_seen, fits, misfit_of, misfit_seen, operand_seen, operands_misfit, option_misfit};
 
 use script_grammar::number_in;
 use std::env::{self, Env};
@@ -20,6 +20,17 @@ pub struct Operand {
     pub range: Option<(u64, u64)>,
 }
 
+/// An option of a command.
+///
+/// Used in `crates/program_shell/src/server.rt`.
+#[derive(Clone, Copy)]
+pub struct CommandOption {
+    /// The argument that begins it.
+    pub word: &'static str,
+    /// The argument after it.
+    pub value: Operand,
+}
+
 /// A command of a program.
 ///
 /// Used in `crates/sftp_view/src/main.rt`.
@@ -29,6 +40,8 @@ pub struct Command<'a> {
     pub word: &'static str,
     /// The arguments after it.
     pub operands: &'a [Operand],
+    /// The option that may follow the operands.
+    pub option: Option<CommandOption>,
 }
 
 /// The reason why a command line is no command of a program.
@@ -44,6 +57,8 @@ pub enum Misfit<'a> {
     TooFew(Command<'a>),
     /// The command has fewer operands: this argument is the first after them.
     TooMany(Command<'a>, &'a str),
+    /// Nothing follows the option, which needs a value.
+    NoValue(CommandOption),
     /// The operand's number is not made of digits, or is out of its range.
     OutOfRange(Operand, &'a str),
 }
@@ -76,7 +91,34 @@ fn command_of<'a>(commands: &[Command<'a>], word: &str) -> Option<Command<'a>>
     }
 }
 
-/// Returns the reason why arguments are not the operands of a command.
+/// Returns the reason why the arguments after the operands of a command are not its option.
+fn option_misfit<'a>(command: Command<'a>, words: &'a [String]) -> Option<Misfit<'a>>
+    ensures { option_map misfit_seen result ≡ option_misfit (command_seen command.entry) (map string_bytes words.now) }
+{
+    let [word, values @ ..] = words else {
+        return None;
+    };
+    let word = word.as_str();
+    let Some(option) = command.option else {
+        return Some(Misfit::TooMany(command, word));
+    };
+    if option.word != word {
+        return Some(Misfit::TooMany(command, word));
+    }
+    let [value, rest @ ..] = values else {
+        return Some(Misfit::NoValue(option));
+    };
+    let value = value.as_str();
+    if !fits(option.value, value) {
+        return Some(Misfit::OutOfRange(option.value, value));
+    }
+    match rest {
+        [] => None,
+        [word, ..] => Some(Misfit::TooMany(command, word.as_str())),
+    }
+}
+
+/// Returns the reason why arguments are not the operands of a command, and its option.
 fn operands_misfit<'a>(command: Command<'a>, words: &'a [String]) -> Option<Misfit<'a>>
     ensures { option_map misfit_seen result ≡ operands_misfit (command_seen command.entry) (map operand_seen command.entry.operands.now) (map string_bytes words.now) }
 {
@@ -93,7 +135,7 @@ fn operands_misfit<'a>(command: Command<'a>, words: &'a [String]) -> Option<Misf
             [word, later @ ..] => {
                 let word = word.as_str();
                 match operands {
-                    [] => return Some(Misfit::TooMany(command, word)),
+                    [] => return option_misfit(command, rest),
                     [operand, more @ ..] => {
                         if !fits(*operand, word) {
                             return Some(Misfit::OutOfRange(*operand, word));
@@ -151,6 +193,7 @@ impl fmt::Display for Misfit<'_> {
             Misfit::TooMany(command, word) => {
                 write!(f, "'{}' takes no argument '{word}'", command.word)
             }
+            Misfit::NoValue(option) => write!(f, "option '{}' needs a number", option.word),
             Misfit::OutOfRange(operand, word) => match operand.range {
                 Some((least, most)) => write!(
                     f,

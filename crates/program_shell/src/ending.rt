@@ -7,6 +7,9 @@ ghost use Rattle.program_shell.specs.declared.ending.ProgramFailure.TheVariants 
 
 use ssh_encoding::OutOfMemory;
 
+/// The status if an error stopped the session.
+pub const STOPPED: u8 = 1;
+
 /// The status if an allocation failed.
 pub const OUT_OF_MEMORY: u8 = 5;
 
@@ -55,7 +58,7 @@ pub fn status_of(end: Result<Answered, ProgramFailure>) -> u8
 {
     match end {
         Ok(Answered::Done) => 0,
-        Ok(Answered::Stopped) => 1,
+        Ok(Answered::Stopped) => STOPPED,
         Ok(Answered::Refused) => 2,
         Err(ProgramFailure::SourceFailed) => 3,
         Err(ProgramFailure::SinkFailed) => 4,

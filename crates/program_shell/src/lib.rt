@@ -12,17 +12,19 @@ mod over_link;
 mod printed;
 mod program;
 mod refusal;
+mod server;
 mod system;
 #[cfg(test)]
 mod tests;
 
 pub use answer::{Answer, answer_to};
-pub use commands::{Command, Misfit, Operand, misfit_of, tell_refusal};
-pub use ending::{Answered, NO_LINK, OUT_OF_MEMORY, ProgramFailure, cause_of, status_of};
+pub use commands::{Command, CommandOption, Misfit, Operand, misfit_of, tell_refusal};
+pub use ending::{Answered, NO_LINK, OUT_OF_MEMORY, ProgramFailure, STOPPED, cause_of, status_of};
 pub use in_memory::{answer_in_memory, new_server_of, text_in_memory};
 pub use left::{write_dirs, write_files};
 pub use over_link::answer_over_link;
 pub use printed::{Printed, read_bytes, refuse, write_answer};
 pub use program::{LinkProgram, Program};
 pub use refusal::{error_line, error_name, refusal_line, stop_reply, want_of_memory};
-pub use system::{exit_with, words_given};
+pub use server::{ServerAt, TIMEOUT, server_at};
+pub use system::{exit_over, exit_with, words_given};

@@ -3,7 +3,8 @@
 ghost use Rattle.std.specs.Prelude.{◌≡◌};
 ghost use Rattle.std.specs.Process.{exit_status};
 
-use crate::ending::{NO_LINK, cause_of};
+use crate::ending::{NO_LINK, STOPPED, cause_of};
+use crate::server::ServerAt;
 use ssh_encoding::OutOfMemory;
 use std::env::{self, Env};
 use std::io::{Eprint, ErrorKind};
@@ -32,16 +33,39 @@ pub fn words_given<R: Env + AllocGlobal>(rt: &R) -> Result<Vec<String>, OutOfMem
 }
 
 /// Returns the exit code of a program with a status. If no answer was written whole, standard error gets the program's
-/// name, the reason, and the path at which no server listens. If standard error fails too, the message is lost.
-pub fn exit_with<R: Eprint>(rt: &R, program: &str, status: u8, path: &str) -> ExitCode
+/// name and the reason. If standard error fails too, the message is lost.
+pub fn exit_with<R: Eprint>(rt: &R, program: &str, status: u8) -> ExitCode
     ensures { exit_status result ≡ status }
 {
     if let Some(cause) = cause_of(status) {
-        let _ = if status == NO_LINK {
-            eprintln!(rt; "{program}: {path}: {cause}")
-        } else {
-            eprintln!(rt; "{program}: {cause}")
-        };
+        let _ = eprintln!(rt; "{program}: {cause}");
     }
     ExitCode::from(status)
+}
+
+/// Returns the exit code of a program whose link was to a server, and writes the reason as `exit_with` does. It names
+/// the path at which no server listens. If the session failed because the server was silent, it says for how long.
+pub fn exit_over<R: Eprint>(
+    rt: &R,
+    program: &str,
+    status: u8,
+    server: ServerAt<'_>,
+    is_silent: bool,
+) -> ExitCode
+    ensures { exit_status result ≡ status }
+{
+    match status {
+        NO_LINK => {
+            let _ = eprintln!(rt; "{program}: {}: no server listens", server.path);
+            ExitCode::from(status)
+        }
+        STOPPED if is_silent => {
+            let _ = eprintln!(rt;
+                "{program}: the server was silent for {} seconds",
+                server.seconds
+            );
+            ExitCode::from(status)
+        }
+        _ => exit_with(rt, program, status),
+    }
 }

@@ -25,7 +25,7 @@ completes_so : {History : Type 0} (dialled : List ℕ → History → History) (
 completes_so dialled InMemory end kept before now h s k =
     in_memory script_of (λ script. script) (IsPrinted form.Whole) end kept before.source now.source before.sink now.sink
     long_refused h.0 s k
-completes_so dialled (AtPath path) end kept before now h s k =
+completes_so dialled (AtPath path seconds) end kept before now h s k =
     over_link script_of RunsOver dialled path end before now long_refused unrefused h.0 s k
 completes_so dialled (Bulk n) end kept before now h s k =
     at_sink _ 0 end before.sink now.sink (λ a t r. ap (λ (x : Answered). status_of (Ok x)) r.0) h.0.writes k

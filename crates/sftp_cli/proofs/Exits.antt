@@ -13,7 +13,7 @@ use Rattle.sftp_cli.specs.declared.bulk.Numbers.{Numbers}
 use Rattle.sftp_cli.specs.declared.printed.Form.TheVariants as form
 use Rattle.sftp_cli.specs.Ended.{EndsSummed, RightSummary}
 use Rattle.sftp_cli.specs.Printed.{IsPrinted}
-use Rattle.sftp_cli.specs.Words.{AtPath, Bulk, InMemory, Text, asked_by, bulk_of, help_text, is_script, path_of}
+use Rattle.sftp_cli.specs.Words.{AtPath, Bulk, InMemory, Text, asked_by, bulk_of, help_text, is_script, server_of}
 
 -- ---- a script that three numbers make
 
@@ -58,14 +58,14 @@ summary_answered script made kept text items end to to_now is same r k w =
 pub asked_script : (words : List (List ℕ)) → is_script words ≡ true → asked_by words ≡ InMemory
 asked_script words e = rw e refl
 
-pub asked_path : (words : List (List ℕ)) (path : List ℕ) → is_script words ≡ false → Some path ≡ path_of words
-    → asked_by words ≡ AtPath path
-asked_path words path e p = rw (e, ← p) refl
+pub asked_path : (words : List (List ℕ)) (path : List ℕ) (seconds : ℕ) → is_script words ≡ false
+    → Some (path, seconds) ≡ server_of words → asked_by words ≡ AtPath path seconds
+asked_path words path seconds e p = rw (e, ← p) refl
 
-pub asked_bulk : (words : List (List ℕ)) (n : Numbers) → is_script words ≡ false → None ≡ path_of words
+pub asked_bulk : (words : List (List ℕ)) (n : Numbers) → is_script words ≡ false → None ≡ server_of words
     → Some n ≡ bulk_of words → asked_by words ≡ Bulk n
 asked_bulk words n e p b = rw (e, ← p, ← b) refl
 
-pub asked_text : (words : List (List ℕ)) → is_script words ≡ false → None ≡ path_of words → None ≡ bulk_of words
+pub asked_text : (words : List (List ℕ)) → is_script words ≡ false → None ≡ server_of words → None ≡ bulk_of words
     → asked_by words ≡ Text (answered_of words) (text_of help_text words)
 asked_text words e p b = rw (e, ← p, ← b) refl

@@ -49,7 +49,7 @@ abbrev pub EndsSo : {History : Type 0} → (List ℕ → History → History) �
     → Outside History → Type 0
 EndsSo dialled InMemory end kept before now =
     EndsScript end kept before.source now.source before.sink now.sink × (now.dial ≡ before.dial)
-EndsSo dialled (AtPath path) end kept before now = EndsScriptAt dialled path end before now × (kept ≡ None)
+EndsSo dialled (AtPath path seconds) end kept before now = EndsScriptAt dialled path end before now × (kept ≡ None)
 EndsSo dialled (Bulk n) end kept before now =
     EndsSummed (bulk_script n.start n.lanes n.calls) end kept before.sink now.sink
     × (now.source ≡ before.source) × (now.dial ≡ before.dial)

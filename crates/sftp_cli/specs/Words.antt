@@ -29,6 +29,7 @@ use Rattle.script_words.specs.declared.reason.Reason.{Reason}
 use Rattle.script_words.specs.declared.reason.Reason.TheVariants as reason
 use Rattle.script_words.specs.Lines.{number_in}
 use Rattle.program_shell.specs.declared.ending.Answered.{Answered}
+use Rattle.program_shell.specs.Servers.{ServerWords, server_at}
 use Rattle.program_shell.specs.Texts.{answered_of, text_of}
 use Rattle.sftp_cli.specs.declared.bulk.Numbers.{Numbers}
 
@@ -37,10 +38,15 @@ use Rattle.sftp_cli.specs.declared.bulk.Numbers.{Numbers}
 -- The text of `--help`.
 unfoldable pub help_text : List ℕ
 help_text =
-    codes "Usage: sftp_cli script | unix PATH | bulk START LANES CALLS | --help | --version\n"
+    codes "Usage: sftp_cli script\n"
+    ++ codes "       sftp_cli unix PATH [--timeout SECONDS]\n"
+    ++ codes "       sftp_cli bulk START LANES CALLS\n"
+    ++ codes "       sftp_cli --help | --version\n"
     ++ codes "\n"
     ++ codes "  script       run the script on standard input over a server of its files in memory\n"
-    ++ codes "  unix PATH    run it over the SFTP server that listens on the Unix socket PATH\n"
+    ++ codes "  unix PATH    run it over the SFTP server that listens on the Unix socket PATH; give up\n"
+    ++ codes "               after SECONDS seconds without any progress, 0 to 86400; the default is 60,\n"
+    ++ codes "               and 0 is no limit\n"
     ++ codes "  bulk START LANES CALLS\n"
     ++ codes "               run a script that is generated from three numbers, and write a summary\n"
     ++ codes "  --help       print this help\n"
@@ -78,12 +84,11 @@ is_script [] = false
 is_script (word ∷ []) = bytes_eq word (codes "script")
 is_script (word ∷ another ∷ words) = false
 
--- The path after the argument `unix`.
-abbrev pub path_of : List (List ℕ) → Option (List ℕ)
-path_of [] = None
-path_of (word ∷ []) = None
-path_of (word ∷ path ∷ []) = if bytes_eq word (codes "unix") then Some path else None
-path_of (word ∷ path ∷ another ∷ words) = None
+-- The server after the argument `unix`: its path, and the time limit that the arguments after it set.
+abbrev pub server_of : List (List ℕ) → Option ServerWords
+server_of [] = None
+server_of (word ∷ []) = None
+server_of (word ∷ path ∷ words) = if bytes_eq word (codes "unix") then server_at path words else None
 
 -- Three numbers: a start of 64 bits, up to 256 lanes, and up to 4096 calls for each lane, with up to 16384 calls in
 -- all.
@@ -112,11 +117,11 @@ bulk_of (word ∷ start ∷ lanes ∷ calls ∷ another ∷ words) = None
 
 -- ---- The request
 
--- A script over a server in memory; a script over a link to the server at a path; the script of three numbers in
--- memory; or a text and its meaning.
+-- A script over a server in memory; a script over a link to the server at a path, with a time limit in seconds; the
+-- script of three numbers in memory; or a text and its meaning.
 pub data Asked : Type 0 where
   InMemory : Asked
-  AtPath : List ℕ → Asked
+  AtPath : List ℕ → ℕ → Asked
   Bulk : Numbers → Asked
   Text : Answered → List ℕ → Asked
 
@@ -124,9 +129,9 @@ abbrev asked_by_numbers : Option Numbers → List (List ℕ) → Asked
 asked_by_numbers (Some n) words = Bulk n
 asked_by_numbers None words = Text (answered_of words) (text_of help_text words)
 
-abbrev asked_by_path : Option (List ℕ) → List (List ℕ) → Asked
-asked_by_path (Some path) words = AtPath path
-asked_by_path None words = asked_by_numbers (bulk_of words) words
+abbrev asked_by_server : Option ServerWords → List (List ℕ) → Asked
+asked_by_server (Some server) words = AtPath server.0 server.1
+asked_by_server None words = asked_by_numbers (bulk_of words) words
 
 abbrev pub asked_by : List (List ℕ) → Asked
-asked_by words = if is_script words then InMemory else asked_by_path (path_of words) words
+asked_by words = if is_script words then InMemory else asked_by_server (server_of words) words

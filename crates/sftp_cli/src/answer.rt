@@ -1,8 +1,11 @@
 //! The arguments of the command line, and the text of `--help`.
 ghost use Rattle.std.specs.Prelude.{◌≡◌, map};
-ghost use Rattle.std.specs.Option.{option_copied};
+ghost use Rattle.std.specs.Option.{option_map};
 ghost use Rattle.std.specs.String.{string_bytes};
-ghost use Rattle.sftp_cli.specs.Words.{help_text, is_script, path_of};
+ghost use Rattle.program_shell.specs.Servers.{server_seen};
+ghost use Rattle.sftp_cli.specs.Words.{help_text, is_script, server_of};
+
+use program_shell::{ServerAt, server_at};
 
 /// Returns the text of `--help`.
 #[tactic(auto, unfolding(crate::specs::Words::help_text))]
@@ -10,10 +13,15 @@ pub(crate) fn help_text() -> &'static str
     ensures { result.now ≡ help_text }
 {
     "\
-Usage: sftp_cli script | unix PATH | bulk START LANES CALLS | --help | --version
+Usage: sftp_cli script
+       sftp_cli unix PATH [--timeout SECONDS]
+       sftp_cli bulk START LANES CALLS
+       sftp_cli --help | --version
 
   script       run the script on standard input over a server of its files in memory
-  unix PATH    run it over the SFTP server that listens on the Unix socket PATH
+  unix PATH    run it over the SFTP server that listens on the Unix socket PATH; give up
+               after SECONDS seconds without any progress, 0 to 86400; the default is 60,
+               and 0 is no limit
   bulk START LANES CALLS
                run a script that is generated from three numbers, and write a summary
   --help       print this help
@@ -55,14 +63,14 @@ pub(crate) fn is_script(words: &[String]) -> bool
     }
 }
 
-/// Returns the path, if the arguments are `unix` and a path.
-pub(crate) fn unix_path(words: &[String]) -> Option<&str>
-    ensures { option_copied result ≡ path_of (map string_bytes words.now) }
+/// Returns the server, if the arguments are `unix`, a path, and possibly `--timeout` with a permitted number.
+pub(crate) fn server_of(words: &[String]) -> Option<ServerAt<'_>>
+    ensures { option_map server_seen result ≡ server_of (map string_bytes words.now) }
 {
     match words {
-        [word, path] => {
+        [word, path, rest @ ..] => {
             if word.as_str() == "unix" {
-                Some(path.as_str())
+                server_at(path.as_str(), rest)
             } else {
                 None
             }

@@ -27,8 +27,8 @@ pub use drawn_script::bulk_script;
 pub use laws::{
     runs_are_complete, scripts_fix_texts, servers_in_memory_serve_files, statuses_have_causes,
 };
-use link_duplex::DuplexDial;
-use program_shell::{OUT_OF_MEMORY, exit_with, words_given};
+use link_duplex::{DuplexDial, StandardStreams};
+use program_shell::{OUT_OF_MEMORY, exit_over, exit_with, words_given};
 pub use run::run;
 pub use script_grammar::Script;
 pub use session_model::Report;
@@ -41,11 +41,17 @@ pub use text::write_summary;
 fn main(rt: HostRuntime) -> ExitCode {
     let words = match words_given(&rt) {
         Ok(words) => words,
-        Err(OutOfMemory) => return exit_with(&rt, "sftp_cli", OUT_OF_MEMORY, ""),
+        Err(OutOfMemory) => return exit_with(&rt, "sftp_cli", OUT_OF_MEMORY),
     };
+    let server = answer::server_of(&words);
+    let timeout = match server {
+        Some(server) => server.timeout(),
+        None => None,
+    };
+    let _streams = StandardStreams::keep(&rt);
     let mut source = ReadSource::new(rt.stdin());
     let mut sink = WriteSink::new(rt.stdout());
-    let mut dial = DuplexDial::new(&rt, rt.alloc(), None);
+    let mut dial = DuplexDial::new(&rt, rt.alloc(), timeout);
     let mut kept = None;
     let status = run(
         rt.alloc(),
@@ -58,6 +64,8 @@ fn main(rt: HostRuntime) -> ExitCode {
     if status == refused::REFUSED {
         refused::tell_refused(&rt, &words);
     }
-    let path = answer::unix_path(&words).unwrap_or_default();
-    exit_with(&rt, "sftp_cli", status, path)
+    match server {
+        Some(server) => exit_over(&rt, "sftp_cli", status, server, dial.is_silent()),
+        None => exit_with(&rt, "sftp_cli", status),
+    }
 }

@@ -1,5 +1,5 @@
 //! The message for arguments and scripts that are refused.
-use program_shell::{Command, Operand, tell_refusal};
+use program_shell::{Command, Operand, TIMEOUT, tell_refusal};
 
 /// The status if the arguments or the script can't be used.
 pub(crate) const REFUSED: u8 = 2;
@@ -57,22 +57,27 @@ fn tell_by_operands<'a>(
         Command {
             word: "script",
             operands: none,
+            option: None,
         },
         Command {
             word: "unix",
             operands: path,
+            option: Some(TIMEOUT),
         },
         Command {
             word: "bulk",
             operands: numbers,
+            option: None,
         },
         Command {
             word: "--help",
             operands: none,
+            option: None,
         },
         Command {
             word: "--version",
             operands: none,
+            option: None,
         },
     ];
     tell_refusal(rt, "sftp_cli", &commands, words, input_message(words));

@@ -5,7 +5,7 @@ ghost use Rattle.sftp_cli.specs.Ended.{ProgramEnds};
 ghost use Rattle.program_shell.specs.Outside.{MayFail};
 ghost use Rattle.sftp_cli.specs.Words.{asked_by};
 
-use crate::answer::{help_text, is_script, unix_path};
+use crate::answer::{help_text, is_script, server_of};
 use crate::bulk::{bulk_numbers, run_bulk};
 use crate::printed::Form;
 use program_shell::{answer_in_memory, answer_over_link, answer_to, status_of, write_answer};
@@ -21,7 +21,7 @@ use std::alloc::Global;
 ///
 /// With `unix` and a path it runs the script's lanes over a link to the server that listens there. The link is dialled
 /// once, after the script was read. The script's files, server, choices and picks are ignored. The link is given back
-/// to the dial, whether or not the run succeeded.
+/// to the dial, whether or not the run succeeded. The time limit after the path is that of the links of the dial.
 ///
 /// With `bulk` and three numbers it runs the script that these make over a server in memory, reads nothing, and writes
 /// the numbers of the run. The server is left in `kept`.
@@ -53,8 +53,8 @@ pub fn run<S: Source, K: Sink, D: Dial>(
     *kept = None;
     if is_script(words) {
         status_of(answer_in_memory(alloc, &Form::Whole, source, sink, kept))
-    } else if let Some(path) = unix_path(words) {
-        status_of(answer_over_link(alloc, &Form::Whole, path, source, sink, dial))
+    } else if let Some(server) = server_of(words) {
+        status_of(answer_over_link(alloc, &Form::Whole, server.path, source, sink, dial))
     } else if let Some(numbers) = bulk_numbers(words) {
         status_of(run_bulk(alloc, numbers, sink, kept))
     } else {

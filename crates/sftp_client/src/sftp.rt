@@ -121,6 +121,13 @@ impl<L: Link> Sftp<L> {
         &mut self.core
     }
 
+    /// Returns the link.
+    pub fn link(&self) -> &L
+        ensures { result.now ≡ self.now.link }
+    {
+        &self.link
+    }
+
     /// Sends all that is queued, in order, after the bytes that an earlier call left unsent.
     ///
     /// # Errors

@@ -16,7 +16,7 @@ causes_so : {History : Type 0} (dialled : List ℕ → History → History) (ask
     → HasCauses (status_of end) before now
 causes_so dialled (InMemory schedule) end kept before now h =
     memory_causes list_of (λ list. list.script) (IsCopied schedule) end kept before now h.0 h.1
-causes_so dialled (AtPath path schedule) end kept before now h =
+causes_so dialled (AtPath path seconds schedule) end kept before now h =
     has_causes end before now h.0.source_cause h.0.sink_cause h.0.dial_cause
 causes_so dialled (Text answered text) end kept before now h = sink_causes _ end before now h.0 h.2 h.3
 

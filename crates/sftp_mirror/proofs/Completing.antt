@@ -25,7 +25,7 @@ completes_so : {History : Type 0} (dialled : List ℕ → History → History) (
 completes_so dialled (InMemory schedule) end kept before now h s k =
     in_memory list_of (λ list. list.script) (IsCopied schedule) end kept before.source now.source before.sink now.sink
     long_refused h.0 s k
-completes_so dialled (AtPath path schedule) end kept before now h s k =
+completes_so dialled (AtPath path seconds schedule) end kept before now h s k =
     over_link list_of (RunsOver schedule) dialled path end before now long_refused (unrefused schedule) h.0 s k
 completes_so dialled (Text answered text) end kept before now h s k =
     at_sink _ (status_of (Ok answered)) end before.sink now.sink (λ a t r. ap (λ (x : Answered). status_of (Ok x)) r.0)

@@ -34,7 +34,7 @@ abbrev pub EndsSo : {History : Type 0} → (List ℕ → History → History) �
     → Outside History → Type 0
 EndsSo dialled (InMemory schedule) end kept before now =
     EndsList schedule end kept before.source now.source before.sink now.sink × (now.dial ≡ before.dial)
-EndsSo dialled (AtPath path schedule) end kept before now =
+EndsSo dialled (AtPath path seconds schedule) end kept before now =
     EndsListAt schedule dialled path end before now × (kept ≡ None)
 EndsSo dialled (Text answered text) end kept before now =
     EndsAtSink (IsOnlyAnswer answered text) end before.sink now.sink

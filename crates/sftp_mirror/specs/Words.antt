@@ -1,12 +1,14 @@
 -- believed: Asked
 -- The text and the answer of the program for the arguments of its command line.
 use Rattle.std.specs.Prelude.{◌≤◌, ℕ, List, [], ◌∷◌, ◌++◌, Option, Some, None, Result, Ok, codes, if◌then◌else◌}
+use Rattle.std.specs.Option.{option_and_then, option_map}
 use Rattle.std.specs.Result.{result_ok}
 use Rattle.std.specs.Str.{bytes_eq}
 use Rattle.ssh_encoding.specs.Reading.{◌>>=◌}
 use Rattle.script_words.specs.declared.reason.Reason.{Reason}
 use Rattle.script_words.specs.Lines.{number_in}
 use Rattle.program_shell.specs.declared.ending.Answered.{Answered}
+use Rattle.program_shell.specs.Servers.{ServerWords, server_at}
 use Rattle.program_shell.specs.Texts.{answered_of, text_of}
 use Rattle.sftp_mirror.specs.declared.schedule.Schedule.{Schedule}
 
@@ -15,12 +17,16 @@ use Rattle.sftp_mirror.specs.declared.schedule.Schedule.{Schedule}
 -- The text of `--help`.
 unfoldable pub help_text : List ℕ
 help_text =
-    codes "Usage: sftp_mirror copy WIDTH ROUNDS | unix PATH WIDTH ROUNDS | --help | --version\n"
+    codes "Usage: sftp_mirror copy WIDTH ROUNDS\n"
+    ++ codes "       sftp_mirror unix PATH WIDTH ROUNDS [--timeout SECONDS]\n"
+    ++ codes "       sftp_mirror --help | --version\n"
     ++ codes "\n"
     ++ codes "  copy WIDTH ROUNDS\n"
     ++ codes "               copy the files listed on standard input, over a server in memory\n"
     ++ codes "  unix PATH WIDTH ROUNDS\n"
-    ++ codes "               copy them over the SFTP server that listens on the Unix socket PATH\n"
+    ++ codes "               copy them over the SFTP server that listens on the Unix socket PATH; give\n"
+    ++ codes "               up after SECONDS seconds without any progress, 0 to 86400; the default is\n"
+    ++ codes "               60, and 0 is no limit\n"
     ++ codes "  --help       print this help\n"
     ++ codes "  --version    print the version\n"
     ++ codes "\n"
@@ -69,32 +75,27 @@ copy_of (word ∷ width ∷ rounds ∷ []) =
     if bytes_eq word (codes "copy") then result_ok (schedule_in width rounds) else None
 copy_of (word ∷ width ∷ rounds ∷ another ∷ words) = None
 
--- The argument `unix` and a path, and such numbers after them.
-abbrev pub unix_of : List (List ℕ) → Option Schedule
+-- The argument `unix` and a path, such numbers after them, and the time limit that the arguments after these set.
+abbrev pub unix_of : List (List ℕ) → Option (Schedule × ServerWords)
 unix_of [] = None
 unix_of (word ∷ []) = None
 unix_of (word ∷ path ∷ []) = None
 unix_of (word ∷ path ∷ width ∷ []) = None
-unix_of (word ∷ path ∷ width ∷ rounds ∷ []) =
-    if bytes_eq word (codes "unix") then result_ok (schedule_in width rounds) else None
-unix_of (word ∷ path ∷ width ∷ rounds ∷ another ∷ words) = None
-
--- The path among these arguments.
-abbrev pub path_of : List (List ℕ) → List ℕ
-path_of [] = []
-path_of (word ∷ []) = []
-path_of (word ∷ path ∷ words) = path
+unix_of (word ∷ path ∷ width ∷ rounds ∷ words) =
+    if bytes_eq word (codes "unix") then option_and_then (λ schedule. option_map (λ server. (schedule, server))
+    (server_at path words)) (result_ok (schedule_in width rounds)) else None
 
 -- ---- The request
 
--- A copy of files over a server in memory; a copy over a link to the server at a path; or a text and its meaning.
+-- A copy of files over a server in memory; a copy over a link to the server at a path, with a time limit in seconds; or
+-- a text and its meaning.
 pub data Asked : Type 0 where
   InMemory : Schedule → Asked
-  AtPath : List ℕ → Schedule → Asked
+  AtPath : List ℕ → ℕ → Schedule → Asked
   Text : Answered → List ℕ → Asked
 
-abbrev asked_by_unix : Option Schedule → List (List ℕ) → Asked
-asked_by_unix (Some schedule) words = AtPath (path_of words) schedule
+abbrev asked_by_unix : Option (Schedule × ServerWords) → List (List ℕ) → Asked
+asked_by_unix (Some unix) words = AtPath unix.1.0 unix.1.1 unix.0
 asked_by_unix None words = Text (answered_of words) (text_of help_text words)
 
 abbrev asked_by_copy : Option Schedule → List (List ℕ) → Asked

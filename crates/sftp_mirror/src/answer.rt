@@ -8,12 +8,16 @@ pub(crate) fn help_text() -> &'static str
     ensures { result.now ≡ help_text }
 {
     "\
-Usage: sftp_mirror copy WIDTH ROUNDS | unix PATH WIDTH ROUNDS | --help | --version
+Usage: sftp_mirror copy WIDTH ROUNDS
+       sftp_mirror unix PATH WIDTH ROUNDS [--timeout SECONDS]
+       sftp_mirror --help | --version
 
   copy WIDTH ROUNDS
                copy the files listed on standard input, over a server in memory
   unix PATH WIDTH ROUNDS
-               copy them over the SFTP server that listens on the Unix socket PATH
+               copy them over the SFTP server that listens on the Unix socket PATH; give
+               up after SECONDS seconds without any progress, 0 to 86400; the default is
+               60, and 0 is no limit
   --help       print this help
   --version    print the version
 

@@ -13,10 +13,12 @@ mod schedule;
 
 pub use copy::{CopyReport, copy_jobs};
 pub use laws::{copies_are_complete, statuses_have_causes};
-use link_duplex::DuplexDial;
+use link_duplex::{DuplexDial, StandardStreams};
 pub use list::{CopyList, read_list};
 pub use program::mirror;
-use program_shell::{Command, OUT_OF_MEMORY, Operand, exit_with, tell_refusal, words_given};
+use program_shell::{
+    Command, OUT_OF_MEMORY, Operand, TIMEOUT, exit_over, exit_with, tell_refusal, words_given,
+};
 use sftp_link::{ReadSource, WriteSink};
 use ssh_encoding::OutOfMemory;
 use std::process::ExitCode;
@@ -59,18 +61,22 @@ fn tell_by_operands<'a>(
         Command {
             word: "copy",
             operands: copy,
+            option: None,
         },
         Command {
             word: "unix",
             operands: unix,
+            option: Some(TIMEOUT),
         },
         Command {
             word: "--help",
             operands: none,
+            option: None,
         },
         Command {
             word: "--version",
             operands: none,
+            option: None,
         },
     ];
     tell_refusal(rt, "sftp_mirror", &commands, words, LIST);
@@ -79,11 +85,20 @@ fn tell_by_operands<'a>(
 fn main(rt: HostRuntime) -> ExitCode {
     let words = match words_given(&rt) {
         Ok(words) => words,
-        Err(OutOfMemory) => return exit_with(&rt, "sftp_mirror", OUT_OF_MEMORY, ""),
+        Err(OutOfMemory) => return exit_with(&rt, "sftp_mirror", OUT_OF_MEMORY),
     };
+    let server = match schedule::unix_schedule(&words) {
+        Some((_, server)) => Some(server),
+        None => None,
+    };
+    let timeout = match server {
+        Some(server) => server.timeout(),
+        None => None,
+    };
+    let _streams = StandardStreams::keep(&rt);
     let mut source = ReadSource::new(rt.stdin());
     let mut sink = WriteSink::new(rt.stdout());
-    let mut dial = DuplexDial::new(&rt, rt.alloc(), None);
+    let mut dial = DuplexDial::new(&rt, rt.alloc(), timeout);
     let mut kept = None;
     let status = mirror(
         rt.alloc(),
@@ -96,5 +111,8 @@ fn main(rt: HostRuntime) -> ExitCode {
     if status == REFUSED {
         tell_refused(&rt, &words);
     }
-    exit_with(&rt, "sftp_mirror", status, schedule::path_of(&words))
+    match server {
+        Some(server) => exit_over(&rt, "sftp_mirror", status, server, dial.is_silent()),
+        None => exit_with(&rt, "sftp_mirror", status),
+    }
 }

@@ -6,7 +6,7 @@ ghost use Rattle.program_shell.specs.Outside.{MayFail};
 ghost use Rattle.sftp_mirror.specs.Words.{asked_by};
 
 use crate::answer::help_text;
-use crate::schedule::{copy_schedule, path_of, unix_schedule};
+use crate::schedule::{copy_schedule, unix_schedule};
 use program_shell::{answer_in_memory, answer_over_link, answer_to, status_of, write_answer};
 use sftp_link::{Dial, Sink, Source};
 use sftp_map_server::MapServer;
@@ -20,7 +20,7 @@ use std::alloc::Global;
 ///
 /// With `unix`, a path and two numbers it copies them over a link to the server that listens there. The link is dialled
 /// once, after the list was read. The list's files, server, choices and picks are ignored. The link is given back to
-/// the dial, whether or not the run succeeded.
+/// the dial, whether or not the run succeeded. The time limit after the numbers is that of the links of the dial.
 ///
 /// `--help` and `--version` are answered with their texts.
 ///
@@ -49,8 +49,8 @@ pub fn mirror<S: Source, K: Sink, D: Dial>(
     *kept = None;
     if let Some(schedule) = copy_schedule(words) {
         status_of(answer_in_memory(alloc, &schedule, source, sink, kept))
-    } else if let Some(schedule) = unix_schedule(words) {
-        status_of(answer_over_link(alloc, &schedule, path_of(words), source, sink, dial))
+    } else if let Some((schedule, server)) = unix_schedule(words) {
+        status_of(answer_over_link(alloc, &schedule, server.path, source, sink, dial))
     } else {
         let answer = answer_to(words, help_text());
         status_of(write_answer(sink, answer.answered, answer.text.as_bytes()))

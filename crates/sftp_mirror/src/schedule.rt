@@ -1,9 +1,11 @@
 //! The schedule of the lanes and rounds that copy files, by the arguments of the command line.
 ghost use Rattle.std.specs.Prelude.{◌≡◌, map, IfOk, IfSome};
-ghost use Rattle.std.specs.Option.{option_copied};
+ghost use Rattle.std.specs.Option.{option_map};
 ghost use Rattle.std.specs.String.{string_bytes};
-ghost use Rattle.sftp_mirror.specs.Words.{IsSchedule, copy_of, path_of, schedule_in, unix_of};
+ghost use Rattle.program_shell.specs.Servers.{server_seen};
+ghost use Rattle.sftp_mirror.specs.Words.{IsSchedule, copy_of, schedule_in, unix_of};
 
+use program_shell::{ServerAt, server_at};
 use script_grammar::{Reason, number_in};
 
 /// The most lanes that copy.
@@ -53,29 +55,21 @@ pub(crate) fn copy_schedule(words: &[String]) -> Option<Schedule>
     }
 }
 
-/// Returns the schedule, if the arguments are `unix`, a path and two permitted numbers.
-pub(crate) fn unix_schedule(words: &[String]) -> Option<Schedule>
-    ensures value { result ≡ unix_of (map string_bytes words.now) }
-    ensures ranges { IfSome result IsSchedule }
+/// Returns the schedule and the server, if the arguments are `unix`, a path, two permitted numbers, and possibly
+/// `--timeout` with a permitted number.
+pub(crate) fn unix_schedule(words: &[String]) -> Option<(Schedule, ServerAt<'_>)>
+    ensures value { option_map (λ unix. (unix.0, server_seen unix.1)) result ≡ unix_of (map string_bytes words.now) }
+    ensures ranges { IfSome result (λ unix. IsSchedule unix.0) }
 {
     match words {
-        [word, _, width, rounds] => {
-            if word.as_str() == "unix" {
-                schedule_in(width.as_bytes(), rounds.as_bytes()).ok()
-            } else {
-                None
+        [word, path, width, rounds, rest @ ..] => {
+            if word.as_str() != "unix" {
+                return None;
             }
+            let schedule = schedule_in(width.as_bytes(), rounds.as_bytes()).ok()?;
+            let server = server_at(path.as_str(), rest)?;
+            Some((schedule, server))
         }
         _ => None,
-    }
-}
-
-/// Returns the second argument, or nothing.
-pub(crate) fn path_of(words: &[String]) -> &str
-    ensures { result.now ≡ path_of (map string_bytes words.now) }
-{
-    match words {
-        [_, path, ..] => path.as_str(),
-        _ => "",
     }
 }

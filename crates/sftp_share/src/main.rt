@@ -45,10 +45,12 @@ fn tell_refused<'a>(rt: &HostRuntime, words: &[String], none: &'a [Operand]) {
         Command {
             word: "--help",
             operands: none,
+            option: None,
         },
         Command {
             word: "--version",
             operands: none,
+            option: None,
         },
     ];
     tell_refusal(

@@ -27,6 +27,7 @@ status_of reach.Done = 0
 status_of reach.NotDone = 1
 status_of reach.OutOfMemory = 5
 status_of reach.NoLink = 6
+status_of reach.NoOutput = 3
 
 -- The result of the jobs. Everything was done only if each source contributed all its jobs and all of these were done.
 abbrev pub ended_by : Bool → Bool → Bool → Reach

@@ -17,6 +17,8 @@ pub enum Reach {
     OutOfMemory,
     /// Nothing answers at the address.
     NoLink,
+    /// Standard output failed.
+    NoOutput,
 }
 
 /// A text that the program writes about itself.
@@ -33,7 +35,7 @@ pub enum Text {
 /// The status if the command line can't be used.
 pub(crate) const WORDS: u8 = 2;
 
-/// The status if the local side failed before anything was done.
+/// The status if the local side failed before anything was done, or standard output failed.
 pub(crate) const LOCAL: u8 = 3;
 
 /// The status if an allocation failed.
@@ -48,6 +50,7 @@ pub(crate) fn status_of(reach: Reach) -> u8
         Reach::NotDone => 1,
         Reach::OutOfMemory => OUT_OF_MEMORY,
         Reach::NoLink => 6,
+        Reach::NoOutput => LOCAL,
     }
 }
 

@@ -35,12 +35,39 @@ fn write_entry(rt: &HostRuntime, found: &Found, folder_len: usize, long: bool) -
     }
 }
 
+/// Writes the entries of a directory, one a line. They are those after the first, and their paths begin with its path.
+fn write_entries(rt: &HostRuntime, walk: &Walk, folder_len: usize, long: bool) -> io::Result<()> {
+    for entry in walk.found().iter().skip(1) {
+        write_entry(rt, entry, folder_len, long)?;
+    }
+    Ok(())
+}
+
+/// Returns the result of a listing after its output failed, and reports the reason.
+fn without_output(rt: &HostRuntime, error: io::Error) -> Reach {
+    match TransferError::from(error) {
+        TransferError::OutOfMemory => {
+            tell(rt, "standard output", &TransferError::OutOfMemory);
+            Reach::OutOfMemory
+        }
+        reason => {
+            tell(rt, "standard output", &reason);
+            Reach::NoOutput
+        }
+    }
+}
+
 /// Writes the names of a directory, one a line, and returns the result.
 pub(crate) fn list<L: Link>(rt: &HostRuntime, sftp: &mut Sftp<L>, listing: &Listing<'_>) -> Reach
     requires { IsGoing L.LinkState.state sftp.old }
 {
-    match list_into(rt, sftp, listing) {
-        Ok(()) => Reach::Done,
+    match entries_of(rt, sftp, listing) {
+        Ok((walk, folder_len)) => {
+            match write_entries(rt, &walk, folder_len, listing.options.long) {
+                Ok(()) => Reach::Done,
+                Err(error) => without_output(rt, error),
+            }
+        }
         Err(reason) => {
             tell(rt, listing.path, &reason);
             ended_by(is_starved(&reason), false, false)
@@ -48,11 +75,13 @@ pub(crate) fn list<L: Link>(rt: &HostRuntime, sftp: &mut Sftp<L>, listing: &List
     }
 }
 
-fn list_into<L: Link>(
+/// Returns the walk of a directory whose entries were listed, which are those after the first, and the number of bytes
+/// of its path in theirs.
+fn entries_of<L: Link>(
     rt: &HostRuntime,
     sftp: &mut Sftp<L>,
     listing: &Listing<'_>,
-) -> Result<(), TransferError>
+) -> Result<(Walk, usize), TransferError>
     requires { IsGoing L.LinkState.state sftp.old }
 {
     let alloc = rt.alloc();
@@ -72,8 +101,5 @@ fn list_into<L: Link>(
     if let Err(e) = list_remote(alloc, sftp, &mut walk) {
         return Err(e.into());
     }
-    for found in &walk.found()[1..] {
-        write_entry(rt, found, folder.len(), listing.long)?;
-    }
-    Ok(())
+    Ok((walk, folder.len()))
 }

@@ -24,6 +24,7 @@ mod window;
 mod work;
 
 pub use ended::{Reach, Text};
+use link_duplex::StandardStreams;
 pub use run::{Outside, run};
 use std::env;
 use std::io::ErrorKind;
@@ -32,6 +33,7 @@ pub use system::SystemFile;
 use terminal::Terminal;
 
 fn main(rt: HostRuntime) -> ExitCode {
+    let _streams = StandardStreams::keep(&rt);
     let mut words = Vec::new(rt.alloc());
     let mut starved = false;
     match env::args(&rt) {

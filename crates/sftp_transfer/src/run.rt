@@ -52,7 +52,7 @@ fn run_asked<O: Outside>(outside: &mut O, asked: &Asked<'_>) -> u8
 /// - 0: a text was written, or everything that was asked for was done.
 /// - 1: something was not done.
 /// - 2: exactly if the command line is refused.
-/// - 3: a text could not be written, or the local side didn't let the work start.
+/// - 3: a text or a listing could not be written, or the local side didn't let the work start.
 /// - 5: an allocation failed.
 /// - 6: exactly if the command line asks for a link at which no server could be reached.
 pub fn run<O: Outside>(outside: &mut O, words: &[String]) -> u8

@@ -1,15 +1,13 @@
 //! The environment of the program as it is run.
-ghost use Rattle.std.specs.Prelude.{◌<◌, ◌-◌, ◌^◌};
-
-use crate::connection::{tcp_link, unix_link};
+use crate::connection::{stdio_link, tcp_link, unix_link};
 use crate::ended::{Reach, Text};
 use crate::run::Outside;
 use crate::texts::written;
 use crate::work::{can_begin, over};
-use link_buffered::BufferedLink;
-use sftp_link::{Duplex, ReadSource, WriteSink};
+use link_duplex::release_stdio;
 use std::env;
 use std::io::{self, ErrorKind};
+use std::time::Duration;
 use transfer_args::{Asked, LinkAt, Misfit, Work, misfit_of};
 
 /// The files, the streams and the network of the system. It does not record what is done with it.
@@ -48,7 +46,13 @@ impl<'a> Outside for Terminal<'a> {
     ghost history = { λ terminal. tt };
 
     fn write(&mut self, text: Text) -> bool {
-        self.rt.print(written(text)).is_ok()
+        match self.rt.print(written(text)) {
+            Ok(()) => true,
+            Err(error) => {
+                let _ = eprintln!(self.rt; "sftp_transfer: standard output: {error}");
+                false
+            }
+        }
     }
 
     fn refuse(&mut self) {
@@ -69,23 +73,26 @@ impl<'a> Outside for Terminal<'a> {
     }
 
     fn go(&mut self, asked: &Asked<'_>) -> Reach {
+        let timeout = match asked.work.timeout() {
+            0 => None,
+            seconds => Some(Duration::from_secs(u64::from(seconds))),
+        };
         match asked.link {
-            LinkAt::Unix(path) => match unix_link(self.rt, path) {
+            LinkAt::Unix(path) => match unix_link(self.rt, path, timeout) {
                 Ok(link) => over(self.rt, link, asked.work),
                 Err(why) => no_link(self.rt, path, why),
             },
-            LinkAt::Tcp(address) => match tcp_link(self.rt, address) {
+            LinkAt::Tcp(address) => match tcp_link(self.rt, address, timeout) {
                 Ok(link) => over(self.rt, link, asked.work),
                 Err(why) => no_link(self.rt, address, why),
             },
             LinkAt::Stdio => {
-                let source = ReadSource::new(self.rt.stdin());
-                let link = Duplex::new(source, WriteSink::new(self.rt.stdout()));
-                over(
-                    self.rt,
-                    BufferedLink::new(self.rt.alloc(), link),
-                    asked.work,
-                )
+                let reach = match stdio_link(self.rt, timeout) {
+                    Ok(link) => over(self.rt, link, asked.work),
+                    Err(why) => no_link(self.rt, "stdio", why),
+                };
+                release_stdio(self.rt);
+                reach
             }
         }
     }

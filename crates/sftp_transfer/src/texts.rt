@@ -6,7 +6,7 @@ fn help_text() -> &'static str {
     "\
 Usage: sftp_transfer LINK get [OPTIONS] REMOTE.. LOCAL
        sftp_transfer LINK put [OPTIONS] LOCAL.. REMOTE
-       sftp_transfer LINK list [-l] [PATH]
+       sftp_transfer LINK list [-l] [--timeout SECONDS] [PATH]
        sftp_transfer --help | --version
 
 Copies files and directory trees from or to an SFTP server, many files at once and with
@@ -27,6 +27,9 @@ standard input and output are the connection. With ssh:
   --files N    copy N files at once, 1 to 256; the default is 32
   --window N   keep N requests in flight for each file, 1 to 1024; the default is 64
   --limit N    keep at most N bytes in flight for all files together; the default is 16777216
+  --timeout N  give up after N seconds without any progress, 0 to 86400; the default is 60,
+               and 0 is no limit
+  -l           list types and sizes
 
 If the target is a directory, or if there are several sources, each source is copied into
 the target. A file NAME is written as .NAME.part beside it, and gets its name once all its

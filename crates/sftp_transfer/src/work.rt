@@ -9,10 +9,13 @@ use crate::listing::list;
 use crate::local_side::{is_folder, make_local_folder};
 use crate::transfer_error::{TransferError, is_starved, tell, tell_of};
 use crate::verdicts::Verdicts;
+use link_duplex::{DuplexLink, StreamWire};
 use sftp_client::Sftp;
 use sftp_link::Link;
 use sftp_model::SftpOptions;
 use std::fs;
+use std::io::{Read, Write};
+use std::os::fd::AsRawFd;
 use transfer_args::{Direction, Transfer, Work};
 use transfer_plan::{carry_out, keep_apart};
 use transfer_remote::{make_remote_folder, remote_metadata};
@@ -73,10 +76,26 @@ fn folder_of(path: &str) -> &str {
     }
 }
 
+/// Reports that the server was silent, if the wire was given up for that.
+fn tell_silence<R: Read + AsRawFd + Drop, W: Write + AsRawFd + Drop>(
+    rt: &HostRuntime,
+    link: &DuplexLink<StreamWire<R, W>>,
+    seconds: u32,
+) {
+    if link.wire().is_silent() {
+        let _ = eprintln!(rt; "sftp_transfer: the server was silent for {seconds} seconds");
+    }
+}
+
 /// Does the requested work over a link, which is dropped at the end, and returns the result.
-pub(crate) fn over<L: Link + Drop>(rt: &HostRuntime, link: L, work: Work<'_>) -> Reach
-    requires { (L.LinkState.state link).faults < 2 ^ 64 - 1 }
+pub(crate) fn over<R: Read + AsRawFd + Drop, W: Write + AsRawFd + Drop>(
+    rt: &HostRuntime,
+    link: DuplexLink<StreamWire<R, W>>,
+    work: Work<'_>,
+) -> Reach
+    requires { link.wire.faults < 2 ^ 64 - 1 }
 {
+    let seconds = work.timeout();
     match Sftp::new(rt.alloc(), link, &SftpOptions::new()) {
         Ok(sftp) => match work {
             Work::Copy(transfer) => {
@@ -92,16 +111,21 @@ pub(crate) fn over<L: Link + Drop>(rt: &HostRuntime, link: L, work: Work<'_>) ->
                     },
                     verdicts: Verdicts::none(rt.alloc()),
                 };
-                copy(&mut courier, &transfer)
+                let reach = copy(&mut courier, &transfer);
+                tell_silence(rt, courier.sftp.link(), seconds);
+                reach
             }
             Work::List(listing) => {
                 let mut sftp = sftp;
-                list(rt, &mut sftp, &listing)
+                let reach = list(rt, &mut sftp, &listing);
+                tell_silence(rt, sftp.link(), seconds);
+                reach
             }
         },
-        Err((e, _link)) => {
+        Err((e, link)) => {
             let reason = TransferError::from(e);
             tell(rt, "the session", &reason);
+            tell_silence(rt, &link, seconds);
             ended_by(is_starved(&reason), false, false)
         }
     }

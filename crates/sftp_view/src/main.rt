@@ -55,14 +55,17 @@ fn tell_by_operands<'a>(
         Command {
             word: "view",
             operands: size,
+            option: None,
         },
         Command {
             word: "--help",
             operands: none,
+            option: None,
         },
         Command {
             word: "--version",
             operands: none,
+            option: None,
         },
     ];
     tell_refusal(rt, "sftp_view", &commands, words, LIST);
@@ -71,7 +74,7 @@ fn tell_by_operands<'a>(
 fn main(rt: HostRuntime) -> ExitCode {
     let words = match words_given(&rt) {
         Ok(words) => words,
-        Err(OutOfMemory) => return exit_with(&rt, "sftp_view", OUT_OF_MEMORY, ""),
+        Err(OutOfMemory) => return exit_with(&rt, "sftp_view", OUT_OF_MEMORY),
     };
     let mut source = ReadSource::new(rt.stdin());
     let mut sink = WriteSink::new(rt.stdout());
@@ -80,5 +83,5 @@ fn main(rt: HostRuntime) -> ExitCode {
     if status == REFUSED {
         tell_refused(&rt, &words);
     }
-    exit_with(&rt, "sftp_view", status, "")
+    exit_with(&rt, "sftp_view", status)
 }

@@ -36,6 +36,8 @@ use Rattle.transfer_args.specs.declared.asked.Work.TheVariants as work
 use Rattle.transfer_args.specs.declared.options.Counted.{Counted}
 use Rattle.transfer_args.specs.declared.options.Counted.TheVariants as counted
 use Rattle.transfer_args.specs.declared.options.Options.{Options}
+use Rattle.transfer_args.specs.declared.options.Verb.{Verb}
+use Rattle.transfer_args.specs.declared.options.Verb.TheVariants as verb
 
 -- ---- Numbers
 
@@ -47,20 +49,22 @@ digits_behind most number (b ∷ bytes) =
     if nat_le (number * 10 + (b - 48)) most then digits_behind most (number * 10 + (b - 48)) bytes else None
     ) else None
 
--- The number, if it is at least 1.
-abbrev pub from_one : Option ℕ → Option ℕ
-from_one None = None
-from_one (Some n) = if n == 0 then None else Some n
+-- The number, if it is at least this one.
+abbrev pub from_least : ℕ → Option ℕ → Option ℕ
+from_least least None = None
+from_least least (Some n) = if nat_le least n then Some n else None
 
--- A number from 1 to `most`, in decimal digits.
-abbrev pub number_in : ℕ → List ℕ → Option ℕ
-number_in most word = from_one (digits_behind most 0 word)
+-- A number from `least` to `most`, in decimal digits, at least one.
+abbrev pub number_in : ℕ → ℕ → List ℕ → Option ℕ
+number_in least most [] = None
+number_in least most (b ∷ bytes) = from_least least (digits_behind most 0 (b ∷ bytes))
 
 -- ---- Options
 
 -- The options of a command line that has none.
 abbrev pub plain_options : Options
 plain_options = record {
+  long = false;
   recursive = false;
   preserve = false;
   quiet = false;
@@ -70,11 +74,12 @@ plain_options = record {
   window = 64;
   files = 32;
   limit = 16777216;
+  timeout = 60;
 }
 
--- The options after an option that is a word alone.
-abbrev pub flag_of : Options → List ℕ → Option Options
-flag_of o word =
+-- The options of a copy after an option that is a word alone.
+abbrev pub copy_flag_of : Options → List ℕ → Option Options
+copy_flag_of o word =
     if bytes_eq word (codes "-r") then Some (record o { recursive = true })
     else if bytes_eq word (codes "-p") then Some (record o { preserve = true })
     else if bytes_eq word (codes "-q") then Some (record o { quiet = true })
@@ -83,20 +88,35 @@ flag_of o word =
     else if bytes_eq word (codes "--verify") then Some (record o { verify = true })
     else None
 
--- The option that a number follows, if the word is one.
-abbrev pub counted_by : List ℕ → Option Counted
-counted_by word =
+-- The options of a listing after an option that is a word alone.
+abbrev pub list_flag_of : Options → List ℕ → Option Options
+list_flag_of o word = if bytes_eq word (codes "-l") then Some (record o { long = true }) else None
+
+abbrev pub flag_of : Verb → Options → List ℕ → Option Options
+flag_of verb.Copy o word = copy_flag_of o word
+flag_of verb.List o word = list_flag_of o word
+
+-- The option of a copy that a number follows, if the word is one.
+abbrev pub copy_counted_by : List ℕ → Option Counted
+copy_counted_by word =
     if bytes_eq word (codes "--window") then Some counted.Window
     else if bytes_eq word (codes "--files") then Some counted.Files
     else if bytes_eq word (codes "--limit") then Some counted.Limit
     else None
 
--- The options with the number that a word writes: a window of at most 1024, at most 256 files at once, or at most
--- 1073741824 bytes in flight.
+-- The option that a number follows, if the word is one. Only the time limit is one of a listing too.
+abbrev pub counted_by : Verb → List ℕ → Option Counted
+counted_by verb.Copy word =
+    if bytes_eq word (codes "--timeout") then Some counted.Timeout else copy_counted_by word
+counted_by verb.List word = if bytes_eq word (codes "--timeout") then Some counted.Timeout else None
+
+-- The options with the number that a word writes: a window of at most 1024, at most 256 files at once, at most
+-- 1073741824 bytes in flight, or a time limit of at most 86400 seconds, where 0 is none.
 abbrev pub with_count : Options → Counted → List ℕ → Option Options
-with_count o counted.Window word = option_map (λ n. record o { window = n }) (number_in 1024 word)
-with_count o counted.Files word = option_map (λ n. record o { files = n }) (number_in 256 word)
-with_count o counted.Limit word = option_map (λ n. record o { limit = n }) (number_in 1073741824 word)
+with_count o counted.Window word = option_map (λ n. record o { window = n }) (number_in 1 1024 word)
+with_count o counted.Files word = option_map (λ n. record o { files = n }) (number_in 1 256 word)
+with_count o counted.Limit word = option_map (λ n. record o { limit = n }) (number_in 1 1073741824 word)
+with_count o counted.Timeout word = option_map (λ n. record o { timeout = n }) (number_in 0 86400 word)
 
 -- ---- The address of the server
 
@@ -131,17 +151,17 @@ by_counted with_number other (Some counted) = with_number counted
 
 -- The options at the front, and the words after them. A word that begins with "-" is an option, and "--" ends the
 -- options. An option that takes a number is followed by its number.
-abbrev pub options_by : Options → Option Counted → List (List ℕ) → Option (Options × List (List ℕ))
-options_by o None [] = Some (o, [])
-options_by o (Some counted) [] = None
-options_by o (Some counted) (word ∷ words) = option_and_then (λ more. options_by more None words)
+abbrev pub options_by : Verb → Options → Option Counted → List (List ℕ) → Option (Options × List (List ℕ))
+options_by verb o None [] = Some (o, [])
+options_by verb o (Some counted) [] = None
+options_by verb o (Some counted) (word ∷ words) = option_and_then (λ more. options_by verb more None words)
     (with_count o counted word)
-options_by o None (word ∷ words) =
+options_by verb o None (word ∷ words) =
     if bytes_eq word (codes "--") then Some (o, words)
-    else by_counted (λ counted. options_by o (Some counted) words)
-    (if is_option word then option_and_then (λ more. options_by more None words) (flag_of o word)
+    else by_counted (λ counted. options_by verb o (Some counted) words)
+    (if is_option word then option_and_then (λ more. options_by verb more None words) (flag_of verb o word)
     else Some (o, word ∷ words))
-    (counted_by word)
+    (counted_by verb word)
 
 -- ---- The work
 
@@ -154,7 +174,7 @@ split_last (word ∷ next ∷ words) = option_map (λ s. (word ∷ s.0, s.1)) (s
 -- Files to copy, or a directory whose names are to be written.
 pub data WorkWords : Type 0 where
   Copies : Direction → Options → List (List ℕ) → List ℕ → WorkWords
-  Lists : Bool → List ℕ → WorkWords
+  Lists : Options → List ℕ → WorkWords
 
 -- One source or more, and the target.
 abbrev pub copy_of : Direction → Options → Option (List (List ℕ) × List ℕ) → Option WorkWords
@@ -163,17 +183,16 @@ copy_of way o (Some ([], target)) = None
 copy_of way o (Some (source ∷ sources, target)) = Some (Copies way o (source ∷ sources) target)
 
 abbrev pub copy_by : Direction → List (List ℕ) → Option WorkWords
-copy_by way words = option_and_then (λ r. copy_of way r.0 (split_last r.1)) (options_by plain_options None words)
+copy_by way words = option_and_then (λ r. copy_of way r.0 (split_last r.1)) (options_by verb.Copy plain_options None words)
 
 -- A directory. Without one it is the directory in which the session starts.
-abbrev pub list_at : Bool → List (List ℕ) → Option WorkWords
-list_at long [] = Some (Lists long (codes "."))
-list_at long (path ∷ []) = if is_option path then None else Some (Lists long path)
-list_at long (path ∷ another ∷ words) = None
+abbrev pub list_at : Options → List (List ℕ) → Option WorkWords
+list_at o [] = Some (Lists o (codes "."))
+list_at o (path ∷ []) = Some (Lists o path)
+list_at o (path ∷ another ∷ words) = None
 
 abbrev pub list_by : List (List ℕ) → Option WorkWords
-list_by [] = list_at false []
-list_by (word ∷ words) = if bytes_eq word (codes "-l") then list_at true words else list_at false (word ∷ words)
+list_by words = option_and_then (λ r. list_at r.0 r.1) (options_by verb.List plain_options None words)
 
 abbrev pub work_by : List ℕ → List (List ℕ) → Option WorkWords
 work_by verb words =
@@ -184,7 +203,7 @@ work_by verb words =
 
 -- False only if names are to be written and standard output is the connection.
 abbrev pub can_do : LinkWord → WorkWords → Bool
-can_do AtStdio (Lists long path) = false
+can_do AtStdio (Lists o path) = false
 can_do at work = true
 
 abbrev pub asked_at : LinkWord → WorkWords → Option (LinkWord × WorkWords)
@@ -201,7 +220,7 @@ asked_by (word ∷ verb ∷ words) = option_and_then (λ at. option_and_then (as
 
 abbrev pub work_seen : Work → WorkWords
 work_seen (work.Copy t) = Copies t.way t.options (map string_bytes t.sources.now) t.target.now
-work_seen (work.List l) = Lists l.long l.path.now
+work_seen (work.List l) = Lists l.options l.path.now
 
 abbrev pub asked_seen : Asked → LinkWord × WorkWords
 asked_seen a = (link_seen a.link, work_seen a.work)

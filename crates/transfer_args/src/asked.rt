@@ -45,8 +45,8 @@ pub struct Transfer<'a> {
 /// Used in `crates/transfer_args/src/parser.rt`.
 #[derive(Clone, Copy)]
 pub struct Listing<'a> {
-    /// `-l`: with types and sizes.
-    pub long: bool,
+    /// The options of the listing.
+    pub options: Options,
     /// The path of the directory.
     pub path: &'a str,
 }
@@ -60,6 +60,16 @@ pub enum Work<'a> {
     Copy(Transfer<'a>),
     /// Writes the names of a directory.
     List(Listing<'a>),
+}
+
+impl<'a> Work<'a> {
+    /// Returns the seconds after which a silent server is given up; 0 if it never is.
+    pub fn timeout(&self) -> u32 {
+        match self {
+            Work::Copy(transfer) => transfer.options.timeout,
+            Work::List(listing) => listing.options.timeout,
+        }
+    }
 }
 
 /// The request of a command line: a server and the work to do there.

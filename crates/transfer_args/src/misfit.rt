@@ -1,5 +1,5 @@
 //! The reason why a command line can't be used.
-use crate::options::Counted;
+use crate::options::{Counted, Verb};
 use crate::parser::{counted_by, link_at, options_by, plain_options, with_count, with_flag};
 use std::fmt;
 
@@ -20,8 +20,8 @@ pub enum Misfit<'a> {
     UnknownOption(&'a str),
     /// Nothing follows this option, which a number has to follow.
     NoNumber(&'a str),
-    /// What follows this option is not a number from 1 to this one.
-    BadNumber(&'a str, u32, &'a str),
+    /// What follows this option is not a number in this range.
+    BadNumber(&'a str, (u32, u32), &'a str),
     /// Fewer than two operands follow this verb and its options.
     FewOperands(&'a str),
     /// This argument follows the directory to list.
@@ -30,31 +30,32 @@ pub enum Misfit<'a> {
     ListsStdio,
 }
 
-/// Returns the greatest number of an option.
-fn most_of(counted: Counted) -> u32 {
+/// Returns the least and the greatest number of an option.
+fn range_of(counted: Counted) -> (u32, u32) {
     match counted {
-        Counted::Window => 1024,
-        Counted::Files => 256,
-        Counted::Limit => 1073741824,
+        Counted::Window => (1, 1024),
+        Counted::Files => (1, 256),
+        Counted::Limit => (1, 1073741824),
+        Counted::Timeout => (0, 86400),
     }
 }
 
 /// Returns the reason why the options at the front can't be used, if it is one of them.
-fn bad_option(words: &[String]) -> Option<Misfit<'_>> {
+fn bad_option(verb: Verb, words: &[String]) -> Option<Misfit<'_>> {
     let options = plain_options();
     let mut awaited = None;
     for word in words {
         let word = word.as_str();
         if let Some((option, counted)) = awaited {
             if with_count(options, counted, word).is_none() {
-                return Some(Misfit::BadNumber(option, most_of(counted), word));
+                return Some(Misfit::BadNumber(option, range_of(counted), word));
             }
             awaited = None;
-        } else if let Some(counted) = counted_by(word) {
+        } else if let Some(counted) = counted_by(verb, word) {
             awaited = Some((word, counted));
         } else if word == "--" || !word.starts_with('-') {
             return None;
-        } else if with_flag(options, word).is_none() {
+        } else if with_flag(verb, options, word).is_none() {
             return Some(Misfit::UnknownOption(word));
         }
     }
@@ -66,42 +67,27 @@ fn bad_option(words: &[String]) -> Option<Misfit<'_>> {
 
 /// Returns the reason why the arguments after the verb of a copy can't be used, or `None` if they can.
 fn copy_misfit<'a>(verb: &'a str, words: &'a [String]) -> Option<Misfit<'a>> {
-    if let Some(found) = bad_option(words) {
+    if let Some(found) = bad_option(Verb::Copy, words) {
         return Some(found);
     }
-    match options_by(words) {
+    match options_by(Verb::Copy, words) {
         Some((_, [_, _, ..])) => None,
         _ => Some(Misfit::FewOperands(verb)),
     }
 }
 
-/// Returns the reason why the arguments after `list` and its option can't be used, or `None` if they can.
-fn path_misfit(words: &[String]) -> Option<Misfit<'_>> {
-    match words {
-        [] => None,
-        [path, rest @ ..] => {
-            let path = path.as_str();
-            if path.starts_with('-') {
-                return Some(Misfit::UnknownOption(path));
-            }
-            match rest {
-                [] => None,
-                [word, ..] => Some(Misfit::ManyOperands(word.as_str())),
-            }
-        }
-    }
-}
-
 /// Returns the reason why the arguments after `list` can't be used, or `None` if they can.
 fn list_misfit<'a>(link: &str, words: &'a [String]) -> Option<Misfit<'a>> {
-    let found = match words {
-        [word, rest @ ..] if word.as_str() == "-l" => path_misfit(rest),
-        _ => path_misfit(words),
-    };
-    if found.is_none() && link == "stdio" {
+    if let Some(found) = bad_option(Verb::List, words) {
+        return Some(found);
+    }
+    if let Some((_, [_, word, ..])) = options_by(Verb::List, words) {
+        return Some(Misfit::ManyOperands(word.as_str()));
+    }
+    if link == "stdio" {
         return Some(Misfit::ListsStdio);
     }
-    found
+    None
 }
 
 /// Returns the reason why a command line can't be used, or `None` if it can.
@@ -140,9 +126,10 @@ impl fmt::Display for Misfit<'_> {
             }
             Misfit::UnknownOption(word) => write!(f, "unknown option '{word}'"),
             Misfit::NoNumber(option) => write!(f, "option '{option}' needs a number"),
-            Misfit::BadNumber(option, most, word) => write!(
+            Misfit::BadNumber(option, range, word) => write!(
                 f,
-                "the number of '{option}' is from 1 to {most}, not '{word}'"
+                "the number of '{option}' is from {} to {}, not '{word}'",
+                range.0, range.1
             ),
             Misfit::FewOperands(verb) => write!(f, "'{verb}' needs a source and a target"),
             Misfit::ManyOperands(word) => write!(f, "'list' takes no argument '{word}'"),

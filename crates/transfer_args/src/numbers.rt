@@ -20,12 +20,15 @@ fn number(most: u32, digits: &[u8]) -> Option<u32>
     Some(number as u32)
 }
 
-/// Returns the number that a word writes in decimal digits, if it is from 1 to `most`.
-pub(crate) fn number_in(most: u32, word: &[u8]) -> Option<u32>
-    ensures { result ≡ number_in most word.now }
+/// Returns the number that a word writes in decimal digits, if it is from `least` to `most`.
+pub(crate) fn number_in(least: u32, most: u32, word: &[u8]) -> Option<u32>
+    ensures { result ≡ number_in least most word.now }
 {
+    if word.is_empty() {
+        return None;
+    }
     match number(most, word) {
-        Some(0) | None => None,
-        Some(number) => Some(number),
+        Some(number) if number >= least => Some(number),
+        _ => None,
     }
 }

@@ -1,10 +1,12 @@
-//! The options of a transfer.
+//! The options of a transfer and of a listing.
 
-/// The options of a transfer.
+/// The options of a transfer and of a listing.
 ///
 /// Used in `crates/sftp_transfer/src/batch.rt`.
 #[derive(Clone, Copy, Debug, PartialEq, Eq)]
 pub struct Options {
+    /// `-l`: lists types and sizes, too.
+    pub long: bool,
     /// `-r`: also copies directories, with all their contents.
     pub recursive: bool,
     /// `-p`: preserves permissions and times.
@@ -23,6 +25,17 @@ pub struct Options {
     pub files: u32,
     /// `--limit BYTES`: the bytes in flight for all files together, from 1 to 1073741824.
     pub limit: u32,
+    /// `--timeout SECONDS`: the seconds after which a silent server is given up, up to 86400; 0 if it never is.
+    pub timeout: u32,
+}
+
+/// The verbs with options of their own.
+#[derive(Clone, Copy, Debug, PartialEq, Eq)]
+pub(crate) enum Verb {
+    /// `get` and `put`.
+    Copy,
+    /// `list`.
+    List,
 }
 
 /// An option that a number follows.
@@ -34,4 +47,6 @@ pub(crate) enum Counted {
     Files,
     /// `--limit`.
     Limit,
+    /// `--timeout`.
+    Timeout,
 }

@@ -2,17 +2,18 @@
 ghost use Rattle.std.specs.Prelude.{◌≡◌, None, map};
 ghost use Rattle.std.specs.Option.{option_map};
 ghost use Rattle.std.specs.String.{string_bytes};
-ghost use Rattle.transfer_args.specs.Words.{asked_at, asked_by, asked_seen, copy_by, counted_by, flag_of, link_at, link_seen, list_at, list_by, options_by, plain_options, split_last, with_count, work_by, work_seen};
+ghost use Rattle.transfer_args.specs.Words.{asked_at, asked_by, asked_seen, copy_by, copy_counted_by, copy_flag_of, counted_by, flag_of, link_at, link_seen, list_at, list_by, list_flag_of, options_by, plain_options, split_last, with_count, work_by, work_seen};
 
 use crate::asked::{Asked, Direction, LinkAt, Listing, Transfer, Work};
 use crate::numbers::number_in;
-use crate::options::{Counted, Options};
+use crate::options::{Counted, Options, Verb};
 
 /// Returns the options of a command line that has none.
 pub(crate) fn plain_options() -> Options
     ensures { result ≡ plain_options }
 {
     Options {
+        long: false,
         recursive: false,
         preserve: false,
         quiet: false,
@@ -22,12 +23,13 @@ pub(crate) fn plain_options() -> Options
         window: 64,
         files: 32,
         limit: 16777216,
+        timeout: 60,
     }
 }
 
-/// Returns the option that a word is, if it is one that a number follows.
-pub(crate) fn counted_by(word: &str) -> Option<Counted>
-    ensures { result ≡ counted_by word.now }
+/// Returns the option of a copy that a word is, if it is one that a number follows.
+fn copy_counted_by(word: &str) -> Option<Counted>
+    ensures { result ≡ copy_counted_by word.now }
 {
     if word == "--window" {
         Some(Counted::Window)
@@ -40,6 +42,19 @@ pub(crate) fn counted_by(word: &str) -> Option<Counted>
     }
 }
 
+/// Returns the option of a verb that a word is, if it is one that a number follows.
+pub(crate) fn counted_by(verb: Verb, word: &str) -> Option<Counted>
+    ensures { result ≡ counted_by verb word.now }
+{
+    if word == "--timeout" {
+        return Some(Counted::Timeout);
+    }
+    match verb {
+        Verb::Copy => copy_counted_by(word),
+        Verb::List => None,
+    }
+}
+
 /// Returns the options with a number that a word writes.
 pub(crate) fn with_count(options: Options, counted: Counted, word: &str) -> Option<Options>
     ensures { result ≡ with_count options counted word.now }
@@ -47,23 +62,27 @@ pub(crate) fn with_count(options: Options, counted: Counted, word: &str) -> Opti
     let word = word.as_bytes();
     match counted {
         Counted::Window => Some(Options {
-            window: number_in(1024, word)?,
+            window: number_in(1, 1024, word)?,
             ..options
         }),
         Counted::Files => Some(Options {
-            files: number_in(256, word)?,
+            files: number_in(1, 256, word)?,
             ..options
         }),
         Counted::Limit => Some(Options {
-            limit: number_in(1073741824, word)?,
+            limit: number_in(1, 1073741824, word)?,
+            ..options
+        }),
+        Counted::Timeout => Some(Options {
+            timeout: number_in(0, 86400, word)?,
             ..options
         }),
     }
 }
 
-/// Returns the options after an option that is a word alone, or `None` if the word is no such option.
-pub(crate) fn with_flag(options: Options, word: &str) -> Option<Options>
-    ensures { result ≡ flag_of options word.now }
+/// Returns the options of a copy after an option that is a word alone, or `None` if the word is no such option.
+fn with_copy_flag(options: Options, word: &str) -> Option<Options>
+    ensures { result ≡ copy_flag_of options word.now }
 {
     if word == "-r" {
         Some(Options {
@@ -100,6 +119,30 @@ pub(crate) fn with_flag(options: Options, word: &str) -> Option<Options>
     }
 }
 
+/// Returns the options of a listing after an option that is a word alone, or `None` if the word is no such option.
+fn with_list_flag(options: Options, word: &str) -> Option<Options>
+    ensures { result ≡ list_flag_of options word.now }
+{
+    if word == "-l" {
+        Some(Options {
+            long: true,
+            ..options
+        })
+    } else {
+        None
+    }
+}
+
+/// Returns the options of a verb after an option that is a word alone, or `None` if the word is no such option.
+pub(crate) fn with_flag(verb: Verb, options: Options, word: &str) -> Option<Options>
+    ensures { result ≡ flag_of verb options word.now }
+{
+    match verb {
+        Verb::Copy => with_copy_flag(options, word),
+        Verb::List => with_list_flag(options, word),
+    }
+}
+
 /// Returns the address of the server that a word writes.
 pub(crate) fn link_at(word: &str) -> Option<LinkAt<'_>>
     ensures { option_map link_seen result ≡ link_at word.now }
@@ -117,8 +160,8 @@ pub(crate) fn link_at(word: &str) -> Option<LinkAt<'_>>
 }
 
 /// Returns the options at the front, and the words after them.
-pub(crate) fn options_by(words: &[String]) -> Option<(Options, &[String])>
-    ensures { option_map (λ p. (p.0, map string_bytes p.1.now)) result ≡ options_by plain_options None (map string_bytes words.now) }
+pub(crate) fn options_by(verb: Verb, words: &[String]) -> Option<(Options, &[String])>
+    ensures { option_map (λ p. (p.0, map string_bytes p.1.now)) result ≡ options_by verb plain_options None (map string_bytes words.now) }
 {
     let mut options = plain_options();
     let mut awaited = None;
@@ -138,10 +181,10 @@ pub(crate) fn options_by(words: &[String]) -> Option<(Options, &[String])>
                     awaited = None;
                 } else if word == "--" {
                     return Some((options, later));
-                } else if let Some(counted) = counted_by(word) {
+                } else if let Some(counted) = counted_by(verb, word) {
                     awaited = Some(counted);
                 } else if word.starts_with('-') {
-                    options = with_flag(options, word)?;
+                    options = with_flag(verb, options, word)?;
                 } else {
                     return Some((options, rest));
                 }
@@ -165,7 +208,7 @@ fn split_last(words: &[String]) -> Option<(&[String], &str)>
 fn copy_by(way: Direction, words: &[String]) -> Option<Work<'_>>
     ensures { option_map work_seen result ≡ copy_by way (map string_bytes words.now) }
 {
-    let (options, operands) = options_by(words)?;
+    let (options, operands) = options_by(Verb::Copy, words)?;
     let (sources, target) = split_last(operands)?;
     if sources.is_empty() {
         return None;
@@ -179,18 +222,15 @@ fn copy_by(way: Direction, words: &[String]) -> Option<Work<'_>>
 }
 
 /// Returns the directory whose names are to be written, if there is at most one word.
-fn list_at(long: bool, words: &[String]) -> Option<Work<'_>>
-    ensures { option_map work_seen result ≡ list_at long (map string_bytes words.now) }
+fn list_at(options: Options, words: &[String]) -> Option<Work<'_>>
+    ensures { option_map work_seen result ≡ list_at options (map string_bytes words.now) }
 {
     match words {
-        [] => Some(Work::List(Listing { long, path: "." })),
-        [path] => {
-            let path = path.as_str();
-            if path.starts_with('-') {
-                return None;
-            }
-            Some(Work::List(Listing { long, path }))
-        }
+        [] => Some(Work::List(Listing { options, path: "." })),
+        [path] => Some(Work::List(Listing {
+            options,
+            path: path.as_str(),
+        })),
         _ => None,
     }
 }
@@ -199,16 +239,8 @@ fn list_at(long: bool, words: &[String]) -> Option<Work<'_>>
 fn list_by(words: &[String]) -> Option<Work<'_>>
     ensures { option_map work_seen result ≡ list_by (map string_bytes words.now) }
 {
-    match words {
-        [word, rest @ ..] => {
-            if word.as_str() == "-l" {
-                list_at(true, rest)
-            } else {
-                list_at(false, words)
-            }
-        }
-        [] => list_at(false, words),
-    }
+    let (options, operands) = options_by(Verb::List, words)?;
+    list_at(options, operands)
 }
 
 /// Returns the work that a verb and the words after it ask for.
