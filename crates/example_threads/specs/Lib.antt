@@ -1,1 +1,3 @@
+pub mod Crews
+pub mod Journal
 pub mod Silent
