@@ -2,8 +2,9 @@
 # Runs the program of crates/example_threads: a hundred runs of eight lanes over the server in memory, whose receipts are compared with
 # their journals; five of eight lanes over replies that are laid out beforehand, whose outcomes are those that these replies bring;
 # and, where OpenSSH's SFTP server and socat are there, sixteen lanes in threads over it, with 1,000 files up and 1,000 down
-# that are compared, twenty runs of eight threads that submit and cancel calls, and servers that end in the middle or are killed,
-# behind which each thread ends. It installs nothing: where the server or socat is missing it says which, and passes over that part.
+# that are compared, twenty runs of eight threads that submit and cancel calls, twenty of four and of sixteen lanes that read large
+# files beside as many that write them, and servers that end in the middle or are killed, after which each thread ends. It installs
+# nothing: where the server or socat is missing it says which, and passes over that part.
 # Another program than the one that `rt ci` built may be given.
 set -u
 case ${1-} in
@@ -144,6 +145,32 @@ while [ $run -lt 20 ]; do
     timeout 30 "$program" calls "$room/socket" >"$room/text" 2>"$room/err" &&
         grep -qE '^calls 1600 cancelled [1-9][0-9]* entries [0-9]+$' "$room/text"
     tell "threads that submit and cancel calls, run $run" $?
+done
+
+# ---- large files both ways at once: the server writes a whole reply before it reads on
+
+head -c 250000 /dev/urandom >"$room/large"
+part=$(hex <"$room/large")
+for lanes in 4 16; do
+    lane=0
+    while [ $lane -lt $lanes ]; do
+        lane=$((lane + 1))
+        printf 'lane\nfs_read %s 100\nfs_read %s 100\n' "$(at large)" "$(at large)"
+        printf 'lane\nfs_write %s %s\n' "$(at "large$lane")" "$part"
+    done >"$room/both"
+    run=0
+    while [ $run -lt 20 ]; do
+        run=$((run + 1))
+        rm -f "$room"/large[0-9]*
+        timeout 60 "$program" counts "$room/socket" <"$room/both" >"$room/text" 2>"$room/err"
+        status=$?
+        lane=0
+        while [ $status -eq 0 ] && [ $lane -lt $lanes ]; do
+            lane=$((lane + 1))
+            cmp "$room/large" "$room/large$lane" >"$room/err" || status=1
+        done
+        tell "$lanes lanes that read and $lanes that write 250,000 bytes, run $run, status $status" $status
+    done
 done
 
 # ---- servers that end in the middle: after so many bytes of what they are told, or of what they tell
