@@ -49,7 +49,7 @@ refuse() {
     if [ -c /dev/full ]; then
         timeout 60 "$program" "$@" <"$input" >/dev/full 2>"$room/err"
         status=$?
-        tell "$name $* with a full output" "$wanted" "$(cause 'no space left on device')"
+        tell "$name $* with a full output" "$wanted" "$(cause 'No space left on device (os error 28)')"
     fi
     # Both ends are open first, so that no open waits; then only the one that is written.
     rm -f "$room/pipe"
@@ -64,10 +64,10 @@ refuse() {
     )
     status=$?
     exec 4>&-
-    tell "$name $* with an output that nobody reads, without SIGPIPE" "$wanted" "$(cause 'broken pipe')"
+    tell "$name $* with an output that nobody reads, without SIGPIPE" "$wanted" "$(cause 'Broken pipe (os error 32)')"
     timeout 60 "$program" "$@" <"$input" >&- 2>"$room/err"
     status=$?
-    tell "$name $* with a closed output" "$wanted" "$(cause 'bad file descriptor')"
+    tell "$name $* with a closed output" "$wanted" "$(cause 'Bad file descriptor (os error 9)')"
 }
 
 # Returns the message with the cause in its place.
