@@ -1,13 +1,13 @@
 //! Sessions that run lanes, as the driver uses them.
 ghost use Rattle.std.specs.Prelude.{◌≡◌, ◌≢◌, ◌<◌, ◌↔◌, false, None, IsTrue, IfOk, IfErr, OnErr, OnOk, length};
 ghost use Rattle.std.specs.Option.{option_map};
-ghost use Rattle.sftp_model.specs.Pieces.{joined_pieces};
 ghost use Rattle.sftp_model.specs.ReplyReadings.{reply_at};
 ghost use Rattle.session_model.specs.Calls.{current, move_of};
 ghost use Rattle.session_model.specs.Readings.{count_awaited, count_unanswered, unsent_bytes, was_let_go};
 ghost use Rattle.session_model.specs.Shown.{hello_frame};
 ghost use Rattle.session_model.specs.Turns.{is_full};
 ghost use Rattle.session_driver.specs.Session.{SessionView, ContinuesJournal, HasRefused, IsUnmoved, StaysInPhase, IsLater, HasTakenVersion, HasTakenLimits, StepsTo, CancelsCall, TakesAndSettles, HandsOut, LetsGo, IsGreeted, IsQueried, is_event, LessBy, at_rest};
+ghost use Rattle.sftp_core.specs.Pieces.{chunk_bytes};
 ghost use Rattle.sftp_core.specs.Take.{IsFirst};
 ghost use Rattle.session_driver.specs.Refusals.{refuses, refuses_hello};
 
@@ -61,7 +61,7 @@ pub trait RunsLanes {
     /// `OutOfMemory` if an allocation fails; the journal, the setting and VERSION are unchanged.
     fn greet(&mut self) -> Result<Chunk, OutOfMemory>
         requires fresh { (seen self.old).phase ≡ Phase.Fresh }
-        ensures ok { IfOk result (λ chunk. joined_pieces chunk ≡ hello_frame) }
+        ensures ok { IfOk result (λ chunk. chunk_bytes chunk ≡ hello_frame) }
         ensures now { OnOk result (IsGreeted (seen self.old) (seen self.new)) }
         ensures left { OnErr result (IsUnmoved (seen self.old) (seen self.new)) };
 
@@ -85,7 +85,7 @@ pub trait RunsLanes {
     /// `OutOfMemory` if an allocation fails; the journal, the setting and VERSION are unchanged.
     fn query(&mut self) -> Result<Chunk, OutOfMemory>
         requires asking { (seen self.old).phase ≡ Phase.Asking }
-        ensures ok { IfOk result (λ chunk. joined_pieces chunk ≡ unsent_bytes (seen self.old).progress.past) }
+        ensures ok { IfOk result (λ chunk. chunk_bytes chunk ≡ unsent_bytes (seen self.old).progress.past) }
         ensures now { OnOk result (IsQueried (seen self.old) (seen self.new)) }
         ensures later { OnOk result (IsLater (seen self.new).setting (seen self.old).progress.past (seen self.new).progress.past) }
         ensures left { OnErr result (IsUnmoved (seen self.old) (seen self.new)) };
@@ -150,7 +150,7 @@ pub trait RunsLanes {
     /// `OutOfMemory` if an allocation fails; the journal, the setting and VERSION are unchanged.
     fn hand_out(&mut self) -> Result<Option<Chunk>, OutOfMemory>
         requires open { (seen self.old).phase ≡ Phase.Open }
-        ensures ok { IfOk result (λ chunk. HandsOut (seen self.old).setting (seen self.old).progress (option_map joined_pieces chunk) (seen self.new).progress) }
+        ensures ok { IfOk result (λ chunk. HandsOut (seen self.old).setting (seen self.old).progress (option_map chunk_bytes chunk) (seen self.new).progress) }
         ensures stays { OnOk result (StaysInPhase (seen self.old) (seen self.new)) }
         ensures work { OnOk result ((seen self.new).work ≡ (seen self.old).work) }
         ensures left { OnErr result (IsUnmoved (seen self.old) (seen self.new)) };

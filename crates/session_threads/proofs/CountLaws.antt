@@ -75,7 +75,7 @@ module _ {Service : Type 0} where
 
   flush_rose : (m n : Token) (v w : LinkView Service) → FlushStops error.LinkFault m n v w → Rose v w
   flush_rose m n v w (inl r) = absurd r.0.did
-  flush_rose m n v w (inr (inl u)) = rose {T = Unit {0}} u.why u.mid n v w u.sent.caused u.stops
+  flush_rose m n v w (inr (inl u)) = rose {T = Unit {0}} u.why u.at n v w u.sent.caused u.stops
   flush_rose m n v w (inr (inr did)) = absurd (cc did.0)
 
   flush_shift_rose : (a b : WorkerState Service) → FlushShift (Err error.LinkFault) a b → Rose a.1 b.1

@@ -123,7 +123,7 @@ module _ {Service : Type 0} (e : Error) (own : fault_for e ≢ None) where
 
   flush_first : (m n : Token) (v w : LinkView Service) → FlushStops e m n v w → IsFirstFault e
   flush_first m n v w (inl r) = absurd (refused_none m n v w r)
-  flush_first m n v w (inr (inl u)) = stopped_first e u.why u.mid n own u.stops
+  flush_first m n v w (inr (inl u)) = stopped_first e u.why u.at n own u.stops
   flush_first m n v w (inr (inr did)) = absurd (own (ap fault_for did.0))
 
   read_first : (m n : Token) (v w : LinkView Service) → ReadStops e m n v w → IsFirstFault e

@@ -1,5 +1,5 @@
 //! The lanes of an open session: steps, cancels and releases of a lane, and frames that go out and come in.
-ghost use Rattle.std.specs.Prelude.{◌≡◌, ◌<◌, ◌+◌, ◌≢◌, ℕ, List, Bool, Some, None, false, IfOk, IfErr, OnOk, OnErr, length, vec_len, vec_capacity, slice_get};
+ghost use Rattle.std.specs.Prelude.{◌≡◌, ◌<◌, ◌+◌, ◌≢◌, ℕ, List, Bool, Some, None, false, IfOk, IfErr, IfSome, OnOk, OnErr, length, vec_len, vec_capacity, slice_get};
 ghost use Rattle.session_work.specs.Fresh.{IsMade};
 ghost use Rattle.session_work.specs.Adding.{added_in};
 ghost use Rattle.session_work.specs.SoFar.{IsIntact, HasRoom, IsLeft, HasOneMore, RefusesWhileOpen, RefusesFrame, TakesFrame, kept_past};
@@ -14,9 +14,9 @@ ghost use Rattle.session_laws.specs.Lanes.{Held, Ticketed};
 ghost use Rattle.session_work.specs.Closing.{CanClose, ClosesDueGrants, HasClosed, IsClosing};
 ghost use Rattle.plan_runner.specs.Pending.{slots_times};
 ghost use Rattle.std.specs.Option.{option_map};
-ghost use Rattle.sftp_model.specs.Pieces.{joined_pieces};
 ghost use Rattle.sftp_model.specs.ReplyReadings.{reply_at};
 ghost use Rattle.sftp_core.specs.Core.{failed_with};
+ghost use Rattle.sftp_core.specs.Pieces.{chunk_bytes, HasFrames};
 
 use crate::calls::current_call;
 use crate::journal::{
@@ -352,7 +352,8 @@ impl Lanes {
     pub fn hand_out(&mut self) -> Result<Option<Chunk>, OutOfMemory>
         requires opened { IsOpened self.old }
         requires intact { IsIntact (length self.old.calls) self.old }
-        ensures hands_out { (s : Setting) → IsWorking s self.old → IfOk result (λ chunk. HandsAll s self.old self.new (option_map joined_pieces chunk)) }
+        ensures hands_out { (s : Setting) → IsWorking s self.old → IfOk result (λ chunk. HandsAll s self.old self.new (option_map chunk_bytes chunk)) }
+        ensures frames { IfOk result (λ chunk. IfSome chunk (λ c. HasFrames c self.old.core.queue)) }
         ensures left { OnErr result (IsLeft self.old self.new) }
         ensures intact { IsIntact (length self.old.calls) self.new }
     {

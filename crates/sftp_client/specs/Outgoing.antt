@@ -3,9 +3,15 @@ use Rattle.std.specs.Prelude.{◌≡◌, ◌<◌, ℕ, List, [], ◌∷◌, ◌+
 use Rattle.sftp_model.specs.Pieces.{joined_pieces}
 use Rattle.sftp_model.specs.declared.error.Error.{Error}
 use Rattle.sftp_core.specs.Frames.{AreFilled}
+use Rattle.sftp_core.specs.Pieces.{ChunkValue}
 use Rattle.sftp_link.specs.Told.{IfLogged, SentAll}
 use Rattle.sftp_link.specs.Views.{LinkView}
 use Rattle.link_frames.specs.Causes.{IsCausedByLink, IsUnsent}
+
+-- The pieces of a chunk, if there is one.
+abbrev pub chunk_pieces : Option ChunkValue → Option (List (List ℕ))
+chunk_pieces None = None
+chunk_pieces (Some chunk) = Some chunk.pieces
 
 -- The bytes of a chunk from a piece on, and of that piece from an offset on.
 abbrev pub unsent_from : Option (List (List ℕ)) → ℕ → ℕ → List ℕ

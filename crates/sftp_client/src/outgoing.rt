@@ -1,6 +1,7 @@
 //! Bytes that were handed out and are not sent yet.
 ghost use Rattle.std.specs.Prelude.{◌≡◌, ◌<◌, ◌≤◌, ◌-◌, ◌^◌, [], ◌++◌, length, drop, Some};
 ghost use Rattle.sftp_core.specs.Frames.{AreFilled};
+ghost use Rattle.sftp_core.specs.Pieces.{chunk_bytes};
 ghost use Rattle.sftp_model.specs.Pieces.{joined_pieces};
 ghost use Rattle.sftp_link.specs.Moves.{HasSent};
 ghost use Rattle.sftp_client.specs.Outgoing.{IsPrefixOf, IsAt, IsWithin, SendsOn, unsent_from};
@@ -30,13 +31,13 @@ pub(crate) struct Outgoing {
 
 impl Model for Outgoing {
     ghost use Rattle.std.specs.Prelude.{List, ℕ};
-    ghost use Rattle.sftp_client.specs.Outgoing.{IsAt, unsent_from};
+    ghost use Rattle.sftp_client.specs.Outgoing.{IsAt, chunk_pieces, unsent_from};
 
     ghost Value = { List ℕ };
 
-    ghost view = { λ o. unsent_from o.chunk o.piece o.offset };
+    ghost view = { λ o. unsent_from (chunk_pieces o.chunk) o.piece o.offset };
 
-    ghost invariant = { λ o. IsAt o.chunk o.piece o.offset };
+    ghost invariant = { λ o. IsAt (chunk_pieces o.chunk) o.piece o.offset };
 }
 
 impl Outgoing {
@@ -53,8 +54,8 @@ impl Outgoing {
 
     /// Returns a chunk of which everything is unsent.
     pub(crate) fn of(chunk: Chunk) -> Outgoing
-        requires { AreFilled chunk }
-        ensures { result ≡ joined_pieces chunk }
+        requires { AreFilled chunk.pieces }
+        ensures { result ≡ chunk_bytes chunk }
     {
         Outgoing {
             chunk: Some(chunk),
@@ -75,7 +76,7 @@ impl Outgoing {
         }
     }
 
-    /// Returns the chunk, if all of it was sent, so that its list may be used again.
+    /// Returns the chunk, if all of it was sent, so that its memory may be used again.
     pub(crate) fn into_chunk(self) -> Option<Chunk> {
         let Outgoing { chunk, .. } = self;
         chunk

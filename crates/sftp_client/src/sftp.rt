@@ -6,10 +6,10 @@ ghost use Rattle.sftp_client.specs.contracts.sftp.Sftp.{the_row};
 ghost use Rattle.sftp_core.specs.contracts.pipeline.Core.{the_row as core_row};
 ghost use Rattle.sftp_core.specs.Frames.{AreFilled};
 ghost use Rattle.sftp_core.specs.Info.{info_of};
+ghost use Rattle.sftp_core.specs.Pieces.{chunk_bytes};
 ghost use Rattle.sftp_file.specs.Files.{facts_of};
 ghost use Rattle.sftp_model.specs.Numbers.{COPY_DATA, EXPAND_PATH, FSYNC, HARDLINK, POSIX_RENAME};
 ghost use Rattle.sftp_model.specs.OpenOptions.{nothing_chosen};
-ghost use Rattle.sftp_model.specs.Pieces.{joined_pieces};
 ghost use Rattle.sftp_client.specs.Rounds.{ClosesSession, DrainsReplies, ExchangeEnds, OpenEnds, OpensSftp, fresh_sftp};
 ghost use Rattle.sftp_client.specs.Sessions.{FlushesQueue, FlushesUnfailed, IsWholeFrame, PullsFrame, SendsRest, TakesOrKept, TakesPulled, TakesUnfailed, TakesWhole, fault_by, kept_after, with_core};
 ghost use Rattle.sftp_client.specs.Waits.{IsReadyOr};
@@ -409,14 +409,14 @@ impl<L: Link> Sftp<L> {
         }
     }
 
-    /// Puts a chunk in the place of one that was sent; the core uses the list of that one again.
+    /// Puts a chunk in the place of one that was sent; the core uses the memory of that one again.
     fn put_out(&mut self, chunk: Chunk)
-        requires { AreFilled chunk }
-        ensures { self.new ≡ record self.old { unsent = joined_pieces chunk } }
+        requires { AreFilled chunk.pieces }
+        ensures { self.new ≡ record self.old { unsent = chunk_bytes chunk } }
     {
         let sent = mem::replace(&mut self.outgoing, Outgoing::of(chunk));
-        if let Some(list) = sent.into_chunk() {
-            self.core.give_back(list);
+        if let Some(chunk) = sent.into_chunk() {
+            self.core.give_back(chunk);
         }
     }
 

@@ -21,13 +21,14 @@ use Rattle.std.proofs.Common.{
   append-nil,
   append_assoc,
   length-append,
+  suc,
   add-one,
 }
 use Rattle.std.specs.List.{All}
 use Rattle.std.proofs.Math.Seq.{take-suc}
 use Rattle.std.proofs.lemmas.Grind.{flat_map-append}
 use Rattle.std.proofs.lemmas.List.{map_push, length-map, get_or-map}
-use Rattle.std.proofs.lemmas.List.Elements.{All-append, All-cons, All-nil}
+use Rattle.std.proofs.lemmas.List.Elements.{All-append, All-cons, All-more, All-nil}
 use Rattle.ssh_encoding.specs.Writing.{uint32, uint64, string}
 use Rattle.sftp_model.specs.Pieces.{joined_pieces}
 use Rattle.sftp_model.specs.Numbers.{SSH_FXP_WRITE}
@@ -38,14 +39,14 @@ use Rattle.sftp_wire.specs.Heads.{content_of, request_head}
 use Rattle.sftp_wire.proofs.Heads.{head_and_content}
 use Rattle.sftp_wire.proofs.Lengths.{length-uint32, length-string}
 use Rattle.sftp_core.specs.Frames.{AreFilled, IsShort}
-use Rattle.sftp_core.specs.Pieces.{Frame, asked_of, pieces_in, pieces_of, one_filled, filled_of, IsCut, IsShortFrame, IsWhole}
+use Rattle.sftp_core.specs.Pieces.{Frame, asked_of, pieces_in, pieces_of, one_filled, filled_of, IsCut, IsCutFrame, IsShortFrame}
 
 -- ---- lists
 pub taken : {X : Type 0} (xs : List X) (i : ℕ) (x : X) → i < length xs → x ≡ get_or xs i x → take (i + 1) xs ≡ take i xs
     ++ x ∷ []
 taken xs i x h e = ap (λ n. take n xs) (add-one i) ∙ take-suc xs i x h ∙ ap (λ y. take i xs ++ y ∷ []) (sym e)
 
-joined-append : (xs ys : List (List ℕ)) → joined_pieces (xs ++ ys) ≡ joined_pieces xs ++ joined_pieces ys
+pub joined-append : (xs ys : List (List ℕ)) → joined_pieces (xs ++ ys) ≡ joined_pieces xs ++ joined_pieces ys
 joined-append [] ys = refl
 joined-append (x ∷ xs) ys = ap (λ l. x ++ l) (joined-append xs ys)
     ∙ sym (append_assoc x (joined_pieces xs) (joined_pieces ys))
@@ -124,27 +125,35 @@ cut-parts asked parts filled content is = rw is (record {
 })
 
 -- ---- a queue
-pub whole-none : IsWhole []
-whole-none = record { joins = refl; filled = All-nil (λ piece. 0 < length piece) }
+tail : {X : Type 0} (P : X → Type 0) (x : X) (xs : List X) → All P (x ∷ xs) → All P xs
+tail P x xs all i d h = all (suc i) d (omega (arith, h))
 
-pub whole-push : (queue : List Frame) (f : Frame) → IsWhole queue → IsCut f.request f.parts → IsWhole (queue ++ f ∷ [])
-whole-push queue f w cut =
-    record {
-      joins =
-          ap joined_pieces (pieces-push queue f) ∙ joined-append (pieces_of queue) (pieces_in f)
-          ∙ (λ i. w.joins i ++ (request_head f.request f.id ++ cut.joins i))
-          ∙ ap (λ l. frames_of (map asked_of queue) ++ l) (head_and_content f.request f.id)
-          ∙ sym (ap frames_of (asked-push queue f) ∙ frames-push (map asked_of queue) (asked_of f));
-      filled =
-          subst AreFilled (sym (pieces-push queue f))
-          (All-append (λ piece. 0 < length piece) (pieces_of queue) (pieces_in f) w.filled
-          (All-cons (λ piece. 0 < length piece) (request_head f.request f.id) f.parts (head_filled f.request f.id)
-          cut.filled));
-    }
+head : {X : Type 0} (P : X → Type 0) (x : X) (xs : List X) → All P (x ∷ xs) → P x
+head P x xs all = all 0 x (omega arith)
 
-pub whole-more : (queue : List Frame) (i : ℕ) (f : Frame) → i < length queue → f ≡ get_or queue i f
-    → IsWhole (take i queue) → IsCut f.request f.parts → IsWhole (take (i + 1) queue)
-whole-more queue i f h e w cut = subst IsWhole (sym (taken queue i f h e)) (whole-push (take i queue) f w cut)
+-- the pieces of a queue join to its frames
+pub queue-joins : (queue : List Frame) → All IsCutFrame queue → joined_pieces (pieces_of queue)
+    ≡ frames_of (map asked_of queue)
+queue-joins [] all = refl
+queue-joins (f ∷ queue) all =
+    let cut : IsCutFrame f = head IsCutFrame f queue all in
+    let rest = queue-joins queue (tail IsCutFrame f queue all) in
+    joined-append (pieces_in f) (pieces_of queue)
+    ∙ (λ i. (request_head f.request f.id ++ cut.joins i) ++ rest i)
+    ∙ ap (λ l. l ++ frames_of (map asked_of queue)) (head_and_content f.request f.id)
+
+-- none of them is empty
+pub queue-filled : (queue : List Frame) → All IsCutFrame queue → AreFilled (pieces_of queue)
+queue-filled [] all = All-nil (λ piece. 0 < length piece)
+queue-filled (f ∷ queue) all =
+    let cut : IsCutFrame f = head IsCutFrame f queue all in
+    All-append (λ piece. 0 < length piece) (pieces_in f) (pieces_of queue)
+    (All-cons (λ piece. 0 < length piece) (request_head f.request f.id) f.parts (head_filled f.request f.id) cut.filled)
+    (queue-filled queue (tail IsCutFrame f queue all))
+
+pub cut-more : (queue : List Frame) (i : ℕ) (f : Frame) → i < length queue → f ≡ get_or queue i f
+    → All IsCutFrame (take i queue) → IsCut f.request f.parts → All IsCutFrame (take (i + 1) queue)
+cut-more queue i f h e all cut = All-more IsCutFrame queue i f h all (subst IsCutFrame e cut)
 
 pub pieces-more : (queue : List Frame) (i : ℕ) (f : Frame) (first out next : List (List ℕ)) → i < length queue → f
     ≡ get_or queue i f → out ≡ first ++ pieces_of (take i queue) → next ≡ out ++ pieces_in f → next ≡ first

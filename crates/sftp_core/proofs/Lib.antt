@@ -2,6 +2,7 @@ pub mod Tables
 mod Slots
 mod Marks
 pub mod Cuts
+mod Groups
 pub mod Counts
 pub mod Tallies
 mod Sounds

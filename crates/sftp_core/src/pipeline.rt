@@ -2,12 +2,11 @@
 ghost use Rattle.std.specs.Prelude.{◌≡◌, ◌+◌, ◌<◌, ◌≤◌, ◌∷◌, ◌++◌, [], ℕ, map, slice_get, None, Some, false, IsTrue, IsSome, IfOk, IfErr, IfSome, OnOk, OnErr, vec_len, vec_capacity};
 ghost use Rattle.std.specs.FinMap as fin;
 ghost use Rattle.std.specs.Option.{option_map};
-ghost use Rattle.sftp_model.specs.Pieces.{joined_pieces};
 ghost use Rattle.sftp_model.specs.Frames.{frames_of, is_too_long};
 ghost use Rattle.sftp_core.specs.Core.{fresh, queued_of, awaited_of, unanswered_of, kept_of, failed_with, is_call, write_of, refusal_of, submit_refusal, IsSubmitError, QueuesRequest, SubmittedParts, handed_out};
 ghost use Rattle.sftp_wire.specs.Heads.{request_head};
 ghost use Rattle.sftp_core.specs.Frames.{AreFilled, IsShort};
-ghost use Rattle.sftp_core.specs.Pieces.{asked_of, pieces_of, IsCut};
+ghost use Rattle.sftp_core.specs.Pieces.{asked_of, chunk_bytes, pieces_of, HasFrames, IsCut};
 ghost use Rattle.sftp_core.specs.Info.{MAX_IDS, info_of, HasLengths};
 ghost use Rattle.sftp_core.specs.Queue.{IsPutLast, IsUnput};
 ghost use Rattle.sftp_core.specs.Table.{marked_all};
@@ -46,7 +45,7 @@ pub struct Core {
     queue: Vec<Queued>,
     table: Table,
     fault: Option<Fault>,
-    list: Vec<Bytes>,
+    spare: Chunk,
 }
 
 impl Model for Core {
@@ -93,7 +92,7 @@ impl Core {
             queue,
             table: Table::new(alloc),
             fault: None,
-            list: Vec::new(alloc),
+            spare: Chunk::new(alloc),
         })
     }
 
@@ -243,25 +242,26 @@ impl Core {
     ///
     /// `OutOfMemory` if an allocation fails; the core is unchanged.
     pub fn hand_out(&mut self) -> Result<Chunk, OutOfMemory>
-        ensures ok { IfOk result (λ chunk. joined_pieces chunk ≡ frames_of self.old.queue) }
-        ensures pieces { IfOk result (λ chunk. chunk ≡ self.old.pieces) }
-        ensures filled { IfOk result (λ chunk. AreFilled chunk) }
+        ensures ok { IfOk result (λ chunk. chunk_bytes chunk ≡ frames_of self.old.queue) }
+        ensures frames { IfOk result (λ chunk. HasFrames chunk self.old.queue) }
+        ensures pieces { IfOk result (λ chunk. chunk.pieces ≡ self.old.pieces) }
+        ensures filled { IfOk result (λ chunk. AreFilled chunk.pieces) }
         ensures after { OnOk result (self.new ≡ handed_out self.old) }
         ensures unchanged { OnErr result (self.new ≡ self.old) }
     {
-        let list = mem::replace(&mut self.list, Vec::new(self.alloc));
-        let chunk = Chunk::of_queue(self.alloc, self.queue.as_slice(), list)?;
+        let spare = mem::replace(&mut self.spare, Chunk::new(self.alloc));
+        let chunk = Chunk::of_queue(self.alloc, self.queue.as_slice(), spare)?;
         mark_all(&mut self.table, self.queue.as_slice());
         self.queue.clear();
         self.hello_sent = true;
         Ok(chunk)
     }
 
-    /// Takes a chunk back, and keeps its list for the next one. Nothing else changes.
+    /// Takes a chunk back, and keeps its memory for the next one. Nothing else changes.
     pub fn give_back(&mut self, chunk: Chunk)
         ensures { self.new ≡ self.old }
     {
-        self.list = chunk.into_list();
+        self.spare = chunk.cleared();
     }
 
     /// Ends the core. No bytes are sent. The returned value allows the release of its tickets and grants.

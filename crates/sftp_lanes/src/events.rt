@@ -1,8 +1,8 @@
 //! Calls of a session's lanes, and the frames that it hands out and takes in each phase.
-ghost use Rattle.std.specs.Prelude.{◌≡◌, None, IfOk, IfErr, MatchBool, OnErr, OnOk, false, length, nat_lt, true};
+ghost use Rattle.std.specs.Prelude.{◌≡◌, None, IfOk, IfErr, IfSome, MatchBool, OnErr, OnOk, false, length, nat_lt, true};
 ghost use Rattle.std.specs.Option.{option_map};
+ghost use Rattle.sftp_core.specs.Pieces.{chunk_bytes, HasFrames};
 ghost use Rattle.sftp_core.specs.Take.{IsFirst};
-ghost use Rattle.sftp_model.specs.Pieces.{joined_pieces};
 ghost use Rattle.sftp_model.specs.ReplyReadings.{reply_at};
 ghost use Rattle.session_model.specs.Calls.{current};
 ghost use Rattle.session_model.specs.Readings.{was_let_go};
@@ -113,7 +113,8 @@ impl Session {
     /// Returns the frames of all unsent requests of an open session. Fails if an allocation fails.
     pub(crate) fn hand_out_unsent(&mut self) -> Result<Option<Chunk>, OutOfMemory>
         requires open { self.old.phase ≡ phases.Open }
-        ensures hands_out { IfOk result (λ chunk. LanesDid (λ s before after. HandsAll s before after (option_map joined_pieces chunk)) self.old self.new) }
+        ensures hands_out { IfOk result (λ chunk. LanesDid (λ s before after. HandsAll s before after (option_map chunk_bytes chunk)) self.old self.new) }
+        ensures frames { IfOk result (λ chunk. IfSome chunk (λ c. HasFrames c self.old.work.core.queue)) }
         ensures left { OnErr result (HasFailed self.old self.new) }
     {
         let chunk = self.work.hand_out();
@@ -142,7 +143,8 @@ impl Session {
     /// `OutOfMemory` if an allocation fails: the calls and the journal are unchanged then, and each later call fails in
     /// the same way.
     pub fn hand_out(&mut self) -> Result<Option<Chunk>, OutOfMemory>
-        ensures hands_out { IfOk result (λ chunk. HandsOutIn self.old.phase self.old self.new (option_map joined_pieces chunk)) }
+        ensures hands_out { IfOk result (λ chunk. HandsOutIn self.old.phase self.old self.new (option_map chunk_bytes chunk)) }
+        ensures frames { IfOk result (λ chunk. IfSome chunk (λ c. HasFrames c self.old.work.core.queue)) }
         ensures left { OnErr result (HasFailed self.old self.new) }
         ensures some { OnErr result (takes_memory self.old.phase ≡ true) }
     {
@@ -163,7 +165,7 @@ impl Session {
         }
     }
 
-    /// Takes back a chunk that was handed out, so that its list is used for the next one. It changes nothing else.
+    /// Takes back a chunk that was handed out, so that its memory is used for the next one. It changes nothing else.
     pub fn give_back(&mut self, chunk: Chunk)
         ensures { self.new ≡ self.old }
     {

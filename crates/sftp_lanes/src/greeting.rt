@@ -1,7 +1,7 @@
 //! The opening of a session: the hello and its VERSION, and the query for limits.
 ghost use Rattle.std.specs.Prelude.{◌≡◌, IfOk, IfErr, OnErr, OnOk};
+ghost use Rattle.sftp_core.specs.Pieces.{chunk_bytes, HasFrames};
 ghost use Rattle.sftp_core.specs.Take.{IsFirst};
-ghost use Rattle.sftp_model.specs.Pieces.{joined_pieces};
 ghost use Rattle.sftp_model.specs.ReplyReadings.{reply_at};
 ghost use Rattle.session_model.specs.Readings.{unsent_bytes};
 ghost use Rattle.session_model.specs.Shown.{hello_frame};
@@ -21,7 +21,8 @@ impl Session {
     /// Hands the hello out. Fails if an allocation fails.
     pub(crate) fn hand_hello(&mut self) -> Result<Chunk, OutOfMemory>
         requires fresh { self.old.phase ≡ phases.Fresh }
-        ensures hello { IfOk result (λ chunk. joined_pieces chunk ≡ hello_frame) }
+        ensures hello { IfOk result (λ chunk. chunk_bytes chunk ≡ hello_frame) }
+        ensures frames { IfOk result (λ chunk. HasFrames chunk self.old.work.core.queue) }
         ensures hands { OnOk result (HandsHello self.old self.new) }
         ensures left { OnErr result (HasFailed self.old self.new) }
     {
@@ -86,7 +87,8 @@ impl Session {
     /// Hands the query for limits out. Fails if an allocation fails.
     pub(crate) fn hand_query(&mut self) -> Result<Chunk, OutOfMemory>
         requires asking { self.old.phase ≡ phases.Asking }
-        ensures query { IfOk result (λ chunk. joined_pieces chunk ≡ unsent_bytes (past_of self.old.work)) }
+        ensures query { IfOk result (λ chunk. chunk_bytes chunk ≡ unsent_bytes (past_of self.old.work)) }
+        ensures frames { IfOk result (λ chunk. HasFrames chunk self.old.work.core.queue) }
         ensures hands { OnOk result (HandsQuery self.old self.new) }
         ensures left { OnErr result (HasFailed self.old self.new) }
     {

@@ -55,12 +55,12 @@ use Rattle.session_seats.specs.Holds.{Allowance, GoesBy, Hold, claim_of, no_allo
 use Rattle.session_seats.proofs.Lists.{stays_on, stays_same}
 use Rattle.sftp_tasks.specs.declared.locked.Locked.{Locked}
 use Rattle.sftp_tasks.specs.Shows.{shown_of}
-use Rattle.sftp_model.specs.Pieces.{joined_pieces}
+use Rattle.sftp_core.specs.Pieces.{chunk_bytes}
 use Rattle.sftp_model.specs.ReplyReadings.{reply_at}
 use Rattle.std.specs.Option.{option_map}
 use Rattle.plan_model.specs.declared.call.Call.{Call}
 use Rattle.sftp_lanes.specs.Adding.{AddsCall, IsSame}
-use Rattle.sftp_tasks.specs.SessionEvents.{GivesUp, KeepsFault, RefusesCall, RefusesToAdd, SubmitsCall, TakeStops}
+use Rattle.sftp_tasks.specs.SessionEvents.{GivesUp, HandsUnsent, KeepsFault, RefusesCall, RefusesToAdd, SubmitsCall, TakeStops}
 use Rattle.sftp_tasks.specs.LockedEvents.{
   SettlesEnd,
   HandingOut,
@@ -75,7 +75,6 @@ use Rattle.sftp_tasks.specs.LockedEvents.{
   tells_written,
 }
 use Rattle.sftp_wire.specs.FrameReader.{Received, body_of}
-use Rattle.sftp_lanes.specs.Counts.{unsent_in}
 use Rattle.sftp_tasks.specs.declared.frames.Handed.{Handed}
 use Rattle.sftp_tasks.specs.Entries.{by_failing, by_flush, by_nothing, by_read, by_step, by_submit}
 use Rattle.sftp_tasks.proofs.EntryLaws.{
@@ -142,7 +141,7 @@ pub handing_goes : (lane : Option ℕ) (y z : Locked) (r : Result (Option Handed
     → HandingOut y z r → GoesBy (passes by_flush lane) no_allowance (shown_of y) (shown_of z)
 handing_goes lane y z (Ok None) rest h = handed_goes _ y z rest (let same = h.1.0 in omega arith)
     (hands_extended y.session.phase lane y.session z.session None h.0)
-handing_goes lane y z (Ok (Some x)) rest h = handed_goes _ y z rest (let more = h.1.0.counts in omega arith)
+handing_goes lane y z (Ok (Some x)) rest h = handed_goes _ y z rest (let more = h.1.0.0.counts in omega arith)
     (hands_extended y.session.phase lane y.session z.session _ h.0)
 handing_goes lane y z (Err e) rest h = handed_goes _ y z rest (let same = h.1 in omega arith)
     (refuses_extended _ e y.session z.session h.0)
@@ -178,19 +177,18 @@ failing_goes lane f y z (Err e) rest h = session_goes _ y z rest (same_extended 
 
 hands_from : (y z : Locked) (handed : Option Handed) → MatchOption handed (z.counts.handed ≡ y.counts.handed)
     (λ h. z.counts.handed ≡ y.counts.handed + h.frames)
-    → MatchOption handed (Unit {0}) (λ h. y.session.phase ≢ Failed → h.frames
-    ≡ unsent_in y.session.phase (past_of y.session.work))
-    → MatchOption handed (z.counts.handed ≡ y.counts.handed) (λ h. HandsOutFrames y z h.frames)
+    → MatchOption handed (Unit {0}) (λ h. HandsUnsent y.session h.chunk h.frames)
+    → MatchOption handed (z.counts.handed ≡ y.counts.handed)
+    (λ h. HandsOutFrames y z h.frames × HandsUnsent y.session h.chunk h.frames)
 hands_from y z None counts frames = counts
-hands_from y z (Some h) counts frames = record { counts = counts; frames = frames }
+hands_from y z (Some h) counts frames = (record { counts = counts; frames = frames.unsent }, frames)
 
 pub handing_from : (y z : Locked) (r : Result (Option Handed) Error) → z
     ≡ record y { session = z.session; counts = record y.counts { handed = z.counts.handed } }
-    → IfOk r (λ handed. HandsOutIn y.session.phase y.session z.session (option_map (λ h. joined_pieces h.chunk) handed))
+    → IfOk r (λ handed. HandsOutIn y.session.phase y.session z.session (option_map (λ h. chunk_bytes h.chunk) handed))
     → IfOk r (λ handed. MatchOption handed (z.counts.handed ≡ y.counts.handed)
     (λ h. z.counts.handed ≡ y.counts.handed + h.frames))
-    → IfOk r (λ handed. MatchOption handed (Unit {0}) (λ h. y.session.phase ≢ Failed → h.frames
-    ≡ unsent_in y.session.phase (past_of y.session.work)))
+    → IfOk r (λ handed. MatchOption handed (Unit {0}) (λ h. HandsUnsent y.session h.chunk h.frames))
     → IfErr r (λ e. RefusesCall e y.session z.session × (z.counts.handed ≡ y.counts.handed)) → HandingOut y z r
 handing_from y z (Ok handed) rest a b c d = (a, (hands_from y z handed b c, ap (λ (x : Locked). x.counts.written) rest))
 handing_from y z (Err e) rest a b c d = d
@@ -355,7 +353,7 @@ handed_unwritten m n h handed r =
     let all : h.now.counts.handed ≡ h.before.counts.handed = ap (λ (s : Sight). s.counts.handed) h.took.shows.told in
     let wrote : h.now.counts.written ≡ h.before.counts.written = ap (λ (s : Sight). s.counts.written) h.took.shows.told
     in
-    let more = r.0.1.0.counts in
+    let more = r.0.1.0.0.counts in
     let same = r.0.1.1 in
     omega arith
 

@@ -2,6 +2,7 @@ mod EntryLaws
 mod HoldLaws
 mod CallLaws
 mod RoundLaws
+mod GroupLaws
 mod StopLaws
 mod LaneLaws
 mod CloseLaws

@@ -28,7 +28,7 @@ use Rattle.sftp_model.specs.declared.error.Error.{Error}
 use Rattle.sftp_model.specs.declared.error.Fault.TheVariants as fault
 use Rattle.sftp_model.specs.declared.frame_error.FrameError.{FrameError}
 use Rattle.sftp_model.specs.declared.reply.Reply.{Reply}
-use Rattle.sftp_model.specs.Pieces.{joined_pieces}
+use Rattle.sftp_core.specs.Pieces.{chunk_bytes}
 use Rattle.sftp_model.specs.ReplyReadings.{reply_at}
 use Rattle.sftp_wire.specs.FrameReader.{Received, body_of}
 use Rattle.sftp_tasks.specs.declared.frames.Handed.{Handed}
@@ -88,8 +88,8 @@ pub hello_first : (y z : Locked) (r : Result (Option Handed) Error) → y.sessio
 hello_first y z (Ok None) fresh h =
     absurd (none-some hello_frame (subst (λ (p : Phase). HandsOutIn p y.session z.session None) fresh h.0).0)
 hello_first y z (Ok (Some x)) fresh h =
-    let s = subst (λ (p : Phase). HandsOutIn p y.session z.session (Some (joined_pieces x.chunk))) fresh h.0 in
-    record { hello = some-same (joined_pieces x.chunk) hello_frame s.0; hands = s.1; counts = h.1.0; written = h.1.1 }
+    let s = subst (λ (p : Phase). HandsOutIn p y.session z.session (Some (chunk_bytes x.chunk))) fresh h.0 in
+    record { hello = some-same (chunk_bytes x.chunk) hello_frame s.0; hands = s.1; counts = h.1.0.0; written = h.1.1 }
 hello_first y z (Err e) fresh h = h
 
 -- what a seat handed out it may tell as written

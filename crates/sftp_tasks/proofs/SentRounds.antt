@@ -50,7 +50,7 @@ use Rattle.sftp_tasks.specs.declared.workers.Shift.TheVariants.{Over}
 use Rattle.sftp_tasks.specs.Calls.{InOneHold}
 use Rattle.sftp_tasks.specs.Entries.{by_failing}
 use Rattle.sftp_tasks.specs.LockedEvents.{TellsStage, NotesWritten}
-use Rattle.sftp_tasks.specs.Rounds.{FlushStops, FlushesRound, FlushesOnce, HoldsOnce, KeepsFirst, StopsInRound, StopsByError, Token, StopsUnsent, fault_for}
+use Rattle.sftp_tasks.specs.Rounds.{FlushStops, FlushesRound, FlushesOnce, HoldsOnce, KeepsFirst, Noting, NotesGroup, StopsInRound, StopsByError, Token, StopsUnsent, fault_for}
 use Rattle.sftp_tasks.specs.Sent.{SeesVersion, SentUnless, WroteSends, sent_by, taken_by}
 use Rattle.sftp_tasks.specs.SessionEvents.{RefusesCall}
 use Rattle.sftp_tasks.specs.Shows.{shown_of}
@@ -66,6 +66,9 @@ pub record SameSent (m n : Token) : Type 0 where
   pub sent : sent_by (number_of n) (sight_by n).log ≡ sent_by (number_of m) (sight_by m).log
   pub taken : taken_by (number_of n) (sight_by n).log ≡ taken_by (number_of m) (sight_by m).log
   pub version : (hello : Reply) → SeesVersion hello (sight_by m) → SeesVersion hello (sight_by n)
+
+same_self : (m : Token) → SameSent m m
+same_self m = record { sent = refl; taken = refl; version = λ hello sees. sees }
 
 pub same_on : (m k n : Token) → SameSent m k → SameSent k n → SameSent m n
 same_on m k n p q = record {
@@ -114,6 +117,12 @@ same_stopped why e m n h = same_if m n h (stopping_extends why e h.before h.afte
 pub same_noted : (frames : ℕ) (m n : Token) → HoldsOnce (λ y z more. (more ≡ []) × NotesWritten frames y z) m n
     → SameSent m n
 same_noted frames m n h = same_past m n h (ap (λ (x : Locked). past_of x.session.work) h.did.1)
+
+same_groups : (first : Noting) (between : List Noting) (last : Noting) → IsChainOf NotesGroup first between last
+    → SameSent first.1 last.1
+same_groups first [] last is = subst (λ (x : Noting). SameSent first.1 x.1) (sym is) (same_self first.1)
+same_groups first (x ∷ earlier) last led =
+    same_on first.1 x.1 last.1 (same_groups first earlier x led.1) (same_noted led.0.0 x.1 last.1 led.0.2)
 
 looked_past : {A : Type 0} (Looks : Locked → Locked → Result A Error → Type 0)
     → ((y z : Locked) (r : Result A Error) → Looks y z r → past_of z.session.work ≡ past_of y.session.work)
@@ -232,7 +241,7 @@ module _ {Service : Type 0} where
   flushed_wrote : {T : Type 0} (t : T) (hello : Reply) (m n : Token) (v w : LinkView Service)
       → SeesVersion hello (sight_by m) → FlushesOnce m n v w → Wrote hello (Ok t) m n v w
   flushed_wrote t hello m n v w sees f =
-      let notes = same_noted f.frames f.mid n f.notes in (
+      let notes = same_groups (0, f.mid) f.notes.notes.0 (f.frames, n) f.notes.notes.1 in (
         wrote_same (Ok t) m f.mid n v w
             (record {
               bytes = f.bytes;
@@ -246,7 +255,8 @@ module _ {Service : Type 0} where
   unsent_wrote : {T : Type 0} (e : Error) (hello : Reply) (m n : Token) (v w : LinkView Service)
       → SeesVersion hello (sight_by m) → StopsUnsent e m n v w → Wrote {T = T} hello (Err e) m n v w
   unsent_wrote e hello m n v w sees u =
-      let stops = same_stopped u.why e u.mid n u.stops in (
+      let groups = same_groups (0, u.mid) u.notes.notes.0 (u.noted, u.at) u.notes.notes.1 in
+      let stops = same_on u.mid u.at n groups (same_stopped u.why e u.at n u.stops) in (
         wrote_same (Err e) m u.mid n v w
             (record {
               bytes = u.bytes;

@@ -37,8 +37,8 @@ use Rattle.sftp_model.specs.declared.error.Error.{Error}
 use Rattle.sftp_model.specs.declared.error.Fault.{Fault}
 use Rattle.sftp_model.specs.Frames.{frame}
 use Rattle.sftp_model.specs.Numbers.{MAX_BODY_LEN}
-use Rattle.sftp_model.specs.Pieces.{joined_pieces}
 use Rattle.sftp_model.specs.ReplyReadings.{reply_at}
+use Rattle.sftp_core.specs.Pieces.{chunk_bytes}
 use Rattle.sftp_lanes.specs.Counts.{unsent_in}
 use Rattle.sftp_lanes.specs.Seen.{SessionValue}
 use Rattle.sftp_lanes.specs.Events.{CancelsIn, HandsOutIn, StepsIn, TakesIn}
@@ -52,6 +52,7 @@ use Rattle.sftp_tasks.specs.declared.locked.Locked.{Locked}
 use Rattle.sftp_tasks.specs.declared.polls.Polled.{Polled}
 use Rattle.sftp_tasks.specs.SessionEvents.{
   GivesUp,
+  HandsUnsent,
   HasNoFault,
   KeepsFault,
   LetsLaneGoIn,
@@ -107,8 +108,9 @@ pub record HandsOutFrames (y z : Locked) (n : ℕ) : Type 0 where
 
 abbrev pub HandingOut : Locked → Locked → Result (Option Handed) Error → Type 0
 HandingOut y z (Ok handed) =
-    HandsOutIn y.session.phase y.session z.session (option_map (λ h. joined_pieces h.chunk) handed)
-    × (MatchOption handed (z.counts.handed ≡ y.counts.handed) (λ h. HandsOutFrames y z h.frames)
+    HandsOutIn y.session.phase y.session z.session (option_map (λ h. chunk_bytes h.chunk) handed)
+    × (MatchOption handed (z.counts.handed ≡ y.counts.handed)
+    (λ h. HandsOutFrames y z h.frames × HandsUnsent y.session h.chunk h.frames)
     × (z.counts.written ≡ y.counts.written))
 HandingOut y z (Err e) = RefusesCall e y.session z.session × (z.counts.handed ≡ y.counts.handed)
 

@@ -38,7 +38,7 @@ use Rattle.sftp_model.specs.declared.error.Fault.TheVariants as fault
 use Rattle.sftp_model.specs.declared.reply.Reply.{Reply}
 use Rattle.sftp_model.specs.declared.reply.Reply.TheVariants as reply
 use Rattle.sftp_model.specs.declared.request.Request.TheVariants as request
-use Rattle.sftp_model.specs.Pieces.{joined_pieces}
+use Rattle.sftp_core.specs.Pieces.{chunk_bytes}
 use Rattle.sftp_model.specs.ReplyReadings.{reply_at}
 use Rattle.sftp_wire.specs.FrameReader.{Received, body_of}
 use Rattle.sftp_tasks.specs.declared.frames.Handed.{Handed}
@@ -58,7 +58,7 @@ by_opening lane e = false
 
 -- The hello was handed out, and counted.
 pub record HandsOutHello (y z : Locked) (handed : Handed) : Type 0 where
-  pub hello : joined_pieces handed.chunk ≡ hello_frame
+  pub hello : chunk_bytes handed.chunk ≡ hello_frame
   pub hands : HandsHello y.session z.session
   pub counts : HandsOutFrames y z handed.frames
   pub written : z.counts.written ≡ y.counts.written

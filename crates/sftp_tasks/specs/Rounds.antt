@@ -1,20 +1,45 @@
--- believed
+-- believed, except SendsGroups
 -- One round of a worker: the frames that it handed out or took, and what its half of the link shows of it.
-use Rattle.std.specs.Prelude.{◌≡◌, ◌⊎◌, ℕ, Bool, true, false, List, [], Option, Some, None, Ok, Err}
+use Rattle.std.specs.Prelude.{
+  ◌≡◌,
+  ◌≤◌,
+  ◌⊎◌,
+  ℕ,
+  ◌+◌,
+  Bool,
+  true,
+  false,
+  List,
+  [],
+  ◌++◌,
+  length,
+  take,
+  Option,
+  Some,
+  None,
+  Result,
+  Ok,
+  Err,
+  OnOk,
+}
 use Rattle.atomic_table.specs.Table.{Me}
 use Rattle.link_frames.specs.Causes.{IsCausedByLink, SentBy}
 use Rattle.link_frames.specs.Reading.{IsWhole, ReadFails}
 use Rattle.session_model.specs.declared.entry.Entry.{Entry}
-use Rattle.sftp_link.specs.Told.{GotAll, IfLogged}
+use Rattle.sftp_link.specs.declared.piece.Piece.{Piece}
+use Rattle.sftp_link.specs.Told.{GotAll, IfLogged, SentAll}
 use Rattle.sftp_link.specs.Views.{LinkView}
 use Rattle.sftp_model.specs.declared.error.Error.{Error}
 use Rattle.sftp_model.specs.declared.error.Error.TheVariants as error
 use Rattle.sftp_model.specs.declared.error.Fault.{Fault}
 use Rattle.sftp_model.specs.declared.error.Fault.TheVariants as fault
+use Rattle.sftp_model.specs.declared.request.Request.{Request}
+use Rattle.sftp_model.specs.Frames.{frames_of}
 use Rattle.sftp_wire.specs.FrameReader.{Received}
 use Rattle.sftp_lanes.specs.Events.{HandsOutIn}
 use Rattle.session_seats.specs.declared.view.View.{View}
 use Rattle.session_seats.specs.Holds.{Hold}
+use Rattle.session_seats.specs.Repeats.{RepeatsSteps}
 use Rattle.sftp_tasks.specs.declared.locked.Locked.{Locked}
 use Rattle.sftp_tasks.specs.LockedEvents.{
   GivingUp,
@@ -64,17 +89,51 @@ StopsByError why e m n = HoldsOnce (λ y z more. StopsInRound why e y z) m n
 
 -- ---- A round that sends
 
+-- A seat, and how many of the frames that it handed out it has recorded as written.
+abbrev pub Noting : Type 0
+Noting = ℕ × Token
+
+-- Further frames are recorded as written in one hold, which adds nothing.
+abbrev pub NotesGroup : Noting → Noting → Type 0
+NotesGroup a b = (k : ℕ) × (b.0 ≡ a.0 + k) × HoldsOnce (λ y z more. (more ≡ []) × NotesWritten k y z) a.1 b.1
+
+-- What was sent begins with these bytes.
+abbrev pub SentAtLeast : List ℕ → List Piece → List Piece → Type 0
+SentAtLeast bytes before now = (later : List ℕ) × SentAll (bytes ++ later) before now
+
+-- The first n frames of a queue were recorded as written, group by group. They are whole in what was sent.
+pub record NotesSent {Service : Type 0} (queue : List (ℕ × Request)) (n : ℕ) (first last : Token)
+    (before now : LinkView Service) : Type 0 where
+  pub notes : RepeatsSteps NotesGroup (0, first) (n, last)
+  pub within : n ≤ length queue
+  pub whole : IfLogged (SentAtLeast (frames_of (take n queue))) before.log now.log
+
+-- The frames of a queue were sent, and all of them were recorded as written; or a prefix of them was sent, and some of
+-- the frames in it were recorded.
+pub record SendsGroups {Service : Type 0} (queue : List (ℕ × Request)) (m n : Token) (before now : LinkView Service)
+    (result : Result (Unit {0}) Error) : Type 0 where
+  pub sent : SentBy (frames_of queue) before now result
+  pub noted : ℕ
+  pub all : OnOk result (noted ≡ length queue)
+  pub notes : NotesSent queue noted m n before now
+
+-- The requests whose frames are unsent.
+abbrev pub unsent_queue : Locked → List (ℕ × Request)
+unsent_queue y = y.session.work.core.queue
+
 -- The frames that were handed out in one hold, in which no fault was recorded, were sent. All of them were recorded as
--- written in another hold, which added nothing.
+-- written, group by group, in holds that added nothing.
 pub record FlushesOnce {Service : Type 0} (m n : Token) (before now : LinkView Service) : Type 0 where
   pub mid : Token
   pub bytes : List ℕ
   pub frames : ℕ
+  pub queue : List (ℕ × Request)
   pub hands : HoldsOnce
       (λ y z more. HandsOutIn y.session.phase y.session z.session (Some bytes) × HandsOutFrames y z frames
-      × HasNoFault y.session) m mid
+      × HasNoFault y.session × (unsent_queue y ≡ queue)) m mid
+  pub cut : frames_of queue ≡ bytes
   pub sent : SentBy {T = Unit {0}} bytes before now (Ok tt)
-  pub notes : HoldsOnce (λ y z more. (more ≡ []) × NotesWritten frames y z) mid n
+  pub notes : NotesSent queue frames mid n before now
 
 abbrev pub FlushesRound : {Service : Type 0} → Bool → Token → Token → LinkView Service → LinkView Service → Type 0
 FlushesRound true m n before now = FlushesOnce m n before now
@@ -82,15 +141,22 @@ FlushesRound false m n before now =
     HoldsOnce (λ y z more. HandsOutIn y.session.phase y.session z.session None × HasNoFault y.session) m n
     × (now ≡ before)
 
--- The frames that were handed out could not all be sent, and the session stops because of that.
+-- The frames that were handed out could not all be sent, and the session stops because of that. The frames that were
+-- recorded as written before are whole in what was sent.
 pub record StopsUnsent {Service : Type 0} (e : Error) (m n : Token) (before now : LinkView Service) : Type 0 where
   pub mid : Token
   pub why : Error
   pub bytes : List ℕ
+  pub queue : List (ℕ × Request)
   pub hands : HoldsOnce
-      (λ y z more. HandsOutIn y.session.phase y.session z.session (Some bytes) × HasNoFault y.session) m mid
+      (λ y z more. HandsOutIn y.session.phase y.session z.session (Some bytes) × HasNoFault y.session
+      × (unsent_queue y ≡ queue)) m mid
+  pub cut : frames_of queue ≡ bytes
   pub sent : SentBy {T = Unit {0}} bytes before now (Err why)
-  pub stops : StopsByError why e mid n
+  pub at : Token
+  pub noted : ℕ
+  pub notes : NotesSent queue noted mid at before now
+  pub stops : StopsByError why e at n
 
 -- The session refused to hand out, and nothing was sent.
 abbrev pub RefusesRound : {Service : Type 0} → Error → Token → Token → LinkView Service → LinkView Service → Type 0

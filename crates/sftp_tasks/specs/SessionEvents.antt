@@ -1,4 +1,4 @@
--- believed, except KeepsFault, LetsLaneGoIn, AllEnded, polled_of, PollsIn, AddsIn, RefusesToAdd, SubmitsCall
+-- believed: HasNoFault, HasFault, IsUnmoved, RefusesCall, IsKept, GivesUp, IsRefusedBy, IsUnawaited, TakeStops
 -- Effects of the calls of the locked value on its session.
 use Rattle.std.specs.Prelude.{
   ◌≡◌,
@@ -28,6 +28,7 @@ use Rattle.session_driver.specs.declared.session.Phase.TheVariants.{Failed}
 use Rattle.session_driver.specs.declared.session.Stepped.{Stepped}
 use Rattle.session_driver.specs.declared.session.Stepped.TheVariants as stepped
 use Rattle.sftp_core.specs.Errors.{error_of}
+use Rattle.sftp_core.specs.Pieces.{ChunkValue, HasFrames}
 use Rattle.session_model.specs.declared.entry.Entry.{Entry}
 use Rattle.session_model.specs.declared.entry.Entry.TheVariants as entry
 use Rattle.session_model.specs.Calls.{calls_added_to, calls_of, current}
@@ -39,12 +40,21 @@ use Rattle.sftp_model.specs.declared.error.Error.TheVariants as error
 use Rattle.sftp_model.specs.declared.frame_error.FrameError.{FrameError}
 use Rattle.sftp_model.specs.declared.reply.Reply.{Reply}
 use Rattle.sftp_lanes.specs.Adding.{AddsCall, CannotAdd, IsSame}
+use Rattle.sftp_lanes.specs.Counts.{unsent_in}
 use Rattle.sftp_lanes.specs.Events.{HasFailed, IsRefused, LetsGoIn, StepsIn, first_wrong, takes_frames}
 use Rattle.sftp_lanes.specs.Seen.{SessionValue, setting_at}
 use Rattle.session_work.specs.SoFar.{kept_in}
 use Rattle.session_work.specs.Working.{past_of}
 use Rattle.sftp_tasks.specs.declared.polls.Polled.{Polled}
 use Rattle.sftp_tasks.specs.declared.polls.Polled.TheVariants as polled
+
+-- ---- Handing out
+
+-- The chunk has this many frames: those of all unsent requests.
+pub record HandsUnsent (s : SessionValue) (chunk : ChunkValue) (n : ℕ) : Type 0 where
+  pub frames : HasFrames chunk s.work.core.queue
+  pub number : n ≡ length chunk.counts
+  pub unsent : s.phase ≢ Failed → n ≡ unsent_in s.phase (past_of s.work)
 
 -- ---- Refusals
 

@@ -1,13 +1,10 @@
 //! Frames that go out and come in, and their counts.
-ghost use Rattle.std.specs.Prelude.{◌≡◌, ◌≢◌, ◌≤◌, ◌+◌, ◌-◌, ◌^◌, min, nat_lt, None, IfOk, IfErr, OnOk, MatchOption};
+ghost use Rattle.std.specs.Prelude.{◌≡◌, ◌≤◌, ◌+◌, ◌-◌, ◌^◌, min, nat_lt, None, IfOk, IfErr, OnOk, MatchOption};
 ghost use Rattle.std.specs.Option.{option_map};
-ghost use Rattle.sftp_model.specs.Pieces.{joined_pieces};
 ghost use Rattle.sftp_model.specs.ReplyReadings.{reply_at};
-ghost use Rattle.session_driver.specs.declared.session.Phase.TheVariants as phases;
-ghost use Rattle.session_work.specs.Working.{past_of};
-ghost use Rattle.sftp_lanes.specs.Counts.{unsent_in};
+ghost use Rattle.sftp_core.specs.Pieces.{chunk_bytes};
 ghost use Rattle.sftp_lanes.specs.Events.{HandsOutIn, TakesIn};
-ghost use Rattle.sftp_tasks.specs.SessionEvents.{HasNoFault, RefusesCall, TakeStops};
+ghost use Rattle.sftp_tasks.specs.SessionEvents.{HandsUnsent, HasNoFault, RefusesCall, TakeStops};
 
 use crate::locked::Locked;
 use link_frames::refused;
@@ -34,11 +31,11 @@ impl Locked {
     /// Those of `step`.
     pub fn hand_out(&mut self) -> Result<Option<Handed>, Error>
         ensures rest { self.new ≡ record self.old { session = self.new.session; counts = record self.old.counts { handed = self.new.counts.handed } } }
-        ensures hands_out { IfOk result (λ handed. HandsOutIn self.old.session.phase self.old.session self.new.session (option_map (λ h. joined_pieces h.chunk) handed)) }
+        ensures hands_out { IfOk result (λ handed. HandsOutIn self.old.session.phase self.old.session self.new.session (option_map (λ h. chunk_bytes h.chunk) handed)) }
         ensures counts { IfOk result (λ handed. MatchOption handed (self.new.counts.handed ≡ self.old.counts.handed)
             (λ h. self.new.counts.handed ≡ self.old.counts.handed + h.frames)) }
         ensures frames { IfOk result (λ handed. MatchOption handed (Unit {0})
-            (λ h. self.old.session.phase ≢ phases.Failed → h.frames ≡ unsent_in self.old.session.phase (past_of self.old.session.work))) }
+            (λ h. HandsUnsent self.old.session h.chunk h.frames)) }
         ensures no_fault { OnOk result (HasNoFault self.old.session) }
         ensures refused { IfErr result (λ e. RefusesCall e self.old.session self.new.session × (self.new.counts.handed ≡ self.old.counts.handed)) }
     {

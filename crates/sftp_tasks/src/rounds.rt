@@ -1,14 +1,17 @@
 //! One round of a worker over its half of the link: it holds the lock while it hands out or takes, and not while it
 //! sends or reads.
-ghost use Rattle.std.specs.Prelude.{◌≡◌, ◌<◌, ◌-◌, ◌^◌, None, Some, IfErr, IfNone, IfOk, IfSome};
+ghost use Rattle.std.specs.Prelude.{◌≡◌, ◌<◌, ◌≤◌, ◌-◌, ◌^◌, ℕ, List, length, None, Some, IfErr, IfNone, IfOk, IfSome};
+ghost use Rattle.sftp_core.specs.Pieces.{HasFrames};
+ghost use Rattle.sftp_model.specs.declared.request.Request.{Request};
 ghost use Rattle.session_seats.specs.Holds.{AddsEntries, claim_of};
-ghost use Rattle.sftp_tasks.specs.Entries.{by_failing, by_flush, by_read};
-ghost use Rattle.sftp_tasks.specs.Rounds.{FlushStops, FlushesRound, ReadStops, ReadsRound, StopsByError, fault_for};
+ghost use Rattle.sftp_tasks.specs.Entries.{by_failing, by_flush, by_nothing, by_read};
+ghost use Rattle.sftp_tasks.specs.Rounds.{FlushStops, FlushesRound, ReadStops, ReadsRound, SendsGroups, StopsByError, fault_for};
 
 use crate::events::{Fail, GiveUp, HandOut, MayRead, TakeFrame, Written};
 use crate::frames::Handed;
 use crate::shared_sftp::{Seat, SharedSftp, settle};
 use link_frames::{read_frame, send_pieces};
+use sftp_core::{Chunk, Place};
 use sftp_link::{LinkIn, LinkOut};
 use sftp_model::{Error, Fault};
 use ssh_encoding::OutOfMemory;
@@ -52,8 +55,9 @@ pub(crate) fn stop<R: Wait>(rt: &R, shared: &SharedSftp, seat: &mut Seat, why: E
     }
 }
 
-/// Hands out while it holds the lock, sends everything without it, and then records it as written. Returns false
-/// exactly if nothing is unsent, or a reply of the opening is awaited; nothing is sent then.
+/// Hands out while it holds the lock, and sends everything without it, group by group. Each group is recorded as
+/// written before the next one is sent. Returns false exactly if nothing is unsent, or a reply of the opening is
+/// awaited; nothing is sent then.
 ///
 /// # Errors
 ///
@@ -75,20 +79,55 @@ pub fn flush_round<O: LinkOut, R: Wait>(
 {
     let (did, copied) = seat.apply(rt, shared.alloc, &shared.shared, HandOut);
     // No `?`: it converts the error, and `stops` is about the error itself.
-    let Handed { chunk, frames } = match did {
+    let Handed { chunk, .. } = match did {
         Ok(Some(handed)) => handed,
         Ok(None) => return settle(Ok(false), copied),
         Err(e) => return Err(e),
     };
-    match send_pieces(out, chunk.pieces()) {
-        Ok(()) => {}
-        Err(e) => return Err(stop(rt, shared, seat, e)),
+    match send_groups(rt, shared, seat, out, &chunk) {
+        Ok(()) => settle(Ok(true), copied),
+        Err(e) => Err(stop(rt, shared, seat, e)),
     }
-    let (_, told) = seat.apply(rt, shared.alloc, &shared.shared, Written { frames });
-    match copied {
-        Ok(()) => settle(Ok(true), told),
-        Err(OutOfMemory) => Err(Error::OutOfMemory),
+}
+
+/// Sends the frames of a chunk group by group, and records those of a group as written before it sends the next one.
+/// So the reply to each frame that the server has read whole may be read, even while the server takes no further bytes.
+///
+/// # Errors
+///
+/// `OutOfMemory` or `LinkFault`; a prefix of the frames was sent, and those that were recorded are whole in it.
+fn send_groups<O: LinkOut, R: Wait>(
+    rt: &R,
+    shared: &SharedSftp,
+    seat: &mut Seat,
+    out: &mut O,
+    chunk: &Chunk,
+) -> Result<(), Error>
+    requires own { seat.old.inner.table_id ≡ shared.now.shared.table.shared.table_id }
+    requires count { (O.LinkState.state out.old).faults < 2 ^ 64 - 1 }
+    requires unwritten { length chunk.now.counts ≤ (claim_of seat.old.inner.me).unwritten }
+    ensures own { (seat.new.inner.table_id ≡ seat.old.inner.table_id) × (seat.new.lane ≡ seat.old.lane) }
+    ensures only { AddsEntries (by_nothing seat.old.lane) (claim_of seat.old.inner.me) (claim_of seat.new.inner.me) }
+    ensures sends { (queue : List (ℕ × Request)) → HasFrames chunk.now queue
+        → SendsGroups queue seat.old.inner.me seat.new.inner.me (O.LinkState.state out.old) (O.LinkState.state out.new) result }
+{
+    let mut start = Place {
+        pieces: 0,
+        frames: 0,
+    };
+    while start.frames < chunk.frames() {
+        let end = chunk.group_end(start);
+        // No `?`: `sends` is about the error itself.
+        match send_pieces(out, chunk.between(start, end)) {
+            Ok(()) => {}
+            Err(e) => return Err(e),
+        }
+        let frames = (end.frames - start.frames) as u64;
+        // The hold adds no entry, so no receipt is missing.
+        let _ = seat.apply(rt, shared.alloc, &shared.shared, Written { frames });
+        start = end;
     }
+    Ok(())
 }
 
 /// Reads one frame without the lock, and takes it while holding the lock. Returns false exactly if at least as many

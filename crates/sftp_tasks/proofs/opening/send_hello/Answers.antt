@@ -60,7 +60,7 @@ returns-in-Err-send_pieces-clause-stops g c =
     let h = c.apply-did.ensures.held in
     let is = c.in-Ok-Some.is ∙ ap (λ o. Ok o) c.in-Ok-Some.field-0-is in
     let r = hello_handed m n c.apply-did.result.0 c.in-Ok-Some.handed is h in
-    let pieces : c.pieces.result.now ≡ c.in-Ok-Some.handed.chunk = search rules in
+    let pieces : c.pieces.result.now ≡ c.in-Ok-Some.handed.chunk.pieces = search rules in
     inr record {
       mid = n;
       why = c.in-Err-send_pieces.e;
@@ -99,7 +99,7 @@ returns-clause-sends g c =
     let h = c.apply-did.ensures.held in
     let is = c.in-Ok-Some.is ∙ ap (λ o. Ok o) c.in-Ok-Some.field-0-is in
     let r = hello_handed m n c.apply-did.result.0 c.in-Ok-Some.handed is h in
-    let pieces : c.pieces.result.now ≡ c.in-Ok-Some.handed.chunk = search rules in
+    let pieces : c.pieces.result.now ≡ c.in-Ok-Some.handed.chunk.pieces = search rules in
     record {
       mid = n;
       frames = c.in-Ok-Some.handed.frames;

@@ -1,7 +1,7 @@
 use Rattle.std.proofs.Common.{rules, ◌≡◌, ◌≢◌, ap, ◌∙◌, ◌∷◌, arith}
 use Rattle.std.specs.Prelude.{reverse, length}
 use Rattle.std.proofs.lemmas.Bool.Decides.{nat_tests}
-use Rattle.sftp_model.specs.Pieces.{joined_pieces}
+use Rattle.sftp_core.specs.Pieces.{chunk_bytes}
 use Rattle.sftp_core.specs.Core.{handed_out}
 use Rattle.session_model.specs.declared.event.Event.TheVariants.{Send}
 use Rattle.session_model.specs.declared.entry.Entry.TheVariants as entry
@@ -24,6 +24,6 @@ returns-clause-hands_out c =
     ap reverse c.add_entry.ensures.items ∙ pushed c.reserve.new.self.items (entry.Event Send)
     ∙ ap (λ xs. entry.Event Send ∷ reverse xs) kept in
     let some : length c.args.self.now.core.queue ≢ 0 = λ none. c.if-queued-eq0.false (c.queued.ensures ∙ none) in
-    let told : joined_pieces c.in_ok-chunk.chunk ≡ frames_of c.args.self.now.core.queue = search rules in
+    let told : chunk_bytes c.in_ok-chunk.chunk ≡ frames_of c.args.self.now.core.queue = search rules in
     λ s w. hands_all s (contents_of c.args.self.now) c.hand_out.new.self (reverse c.add_entry.new.journal.items)
-    (joined_pieces c.in_ok-chunk.chunk) w some core_is past_is told
+    (chunk_bytes c.in_ok-chunk.chunk) w some core_is past_is told

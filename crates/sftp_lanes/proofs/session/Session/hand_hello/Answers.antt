@@ -21,3 +21,6 @@ invariant_of-self-in-Err c =
     (leaves_intact (length c.self.inside.lanes) c.self.inside.work now c.self.invariant.intact
     (record { kept = refl; past = λ lane. refl }) (λ none. c.self.invariant.intact.room (sym same ∙ none)))
     (left_fails c.self.inside.work now (record { past = refl; fault = same; reports = refl; calls = refl }))
+
+pub returns-in-Ok-clause-frames : goal.returns-in-Ok-clause-frames
+returns-in-Ok-clause-frames c = rw (← c.self.view_is) c.in-Ok.ensures.frames

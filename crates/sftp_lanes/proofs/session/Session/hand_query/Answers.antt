@@ -1,7 +1,7 @@
 use Rattle.std.proofs.Common.{◌≡◌, ◌∙◌, ◌∷◌, ◌++◌, [], List, Option, ap, inr, refl, rules, sym, subst}
 use Rattle.std.specs.Prelude.{length, reverse}
 use Rattle.std.proofs.lemmas.List.{reverse-append}
-use Rattle.sftp_model.specs.Pieces.{joined_pieces}
+use Rattle.sftp_core.specs.Pieces.{chunk_bytes}
 use Rattle.sftp_model.specs.declared.reply.Reply.{Reply}
 use Rattle.sftp_model.specs.declared.request.Request.TheVariants as request
 use Rattle.sftp_model.specs.Lengths.{offers_limits}
@@ -34,7 +34,7 @@ returns-in-Ok-clause-query c =
     c.self.inside.work c.self.inside.phase Asking c.self.invariant (rw (← c.self.view_is) at c.requires.asking) in
     let old : List Entry = past_of c.self.inside.work in
     let queue : c.self.inside.work.core.queue ≡ (0, request.LimitsQuery) ∷ [] = ap (λ (k : Core). k.queue) f.0.1.2 in
-    let frames : joined_pieces c.in-Ok.chunk ≡ frames_of c.self.inside.work.core.queue = search rules in
+    let frames : chunk_bytes c.in-Ok.chunk ≡ frames_of c.self.inside.work.core.queue = search rules in
     rw (← c.self.view_is) (frames ∙ ap frames_of (queue ∙ sym (unsent_query old f.0.1.3)))
 
 pub returns-in-Ok-clause-hands : goal.returns-in-Ok-clause-hands
@@ -121,3 +121,6 @@ invariant_of-self-in-Err c =
     (record { kept = refl; past = λ lane. ap (λ (xs : List Entry). lane_report (reverse xs) lane) kept })
     (search rules))
     (left_fails c.self.inside.work now (record { past = ap reverse kept; fault = same; reports = refl; calls = refl }))
+
+pub returns-in-Ok-clause-frames : goal.returns-in-Ok-clause-frames
+returns-in-Ok-clause-frames c = rw (← c.self.view_is) c.in-Ok.ensures.frames
