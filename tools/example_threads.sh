@@ -2,10 +2,9 @@
 # Runs the program of crates/example_threads: a hundred runs of eight lanes over the server in memory, whose receipts are compared with
 # their journals; five of eight lanes over replies that are laid out beforehand, whose outcomes are those that these replies bring;
 # and, where OpenSSH's SFTP server and socat are there, sixteen lanes in threads over it, with 1,000 files up and 1,000 down
-# that are compared, twenty runs of eight threads that submit and cancel calls, twenty of four and of sixteen lanes that read large
-# files beside as many that write them, and servers that end in the middle or are killed, after which each thread ends. It installs
-# nothing: where the server or socat is missing it says which, and passes over that part.
-# Another program than the one that `rt ci` built may be given.
+# that are compared, twenty runs of four and of sixteen lanes that read large files beside as many that write them, and servers that
+# end in the middle or are killed, after which each thread ends. It installs nothing: where the server or socat is missing it says
+# which, and passes over that part. Another program than the one that `rt ci` built may be given.
 set -u
 case ${1-} in
 '' | /*) program=${1-} ;;
@@ -136,16 +135,6 @@ timeout 120 "$program" unix "$room/socket" <"$room/script" >"$room/text" 2>"$roo
 tell 'sixteen lanes, 1,000 files up and 1,000 down' $?
 [ "$(find "$room/up" -type f | wc -l)" -eq 1000 ] && diff -r "$room/down" "$room/up" >"$room/err"
 tell 'the files that went up' $?
-
-# ---- eight threads that submit and cancel calls
-
-run=0
-while [ $run -lt 20 ]; do
-    run=$((run + 1))
-    timeout 30 "$program" calls "$room/socket" >"$room/text" 2>"$room/err" &&
-        grep -qE '^calls 1600 cancelled [1-9][0-9]* entries [0-9]+$' "$room/text"
-    tell "threads that submit and cancel calls, run $run" $?
-done
 
 # ---- large files both ways at once: the server writes a whole reply before it reads on
 

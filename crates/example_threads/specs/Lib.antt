@@ -1,3 +1,1 @@
-pub mod Crews
-pub mod Journal
 pub mod Silent

@@ -3,7 +3,7 @@
 ghost use Rattle.std.specs.Prelude.{◌≡◌, true};
 ghost use Rattle.plan_model.specs.Lanes.{are_ok};
 
-use crate::receipts::check_receipts;
+use crate::receipts::are_receipts_of;
 use crate::sheet::{Page, Sheet, halves};
 use session_threads::run_shared;
 use sftp_tasks::{Call, Lane, Report, SftpOptions, lanes_ok};
@@ -143,8 +143,11 @@ fn run_over<R: Threads + Wait + Clock + Sync + Send + Clone + Drop>(
     let Ok(report) = result else {
         return Err("the run stopped");
     };
-    check_receipts(alloc, &report)?;
-    Ok(report.report)
+    match are_receipts_of(alloc, report.journal.as_slice(), report.receipts.as_slice()) {
+        Ok(true) => Ok(report.report),
+        Ok(false) => Err("the receipts aren't those of the journal"),
+        Err(_) => Err("no memory"),
+    }
 }
 
 /// Runs eight lanes of two hundred calls over a link whose replies are laid out beforehand, compares the receipts with

@@ -3,8 +3,6 @@
 //! with their journals.
 #![tactic(auto)]
 
-mod calls;
-mod journal;
 mod laid_out;
 mod receipts;
 mod sheet;
@@ -19,8 +17,6 @@ const USAGE: &str = "example_threads unix SOCKET\n\
     unix: runs the lanes of the script on standard input, each in a thread, over the server that listens at SOCKET\n\
     example_threads counts SOCKET\n\
     counts: the same, and prints how many lanes, entries, receipts and bytes that were read there are\n\
-    example_threads calls SOCKET\n\
-    calls: eight threads submit and cancel calls over the server that listens at SOCKET, and receipts are checked\n\
     example_threads sheet\n\
     sheet: runs eight lanes of 200 calls over a link whose replies are laid out beforehand\n\
     example_threads runs COUNT\n\
@@ -30,7 +26,6 @@ const USAGE: &str = "example_threads unix SOCKET\n\
 ///
 /// - `example_threads unix SOCKET` runs a script's lanes over a server and prints the frames and outcomes.
 /// - `counts SOCKET` prints numbers in their place.
-/// - `calls SOCKET` submits and cancels calls in eight threads.
 /// - `sheet` runs eight lanes over replies that are laid out.
 /// - `runs COUNT` runs eight lanes this many times over the server in memory.
 fn main(rt: HostRuntime) -> ExitCode {
@@ -47,14 +42,6 @@ fn main(rt: HostRuntime) -> ExitCode {
                 },
                 Err(why) => Err(why),
             },
-            [word, path] if word.as_str() == "calls" => match calls::run_calls(
-                &rt,
-                rt.alloc(),
-                path,
-            ) {
-                Ok(report) => calls::print_calls(&rt, &report),
-                Err(why) => Err(why),
-            },
             [word] if word.as_str() == "sheet" => match laid_out::run_sheet(&rt, rt.alloc()) {
                 Ok(report) => socket::print_report(&rt, &report),
                 Err(why) => Err(why),
@@ -62,7 +49,7 @@ fn main(rt: HostRuntime) -> ExitCode {
             [word, count] if word.as_str() == "runs" => {
                 receipts::run_often(&rt, rt.alloc(), &mut MapPair::new(), count)
             }
-            _ => Err("unix, counts or calls and a socket, sheet, or runs and a count are needed"),
+            _ => Err("unix or counts and a socket, sheet, or runs and a count are needed"),
         },
         Err(why) => Err(why),
     };

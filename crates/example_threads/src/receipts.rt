@@ -7,7 +7,7 @@ use script_grammar::number_in;
 use session_threads::run_shared;
 use sftp_map_server::{MapServer, may_begin, new_server};
 use sftp_model::{Extensions, ServerConfig};
-use sftp_tasks::{Call, Entry, Lane, Receipt, SftpOptions, SharedReport, lanes_ok};
+use sftp_tasks::{Call, Entry, Lane, Receipt, SftpOptions, lanes_ok};
 use sftp_values::{ByteText, Items};
 use std::alloc::{AllocError, Global};
 use std::sync::Wait;
@@ -80,7 +80,7 @@ fn marks(journal: &[Entry], seen: &mut [bool], receipt: &Receipt) -> bool {
 }
 
 /// Returns true if the receipts of all lists are the entries of the journal at their places, each place once.
-fn are_receipts_of(
+pub(crate) fn are_receipts_of(
     alloc: Global,
     journal: &[Entry],
     lists: &[Vec<Receipt>],
@@ -97,15 +97,6 @@ fn are_receipts_of(
         }
     }
     Ok(count == journal.len())
-}
-
-/// Checks that the receipts of a report are the entries of its journal at their places, each place once.
-pub(crate) fn check_receipts(alloc: Global, report: &SharedReport) -> Result<(), &'static str> {
-    match are_receipts_of(alloc, report.journal.as_slice(), report.receipts.as_slice()) {
-        Ok(true) => Ok(()),
-        Ok(false) => Err("the receipts aren't those of the journal"),
-        Err(AllocError) => Err("no memory"),
-    }
 }
 
 /// Runs the lanes once.
@@ -126,7 +117,11 @@ fn run_once<P: Pair<R>, R: Threads + Wait + Clock + Sync>(
     let Ok(report) = result else {
         return Err("a run stopped");
     };
-    check_receipts(alloc, &report)
+    match are_receipts_of(alloc, report.journal.as_slice(), report.receipts.as_slice()) {
+        Ok(true) => Ok(()),
+        Ok(false) => Err("the receipts aren't those of the journal"),
+        Err(_) => Err("no memory"),
+    }
 }
 
 /// Runs eight lanes of 201 calls this many times, and compares the receipts of each run with its journal.

@@ -5,9 +5,9 @@ ghost use Rattle.plan_model.specs.Lanes.{are_ok};
 use script_grammar::{Script, read_script};
 use script_text::write_text;
 use session_threads::run_shared;
-use sftp_link::{ReadSource, StreamLink, UnixLink, WriteSink, read_up_to, write_all};
+use sftp_link::{ReadSource, StreamLink, WriteSink, read_up_to, write_all};
 use sftp_model::Outcome;
-use sftp_tasks::{Error, Fault, Report, SharedReport};
+use sftp_tasks::{Error, Report, SharedReport};
 use std::alloc::Global;
 use std::net::Net;
 use std::os::unix::net::UnixStream;
@@ -45,14 +45,12 @@ pub(crate) fn print_report(rt: &HostRuntime, report: &Report) -> Result<(), &'st
     }
 }
 
-/// Returns the reason why a session stopped.
-pub(crate) fn reason(error: Error) -> &'static str {
+/// Returns the reason why a run stopped.
+fn reason(error: Error) -> &'static str {
     match error {
         Error::OutOfMemory => "out of memory, or the session was given up",
-        Error::LinkFault | Error::BackgroundTaskFailure(Fault::Link) => "the connection failed",
-        Error::LinkEnded | Error::BackgroundTaskFailure(Fault::Ended) => {
-            "the server ended the connection"
-        }
+        Error::LinkFault => "the connection failed",
+        Error::LinkEnded => "the server ended the connection",
         _ => "the server sent an invalid reply",
     }
 }
@@ -99,20 +97,6 @@ fn bytes_of(outcomes: &[Outcome]) -> u64 {
     sum
 }
 
-/// Connects to the server that listens at a socket, and returns the half to which requests are sent and the half from
-/// which replies come.
-pub(crate) fn connect<R: Net>(rt: &R, path: &str) -> Result<(UnixLink, UnixLink), &'static str>
-    ensures { IfOk result (λ halves. (halves.0.faults ≡ 0) × (halves.1.faults ≡ 0)) }
-{
-    let Ok(stream) = UnixStream::connect(rt, path) else {
-        return Err("no server listens on the socket");
-    };
-    let Ok(other) = stream.try_clone() else {
-        return Err("the connection failed");
-    };
-    Ok((StreamLink::new(stream), StreamLink::new(other)))
-}
-
 /// Runs the lanes of a script over the server that listens at a socket, and returns the report. The script's server,
 /// files, choices, picks and turns are ignored.
 pub(crate) fn run_script<R: Net + Threads + Wait + Clock + Sync>(
@@ -123,9 +107,20 @@ pub(crate) fn run_script<R: Net + Threads + Wait + Clock + Sync>(
 ) -> Result<SharedReport, &'static str>
     requires { are_ok script.now.lanes ≡ true }
 {
-    let (out, input) = connect(rt, path)?;
-    let lanes = script.lanes.as_slice();
-    let (result, _, _) = run_shared(rt, alloc, out, input, lanes, &script.options);
+    let Ok(stream) = UnixStream::connect(rt, path) else {
+        return Err("no server listens on the socket");
+    };
+    let Ok(other) = stream.try_clone() else {
+        return Err("the connection failed");
+    };
+    let (result, _, _) = run_shared(
+        rt,
+        alloc,
+        StreamLink::new(stream),
+        StreamLink::new(other),
+        script.lanes.as_slice(),
+        &script.options,
+    );
     match result {
         Ok(report) => Ok(report),
         Err(error) => Err(reason(error)),
