@@ -1,5 +1,5 @@
-//! Threads of one's own at a shared session: eight submit calls, each to a lane of its own, cancel some of them and wait
-//! for the others, while one sends and one reads over the two halves of a socket.
+//! Ten threads that share a session: eight submit calls, each to a lane of its own, cancel some and wait for the others.
+//! One sends and one reads, each over its half of a socket.
 ghost use Rattle.std.specs.Prelude.{◌≡◌, ◌∷◌, true, IfOk};
 ghost use Rattle.std.specs.Thread.{IsSync};
 ghost use Rattle.plan_model.specs.Lanes.{are_ok};
@@ -300,8 +300,8 @@ fn start<R: Wait>(rt: &R, alloc: Global, lanes: &[Lane]) -> Result<(SharedSftp, 
     ))
 }
 
-/// Ends the session, and returns its report. The receipts are those of the home seat, of the lanes' seats in lane order,
-/// and of the two workers' seats.
+/// Ends the session, and returns its report. The receipts are those of the home seat, of the lanes' seats in lane
+/// order, and of the two workers' seats.
 fn close<R: Wait>(rt: &R, shared: SharedSftp, crew: Crew) -> Result<SharedReport, &'static str>
     requires { HasSeatsOf shared.shared.table.shared.table_id crew }
 {

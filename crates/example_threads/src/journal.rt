@@ -60,8 +60,8 @@ fn named_at(place: usize, lanes: usize) -> Option<u32> {
     }
 }
 
-/// Returns true if the entry of each receipt belongs to no lane, or to that of the receipt's seat. The home seat has the
-/// first list, those of the lanes have the next ones, and the workers the others.
+/// Returns true if the entry of each receipt belongs to no lane, or to that of the receipt's seat. The home seat has
+/// the first list, those of the lanes have the next ones, and the workers the others.
 pub(crate) fn are_by_lane(lists: &[Vec<Receipt>], lanes: usize) -> bool {
     let mut place: usize = 0;
     for list in lists {
