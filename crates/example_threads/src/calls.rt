@@ -1,5 +1,5 @@
-//! Ten threads that share a session: eight submit calls, each to a lane of its own, cancel some and wait for the others.
-//! One sends and one reads, each over its half of a socket.
+//! Ten threads that share a session: eight submit calls, each to a lane of its own, cancel some and wait for the
+//! others. One sends and one reads, each over its half of a socket.
 ghost use Rattle.std.specs.Prelude.{◌≡◌, ◌∷◌, true, IfOk};
 ghost use Rattle.std.specs.Thread.{IsSync};
 ghost use Rattle.plan_model.specs.Lanes.{are_ok};
