@@ -6,7 +6,7 @@ ghost use Rattle.transfer_pool.specs.Copies.{AdvancesCopies, AreTogether, Copier
 ghost use Rattle.transfer_pool.specs.Sessions.{IsGoing};
 
 use crate::copy_job::{Copied, CopyJob, CopyState, Running};
-use crate::turn::turn_on;
+use crate::round::turn_on;
 use sftp_client::Sftp;
 use sftp_core::Core;
 use sftp_link::Link;

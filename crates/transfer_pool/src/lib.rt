@@ -4,14 +4,14 @@
 mod copier;
 mod copy_job;
 mod jobs;
-mod turn;
+mod round;
 
 pub use copier::{Copier, CopierStep};
 pub use copy_job::{Copied, CopyJob, CopyState, Running};
 pub use jobs::{CopyJobs, Wanted, copy_all};
+pub use round::turn;
 pub use transfer_args::Direction;
 pub use transfer_copy::{CopyError, LocalError, LocalFile, Progress};
-pub use turn::turn;
 
 #[cfg(test)]
 mod tests;

@@ -2,7 +2,7 @@ use Rattle.std.proofs.Common.{Ok, Err, subst}
 use Rattle.sftp_core.specs.Core.{Core}
 use Rattle.sftp_client.specs.Sessions.{FlushesQueue, with_core}
 use Rattle.transfer_pool.proofs.GoingLaws.{flush_stops_turn, take_stops_turn, turn_ends}
-use Rattle.transfer_pool.proofs.turn.turn.Goals as goal
+use Rattle.transfer_pool.proofs.round.turn.Goals as goal
 
 pub returns-in-Ok-take : goal.returns-in-Ok-take
 returns-in-Ok-take g c =
