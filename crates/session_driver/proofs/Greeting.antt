@@ -1,28 +1,32 @@
 -- Where the hello of a session stops.
-use Rattle.std.proofs.Common.{◌≡◌, ◌≤◌, ℕ, List, [], ◌∷◌, length, ap, sym, ◌∙◌, subst}
+use Rattle.std.proofs.Common.{◌≡◌, ◌≤◌, ℕ, Bool, true, false, List, [], ◌∷◌, Option, length, ap, sym, ◌∙◌, subst}
 use Rattle.std.specs.Prelude.{Ok, Err}
 use Rattle.ssh_encoding.specs.Writing.{string}
 use Rattle.sftp_model.specs.declared.error.Error.{Error}
 use Rattle.sftp_model.specs.declared.error.Error.TheVariants as error
+use Rattle.sftp_model.specs.declared.reply.Reply.{Reply}
 use Rattle.sftp_model.specs.ReplyReadings.{reply_at}
 use Rattle.sftp_core.specs.declared.errors.TakeError.{TakeError}
 use Rattle.sftp_core.specs.Take.{IsFirst}
-use Rattle.sftp_link.specs.Told.{IfLogged, GotAll}
+use Rattle.sftp_link.specs.declared.piece.Piece.{Piece}
+use Rattle.sftp_link.specs.Log.{SentOn}
+use Rattle.sftp_link.specs.Told.{IfLogged, GotAll, SentAll}
+use Rattle.sftp_link.proofs.Telling.{told_on}
 use Rattle.sftp_link.specs.Views.{LinkView}
 use Rattle.session_model.specs.declared.entry.Entry.{Entry}
 use Rattle.session_model.specs.declared.entry.Entry.TheVariants as entry
 use Rattle.session_model.specs.declared.event.Event.TheVariants.{Send}
-use Rattle.session_model.specs.Shown.{hello_frame}
+use Rattle.session_model.specs.Shown.{ShowsExchange, hello_frame}
 use Rattle.session_model.specs.Turns.{RunProgress}
 use Rattle.session_driver.specs.declared.session.Phase.{Phase}
 use Rattle.session_driver.specs.declared.session.Phase.TheVariants.{Greeted, Queried}
 use Rattle.link_frames.specs.Causes.{IsCausedByLink, SentBy}
-use Rattle.session_driver.specs.Logs.{IsAhead, even}
+use Rattle.session_driver.specs.Logs.{IsAhead, ShowsJournal, even}
 use Rattle.session_driver.specs.Ongoing.{StoppedAtHello, run_state}
 use Rattle.link_frames.specs.Reading.{IsFramePrefix, ReadFails}
 use Rattle.session_driver.specs.Refusals.{refuses_hello}
 use Rattle.sftp_core.specs.Errors.{error_of}
-use Rattle.session_driver.specs.Session.{KeepsMade, HasRefused, IsFresh, IsGreeted, IsQueried, IsUnmoved, SessionView}
+use Rattle.session_driver.specs.Session.{BeginsWithQuery, HasRefused, HasTakenVersion, IsFresh, IsGreeted, IsQueried, IsUnmoved, KeepsMade, SessionInputs, SessionView}
 use Rattle.session_driver.proofs.Joining.{holds_on}
 use Rattle.link_frames.proofs.Joining.{end_told}
 use Rattle.session_driver.proofs.Stopping.{hello_refused, hello_unbegun, hello_unread, hello_unsent, refused_ahead}
@@ -99,3 +103,27 @@ module _ {S : Type 0} where
       sub : IsAhead (error_of t) b.progress.past now.progress.past → IsAhead (error_of t) [] now.progress.past
       sub ahead = subst (λ (w : List Entry). IsAhead (error_of t) w now.progress.past) (none_then a b fresh greeted)
           ahead
+
+-- ---- what the log shows once VERSION was taken
+
+with_query : (asks : Bool) (phase : Phase) (past : List Entry) → BeginsWithQuery asks phase past → (hello : Reply)
+    (first log : List Piece) → ShowsExchange hello [] first log → ShowsExchange hello past first log
+with_query false phase past begins hello first log shown =
+    subst (λ (w : List Entry). ShowsExchange hello w first log) (sym begins.1) shown
+with_query true phase past begins hello first log shown =
+    subst (λ (w : List Entry). ShowsExchange hello w first log) (sym begins.1.1.1) shown
+
+pub shows_hello : (given : SessionInputs) (asks : Bool) (now : SessionView) (sent body bytes : List ℕ)
+    (x y z : Option (List Piece)) → sent ≡ hello_frame → IfLogged (SentAll sent) x y
+    → HasTakenVersion (reply_at body) given asks now → bytes ≡ string body → length body ≤ 1048575
+    → IfLogged (GotAll bytes) y z → IfLogged (ShowsJournal now.version now.progress.past) x z
+shows_hello given asks now sent body bytes x y z same told t framed short got =
+    told_on _ _ _ x y z told got
+    (λ p q r s g. subst (λ (v : Option Reply). ShowsJournal v now.progress.past p r) (sym t.welcomed.told)
+    (with_query asks now.phase now.progress.past t.welcomed.begins _ p r (
+      q,
+      (
+        subst (λ (b : List ℕ). SentOn p q b) same s,
+        (bytes, (record { body = body; framed = framed; short = short; reads = t.reads }, g)),
+      ),
+    )))

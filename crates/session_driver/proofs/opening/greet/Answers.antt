@@ -1,6 +1,6 @@
 use Rattle.std.proofs.Common.{◌∙◌, ap}
 use Rattle.sftp_model.specs.Pieces.{joined_pieces}
-use Rattle.session_driver.proofs.Greeting.{hello_fails, no_hello, version_fails, version_refused}
+use Rattle.session_driver.proofs.Greeting.{hello_fails, no_hello, shows_hello, version_fails, version_refused}
 use Rattle.link_frames.proofs.Joining.{escaped}
 use Rattle.session_driver.proofs.opening.greet.Goals as goal
 
@@ -31,3 +31,11 @@ returns-clause-stops g c =
     c.in_ok-reader.ensures.whole.prefix c.in-Some.ensures.spelled.0 c.in-Some.ensures.spelled.1
     c.in-Err-take_version.ensures.refused (rw c.give_back.ensures.same at c.in-Err-take_version.ensures.left)
     c.in_ok-reader.ensures.log)
+
+pub returns-in-Ok-take_version-clause-log : goal.returns-in-Ok-take_version-clause-log
+returns-in-Ok-take_version-clause-log g c =
+    shows_hello _ c.in-Ok-take_version.asks (g.X.RunsLanes.seen c.take_version.new.self) _ c.in-Some.body.now
+    c.in_ok-reader.reader.bytes (g.L.LinkState.state c.args.link.now).log (g.L.LinkState.state c.send_pieces.new.link).log
+    (g.L.LinkState.state c.read_frame.new.link).log
+    (ap joined_pieces c.pieces.ensures ∙ c.in-Ok.ensures.ok) c.in_ok-send_pieces.ensures.log
+    c.in-Ok-take_version.ensures.ok c.in-Some.ensures.spelled.0 c.in-Some.ensures.spelled.1 c.in_ok-reader.ensures.log
