@@ -26,18 +26,18 @@ send_pieces-requires g c =
 pub apply-requires-clause-may : goal.apply-requires-clause-may
 apply-requires-clause-may g c =
     let all = c.loop-start.invariant.unwritten in
-    let within = c.group_end.ensures.end.frames in
-    let grows = c.group_end.ensures.grows in
+    let within = c.group_end-end.ensures.end.frames in
+    let grows = c.group_end-end.ensures.grows in
     (omega (arith, all, within, grows), omega arith)
 
 pub loop-start-preserved : goal.loop-start-preserved
 loop-start-preserved g c =
     let i = c.loop-start.invariant in
-    let grows = c.group_end.ensures.grows in
-    let k : ℕ = c.group_end.result.frames - c.loop-start.start.frames in
+    let grows = c.group_end-end.ensures.grows in
+    let k : ℕ = c.group_end-end.result.frames - c.loop-start.start.frames in
     let n = c.loop-start.seat.inner.me in
     let next = c.apply.new.self.inner.me in
-    let more : c.group_end.result.frames ≡ c.loop-start.start.frames + k = omega (arith, grows) in record {
+    let more : c.group_end-end.result.frames ≡ c.loop-start.start.frames + k = omega (arith, grows) in record {
       own = (c.apply.ensures.own ∙ i.own.0, c.apply.ensures.lane ∙ i.own.1);
       only = grew_on _ _ _ _ i.only
           (subst (λ (o : Option ℕ). AddsEntries (by_nothing o) (claim_of n) (claim_of next)) i.own.1
@@ -45,8 +45,8 @@ loop-start-preserved g c =
       unwritten = (let after = unwritten_after k n next c.apply.ensures.held in let all = i.unwritten in
           omega (arith, after, all, more));
       sent = groups_on c.args.chunk.now c.args.seat.now.inner.me (g.O.LinkState.state c.args.out.now)
-          c.loop-start.start c.group_end.result c.between.result.now k n next (g.O.LinkState.state c.loop-start.out)
-          (g.O.LinkState.state c.send_pieces.new.link) i.sent c.group_end.ensures.end c.between.ensures c.in-Ok.ensures
+          c.loop-start.start c.group_end-end.result c.between.result.now k n next (g.O.LinkState.state c.loop-start.out)
+          (g.O.LinkState.state c.send_pieces.new.link) i.sent c.group_end-end.ensures.end c.between.ensures c.in-Ok.ensures
           more
           (noted c.loop-start.seat.lane n next c.apply.ensures.held);
     }
@@ -54,9 +54,9 @@ loop-start-preserved g c =
 pub returns-in-Err-clause-sends : goal.returns-in-Err-clause-sends
 returns-in-Err-clause-sends g c =
     groups_stopped c.args.chunk.now c.args.seat.now.inner.me (g.O.LinkState.state c.args.out.now)
-    c.loop-start.start c.group_end.result c.between.result.now c.in-Err.e c.loop-start.seat.inner.me
+    c.loop-start.start c.group_end-end.result c.between.result.now c.in-Err.e c.loop-start.seat.inner.me
     (g.O.LinkState.state c.loop-start.out) (g.O.LinkState.state c.send_pieces.new.link)
-    c.loop-start.invariant.sent c.group_end.ensures.end c.between.ensures c.in-Err.ensures
+    c.loop-start.invariant.sent c.group_end-end.ensures.end c.between.ensures c.in-Err.ensures
 
 pub returns-clause-sends : goal.returns-clause-sends
 returns-clause-sends g c =
