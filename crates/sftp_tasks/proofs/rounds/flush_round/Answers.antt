@@ -68,7 +68,7 @@ returns-clause-stops g c =
     inr (inl (unsent_part c.args.seat.now.inner.me c.apply-did.new.self.inner.me c.apply-did.result.0
     c.in-Ok-Some.handed (g.O.LinkState.state c.args.out.now) (g.O.LinkState.state c.send_groups.new.out)
     c.send_groups.new.seat.inner.me c.stop.new.seat.inner.me c.in-Err-send_groups.e _ is c.apply-did.ensures.held
-    c.in-Err-send_groups.ensures c.stop.ensures.stops))
+    c.in-Err-send_groups.ensures.sends c.stop.ensures.stops))
 
 pub returns-in-Ok-clause-only : goal.returns-in-Ok-clause-only
 returns-in-Ok-clause-only g c =
@@ -87,7 +87,7 @@ returns-in-Ok-clause-flushes g c =
     let after = g.O.LinkState.state c.send_groups.new.out in
     let is = c.in-Ok-Some.is ∙ ap (λ o. Ok o) c.in-Ok-Some.field-0-is in
     let did : FlushesOnce m end before after = flushed m c.apply-did.new.self.inner.me c.apply-did.result.0
-    c.in-Ok-Some.handed before after end is c.apply-did.ensures.held c.in-Ok.ensures in
+    c.in-Ok-Some.handed before after end is c.apply-did.ensures.held c.in-Ok.ensures.sends in
     subst (λ (r : Result Bool Error). IfOk r (λ did. FlushesRound did m end before after))
     (sym c.settle-in-Ok.ensures)
     (settled_ok true c.apply-did.result.1 (λ did. FlushesRound did m end before after) did)
@@ -100,7 +100,7 @@ returns-in-Ok-clause-stops g c =
     let after = g.O.LinkState.state c.send_groups.new.out in
     let is = c.in-Ok-Some.is ∙ ap (λ o. Ok o) c.in-Ok-Some.field-0-is in
     let did : FlushesOnce m end before after = flushed m c.apply-did.new.self.inner.me c.apply-did.result.0
-    c.in-Ok-Some.handed before after end is c.apply-did.ensures.held c.in-Ok.ensures in
+    c.in-Ok-Some.handed before after end is c.apply-did.ensures.held c.in-Ok.ensures.sends in
     subst (λ (r : Result Bool Error). IfErr r (λ e. FlushStops e m end before after))
     (sym c.settle-in-Ok.ensures)
     (settled_err true c.apply-did.result.1 (λ e. FlushStops e m end before after) (inr (inr (refl, (true, did)))))
