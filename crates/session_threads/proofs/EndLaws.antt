@@ -28,6 +28,7 @@ use Rattle.std.proofs.Common.{
   if◌then◌else◌,
   inl,
   inr,
+  None,
 }
 use Rattle.std.specs.Prelude.{◌&&◌, reverse}
 use Rattle.std.specs.List.{list_all}
