@@ -202,9 +202,6 @@ printf old >"$room/far/big"
 run writes put "$room/near/big" "$room/far/big"
 [ $status -eq 1 ] && [ "$(cat "$room/far/big")" = old ] && [ "$(wc -l <"$room/err")" -eq 1 ]
 tell 'a server that ends while a file goes up' $?
-timeout 60 socat "EXEC:$room/hears_writes" "EXEC:$program stdio put $room/near/big $room/far/big" 2>"$room/err"
-[ "$(cat "$room/far/big")" = old ] && [ "$(grep -c '^sftp_transfer: ' "$room/err")" -eq 1 ]
-tell 'a server that ends while a file goes up over standard input and output' $?
 run socket put "$room/near/big" "$room/far/big"
 [ $status -eq 0 ] && cmp "$room/near/big" "$room/far/big" && ! [ -e "$room/far/.big.part" ]
 tell 'the same file once more' $?
