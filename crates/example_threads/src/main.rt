@@ -1,8 +1,9 @@
 //! Programs over `session_threads`, each proved: a script whose lanes run in threads over a server at a Unix socket,
-//! lanes over replies that are laid out beforehand, and many runs over the server in memory whose receipts are compared
-//! with their journals.
+//! threads of the program's own that submit and cancel calls, lanes over replies that are laid out beforehand, and many
+//! runs over the server in memory whose receipts are compared with their journals.
 #![tactic(auto)]
 
+mod calls;
 mod laid_out;
 mod receipts;
 mod sheet;
@@ -17,6 +18,8 @@ const USAGE: &str = "example_threads unix SOCKET\n\
     unix: runs the lanes of the script on standard input, each in a thread, over the server that listens at SOCKET\n\
     example_threads counts SOCKET\n\
     counts: the same, and prints how many lanes, entries, receipts and bytes that were read there are\n\
+    example_threads calls SOCKET\n\
+    calls: runs eight threads over the server at SOCKET that submit 200 calls each and cancel some\n\
     example_threads sheet\n\
     sheet: runs eight lanes of 200 calls over a link whose replies are laid out beforehand\n\
     example_threads runs COUNT\n\
@@ -26,6 +29,7 @@ const USAGE: &str = "example_threads unix SOCKET\n\
 ///
 /// - `example_threads unix SOCKET` runs a script's lanes over a server and prints the frames and outcomes.
 /// - `counts SOCKET` prints numbers in their place.
+/// - `calls SOCKET` runs eight threads that submit and cancel calls.
 /// - `sheet` runs eight lanes over replies that are laid out.
 /// - `runs COUNT` runs eight lanes this many times over the server in memory.
 fn main(rt: HostRuntime) -> ExitCode {
@@ -42,6 +46,12 @@ fn main(rt: HostRuntime) -> ExitCode {
                 },
                 Err(why) => Err(why),
             },
+            [word, path] if word.as_str() == "calls" => {
+                match calls::run_calls(&rt, rt.alloc(), path) {
+                    Ok(report) => calls::print_calls(&rt, &report),
+                    Err(why) => Err(why),
+                }
+            }
             [word] if word.as_str() == "sheet" => match laid_out::run_sheet(&rt, rt.alloc()) {
                 Ok(report) => socket::print_report(&rt, &report),
                 Err(why) => Err(why),
@@ -49,7 +59,7 @@ fn main(rt: HostRuntime) -> ExitCode {
             [word, count] if word.as_str() == "runs" => {
                 receipts::run_often(&rt, rt.alloc(), &mut MapPair::new(), count)
             }
-            _ => Err("unix or counts and a socket, sheet, or runs and a count are needed"),
+            _ => Err("unix, counts or calls and a socket, sheet, or runs and a count are needed"),
         },
         Err(why) => Err(why),
     };

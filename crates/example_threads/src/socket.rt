@@ -4,12 +4,12 @@ ghost use Rattle.plan_model.specs.Lanes.{are_ok};
 
 use script_grammar::{Script, read_script};
 use script_text::write_text;
-use session_threads::run_shared;
-use sftp_link::{ReadSource, StreamLink, WriteSink, read_up_to, write_all};
+use session_threads::{Halves, Stop, run_stoppable};
+use sftp_link::{ReadSource, StreamLink, UnixLink, WriteSink, read_up_to, write_all};
 use sftp_model::Outcome;
 use sftp_tasks::{Error, Report, SharedReport};
 use std::alloc::Global;
-use std::net::Net;
+use std::net::{Net, Shutdown};
 use std::os::unix::net::UnixStream;
 use std::sync::Wait;
 use std::thread::Threads;
@@ -46,7 +46,7 @@ pub(crate) fn print_report(rt: &HostRuntime, report: &Report) -> Result<(), &'st
 }
 
 /// Returns the reason why a run stopped.
-fn reason(error: Error) -> &'static str {
+pub(crate) fn reason(error: Error) -> &'static str {
     match error {
         Error::OutOfMemory => "out of memory, or the session was given up",
         Error::LinkFault => "the connection failed",
@@ -97,6 +97,40 @@ fn bytes_of(outcomes: &[Outcome]) -> u64 {
     sum
 }
 
+/// A connected socket whose shutdown ends the waits inside `recv` and `send` over its clones.
+#[derive(Drop)]
+pub(crate) struct Closing {
+    stream: UnixStream,
+}
+
+impl Stop for Closing {
+    /// Shuts the connection down in both directions.
+    fn stop(&self) {
+        // If that fails the connection has ended already.
+        let _ = self.stream.shutdown(Shutdown::Both);
+    }
+}
+
+/// Returns the halves of a connection to the server that listens at a socket.
+pub(crate) fn connect<R: Net>(
+    rt: &R,
+    path: &str,
+) -> Result<Halves<UnixLink, UnixLink, Closing>, &'static str>
+    ensures { IfOk result (λ halves. (halves.out.faults ≡ 0) × (halves.input.faults ≡ 0)) }
+{
+    let Ok(stream) = UnixStream::connect(rt, path) else {
+        return Err("no server listens on the socket");
+    };
+    let (Ok(input), Ok(other)) = (stream.try_clone(), stream.try_clone()) else {
+        return Err("the connection failed");
+    };
+    Ok(Halves {
+        out: StreamLink::new(stream),
+        input: StreamLink::new(input),
+        stop: Closing { stream: other },
+    })
+}
+
 /// Runs the lanes of a script over the server that listens at a socket, and returns the report. The script's server,
 /// files, choices, picks and turns are ignored.
 pub(crate) fn run_script<R: Net + Threads + Wait + Clock + Sync>(
@@ -107,20 +141,8 @@ pub(crate) fn run_script<R: Net + Threads + Wait + Clock + Sync>(
 ) -> Result<SharedReport, &'static str>
     requires { are_ok script.now.lanes ≡ true }
 {
-    let Ok(stream) = UnixStream::connect(rt, path) else {
-        return Err("no server listens on the socket");
-    };
-    let Ok(other) = stream.try_clone() else {
-        return Err("the connection failed");
-    };
-    let (result, _, _) = run_shared(
-        rt,
-        alloc,
-        StreamLink::new(stream),
-        StreamLink::new(other),
-        script.lanes.as_slice(),
-        &script.options,
-    );
+    let halves = connect(rt, path)?;
+    let (result, _, _) = run_stoppable(rt, alloc, halves, script.lanes.as_slice(), &script.options);
     match result {
         Ok(report) => Ok(report),
         Err(error) => Err(reason(error)),

@@ -33,7 +33,7 @@ use Rattle.session_seats.specs.declared.view.SeatName.{SeatName}
 use Rattle.session_seats.specs.declared.view.Stamp.{Stamp}
 use Rattle.session_seats.specs.declared.view.View.{View}
 use Rattle.session_seats.specs.Sights.{Shown, receipt, made_on, own, seats_given_by, IsLaterSight}
-use Rattle.session_seats.specs.Users.{Leaves, Raises}
+use Rattle.session_seats.specs.Users.{Leaves}
 use Rattle.session_seats.specs.Rules.{ShowsSightOf}
 use Rattle.session_seats.specs.declared.view.Sight.{Sight}
 use Rattle.session_seats.specs.Holds.{Allowance, AllFrom, Applied, AddsEntries, Hold, claim_of, is_of, number_of, passes, sight_by}
@@ -117,12 +117,6 @@ grew_as test c d now y took number log seats later = record {
 pub grew_leaves : {S : Type 0} (shown : S → Shown) (last : Bool) (m n : Me S View) → Leaves shown last m n
     → (test : Entry → Bool) → AddsEntries test (claim_of m) (claim_of n)
 grew_leaves shown last m n l test =
-    grew_as test (claim_of m) (claim_of n) l.now (shown l.before) l.took l.number (ap (λ (s : Sight). s.log) l.sight)
-    (ap (λ (s : Sight). s.seats) l.sight) l.later
-
-pub grew_raises : {S : Type 0} (shown : S → Shown) (stage : ℕ) (m n : Me S View) → Raises shown stage m n
-    → (test : Entry → Bool) → AddsEntries test (claim_of m) (claim_of n)
-grew_raises shown stage m n l test =
     grew_as test (claim_of m) (claim_of n) l.now (shown l.before) l.took l.number (ap (λ (s : Sight). s.log) l.sight)
     (ap (λ (s : Sight). s.seats) l.sight) l.later
 

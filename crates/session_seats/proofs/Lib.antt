@@ -9,4 +9,5 @@ pub mod CoverLaws
 mod UserLaws
 pub mod HomeLaws
 mod KeptRows
+pub mod WakeLaws
 pub mod RepeatLaws

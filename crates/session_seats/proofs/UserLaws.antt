@@ -1,6 +1,6 @@
 -- A hold that changes how many users there are, and the stage.
 use Rattle.std.proofs.Common.{◌≡◌, ◌<◌, ◌≤◌, ℕ, suc, ◌+◌, ◌-◌, ◌==◌, List, [], ◌∷◌, ◌++◌, map, Bool, true, false, refl, sym, ap, ◌∙◌, subst, arith, eqb-true}
-use Rattle.std.specs.Prelude.{max, Option}
+use Rattle.std.specs.Prelude.{Option}
 use Rattle.atomic_table.specs.Table.{Me, rest}
 use Rattle.session_seats.specs.declared.view.Claim.{Claim}
 use Rattle.session_seats.specs.declared.view.Receipt.{Receipt}
@@ -9,7 +9,7 @@ use Rattle.session_seats.specs.declared.view.View.{View}
 use Rattle.session_seats.specs.Sights.{Shown, stamp, sight_of, own, FitsStage, IsLaterSight, StaysThere, one_if}
 use Rattle.session_seats.specs.Rules.{sees, claim_with_entries, newer, MayRelease}
 use Rattle.session_seats.specs.Holds.{claim_of, number_of, sight_by, seat_with, HasTaken, CanRelease, Releases, NamesLane}
-use Rattle.session_seats.specs.Users.{with_users, at_stage, Leaves, Raises}
+use Rattle.session_seats.specs.Users.{with_users, at_stage, Leaves}
 use Rattle.session_seats.proofs.Lists.{stays_same, later_same}
 use Rattle.session_seats.proofs.Steps.{newer-is}
 use Rattle.session_seats.proofs.NewSeatLaws.{keeps_name, keeps_receipts}
@@ -153,41 +153,6 @@ module _ {S : Type 0} (shown : S → Shown) (m p : Me S View) (h : HasTaken show
             later = later_after shown m p h z u (one_if last) is n rel (omega arith);
           }
 
--- ---- the stage is raised
-
-module _ {S : Type 0} (shown : S → Shown) (m p : Me S View) (h : HasTaken shown m p)
-    (begun : 0 < (sight_by m).counts.stage) where
-  pub can_raise : (shown h.value).users ≡ 0
-  can_raise = let later = h.took.later.counts.stage in h.took.ends.1 (omega arith)
-
-  module _ (z : S) (k : ℕ) (low : k ≤ 2) (is : shown z ≡ with_users (shown h.value).users
-      (max (shown h.value).counts.stage k) (shown h.value)) where
-    abbrev to : ℕ
-    to = max (shown h.value).counts.stage k
-
-    pub raise_can : CanRelease shown (p.0, (0, z) ∷ rest p.1)
-    raise_can =
-        let was = h.took.ends.0 in
-        let now : h.now.counts.stage ≡ (shown h.value).counts.stage =
-        ap (λ (s : Sight). s.counts.stage) h.took.shows.told in
-        turn_can shown m p h z (shown h.value).users to is (omega arith) (omega arith) (omega arith, λ rose. can_raise)
-
-    pub raises : (n : Me S View) → Releases shown (p.0, (0, z) ∷ rest p.1) n → Raises shown k m n
-    raises n rel =
-        let u = (shown h.value).users in
-        let users = users_are shown m p h z u to is in
-        let stage = stage_now shown m p h z u to is in
-        let share = share_after shown m p h z u to is n rel in record {
-          before = h.value;
-          now = h.now;
-          took = h.took;
-          none = can_raise;
-          number = number_after shown m p h z u to is n rel;
-          share = omega arith;
-          sight = sight_after shown m p h z u to is n rel ∙ ap (λ (j : ℕ). at_stage (max j k) h.now) (sym stage);
-          later = later_after shown m p h z u to is n rel (omega arith);
-        }
-
 -- ---- what the seat keeps
 
 pub leaves_keeps : {S : Type 0} (shown : S → Shown) (last : Bool) (m n : Me S View) (lane : Option ℕ)
@@ -195,16 +160,6 @@ pub leaves_keeps : {S : Type 0} (shown : S → Shown) (last : Bool) (m n : Me S 
     → (NamesLane (claim_of m) lane → NamesLane (claim_of n) lane)
     × (receipts ≡ own (number_of m) (sight_by m).log → receipts ≡ own (number_of n) (sight_by n).log)
 leaves_keeps shown last m n lane receipts l =
-    let log = ap (λ (s : Sight). s.log) l.sight in (
-      keeps_name shown m n l.now (shown l.before) l.took l.number log l.later lane,
-      keeps_receipts shown m n l.now (shown l.before) l.took l.number log l.later receipts,
-    )
-
-pub raises_keeps : {S : Type 0} (shown : S → Shown) (stage : ℕ) (m n : Me S View) (lane : Option ℕ)
-    (receipts : List Receipt) → Raises shown stage m n
-    → (NamesLane (claim_of m) lane → NamesLane (claim_of n) lane)
-    × (receipts ≡ own (number_of m) (sight_by m).log → receipts ≡ own (number_of n) (sight_by n).log)
-raises_keeps shown stage m n lane receipts l =
     let log = ap (λ (s : Sight). s.log) l.sight in (
       keeps_name shown m n l.now (shown l.before) l.took l.number log l.later lane,
       keeps_receipts shown m n l.now (shown l.before) l.took l.number log l.later receipts,

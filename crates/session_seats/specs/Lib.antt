@@ -6,5 +6,7 @@ pub mod Closes
 pub mod Covers
 pub mod Repeats
 pub mod Users
+pub mod Wakes
 pub mod SeatRows
 pub mod RuleRows
+pub mod WakeRows

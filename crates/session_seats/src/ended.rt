@@ -47,7 +47,7 @@ pub trait Ending<S: Held, T, E> {
 /// A shared value was not taken out. Its seats come back with all their receipts.
 ///
 /// Used in `crates/sftp_tasks/src/report.rt`.
-#[derive(Drop)]
+#[must_use]
 pub struct NotEnded<S: Held + Drop, E: Drop> {
     /// The reason that it may not be taken out. `None` if an allocation failed, now or earlier for a receipt of one of
     /// the seats.
@@ -166,7 +166,8 @@ impl<S: Held + Drop> Shared<S> {
         ensures joined { JoinsAll base.old.me base.new.me seats.items }
         ensures lists { lists.new.items ≡ lists.old.items ++ receipts_of seats.items }
     {
-        for seat in seats {
+        let mut rest = seats.into_iter();
+        while let Some(seat) = rest.next() {
             let Seat {
                 inner,
                 lane: _,
@@ -177,6 +178,7 @@ impl<S: Held + Drop> Shared<S> {
             self.table.shared.join_seat::<TakeIn>(base, inner);
             lists.push_reserved(receipts);
         }
+        rest.destroy_empty();
     }
 }
 

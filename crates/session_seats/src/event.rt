@@ -4,7 +4,7 @@ use crate::rule::Held;
 /// An operation on the shared value in one hold, with the answer `A`. By its three ghost members an event says which
 /// entries it may add, what it needs of its seat's counts, and what it does.
 ///
-/// Used in `crates/session_seats/src/users.rt`.
+/// Used in `crates/sftp_tasks/src/events.rt`.
 pub trait Event<S: Held, A> {
     ghost use Rattle.std.specs.Prelude.{ℕ, Bool, Option};
     ghost use Rattle.session_model.specs.declared.entry.Entry.{Entry};

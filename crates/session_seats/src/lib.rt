@@ -5,6 +5,7 @@
 
 mod ended;
 mod event;
+mod laws;
 mod new_seats;
 mod origin;
 mod rule;
@@ -13,12 +14,14 @@ mod shared;
 mod users;
 mod view;
 mod waits;
+mod wakes;
 
 pub use ended::{Ended, Ending, NotEnded};
 pub use event::Event;
+pub use laws::{changes_are_counted, others_have_no_news, quiet_holds_change_nothing};
 pub use origin::Origin;
 pub use rule::{Acquire, Check, Held, LaneSeat, Release, SeatRule, TakeIn, WorkerSeat};
 pub use seat::Seat;
 pub use shared::Shared;
-pub use users::ThenLeaves;
 pub use view::{Claim, Counts, Receipt, SeatName, Sight, Stamp, View};
+pub use wakes::{LaneSet, Tide, Waiter, WakeSet};

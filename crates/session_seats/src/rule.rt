@@ -3,6 +3,7 @@ ghost use Rattle.std.specs.Prelude.{◌≡◌, reverse};
 
 use crate::origin::Origin;
 use crate::view::View;
+use crate::wakes::Tide;
 use atomic_table::{Join, Play, Split, TableRule};
 use session_model::Entry;
 
@@ -10,7 +11,7 @@ use session_model::Entry;
 ///
 /// Used in `crates/session_seats/src/event.rt`.
 pub trait Held {
-    ghost use Rattle.std.specs.Prelude.{◌<◌, ◌≤◌, ◌-◌, ◌==◌, true, length, max, IfNone, IfSome};
+    ghost use Rattle.std.specs.Prelude.{◌<◌, ◌≤◌, ◌-◌, ◌==◌, true, length, IfNone, IfSome};
     ghost use Rattle.session_seats.specs.Sights.{Shown, one_if};
     ghost use Rattle.session_seats.specs.NewSeats.{with_seat};
     ghost use Rattle.session_seats.specs.Users.{with_users};
@@ -22,9 +23,10 @@ pub trait Held {
     fn entries(&self) -> &[Entry]
         ensures { reverse result.now ≡ (shown self.now).past };
 
-    /// Returns a number that changes once the value has changed in a way for which a thread may wait. No contract says
-    /// anything of it.
-    fn moves(&self) -> u64;
+    /// Returns the numbers by which a change may concern threads that wait. The phase is another number in each phase
+    /// of the session; no contract says anything of it.
+    fn tide(&self) -> Tide
+        ensures { (result.written ≡ (shown self.now).counts.written) × (result.stage ≡ (shown self.now).counts.stage) };
 
     /// Returns how many users there are.
     fn users(&self) -> u64
@@ -43,11 +45,6 @@ pub trait Held {
         requires { (0 < (shown self.old).users) × ((shown self.old).counts.stage ≡ 0) }
         ensures last { result ≡ ((shown self.old).users == 1) }
         ensures left { shown self.new ≡ with_users ((shown self.old).users - 1) (one_if result) (shown self.old) };
-
-    /// Raises the stage of the end to at least this one.
-    fn raise(&mut self, stage: u64)
-        requires { ((shown self.old).users ≡ 0) × (stage ≤ 2) }
-        ensures raised { shown self.new ≡ with_users (shown self.old).users (max (shown self.old).counts.stage stage) (shown self.old) };
 }
 
 /// The rule of the table, whose one slot has the value.

@@ -15,10 +15,10 @@ use std::alloc::Global;
 use std::sync::Wait;
 
 /// A thread's seat at a shared value. It names a lane, or none, and keeps a receipt of each entry that was added to the
-/// journal by it. A seat that is dropped is not given again.
+/// journal by it. A seat can't be dropped: `close` of the shared value or `into_receipts` ends it.
 ///
 /// Example: `crates/test_tasks/src/one_thread.rt`.
-#[derive(Drop)]
+#[must_use]
 pub struct Seat<S: Held + Drop> {
     pub(crate) inner: Inner<S, View>,
     pub(crate) lane: Option<u32>,
@@ -84,6 +84,22 @@ impl<S: Held + Drop> Seat<S> {
         self.lane
     }
 
+    /// Ends the seat, and returns its receipts. The shared value can't be closed with all of its seats any more. If the
+    /// seat has a share of the users, the last user never leaves, and threads that wait for the end wait forever:
+    /// release the seat or give the session up first.
+    pub fn into_receipts(self) -> Vec<Receipt>
+        ensures { result ≡ self.receipts }
+    {
+        let Seat {
+            inner: _,
+            lane: _,
+            receipts,
+            whole: _,
+            share: _,
+        } = self;
+        receipts
+    }
+
     /// Returns true if the seat is no user, or no longer one: it has no share of the users. This holds for a worker's
     /// seat from the beginning, and for another once it was released.
     pub fn is_released(&self) -> bool
@@ -101,9 +117,9 @@ impl<S: Held + Drop> Seat<S> {
         self.whole
     }
 
-    /// Does the event in one hold of the lock, keeps a receipt of each entry that it adds, and wakes the threads that
-    /// wait for a change. Returns the answer of the event, and an `Err` if an allocation for a receipt failed: the
-    /// entries are in the journal then, and the seat has lost receipts for good.
+    /// Does the event in one hold of the lock, keeps a receipt of each entry that it adds, and then, without the lock,
+    /// wakes the threads that the hold concerns. Returns the answer of the event, and an `Err` if an allocation for a
+    /// receipt failed: the entries are in the journal then, and the seat has lost receipts for good.
     pub fn apply<A, E: Event<S, A>, R: Wait>(
         &mut self,
         rt: &R,
@@ -120,7 +136,7 @@ impl<S: Held + Drop> Seat<S> {
             self.old.inner.me self.new.inner.me }
     {
         let mut gate = shared.gate.lock(rt);
-        let (did, copied, moved) = shared.hold(
+        let (did, copied, concerned) = shared.hold(
             rt,
             alloc,
             &mut self.inner,
@@ -129,8 +145,9 @@ impl<S: Held + Drop> Seat<S> {
             self.lane,
             event,
         );
-        shared.wake(&mut *gate, moved);
+        gate.note(concerned);
         drop(gate);
+        shared.condvars.notify(concerned);
         if copied.is_err() {
             self.whole = false;
         }

@@ -9,12 +9,14 @@ use crate::origin::Origin;
 use crate::rule::{Acquire, Held, Release, SeatRule};
 use crate::seat::Seat;
 use crate::view::{Receipt, View};
+use crate::waits::{Condvars, Gate};
+use crate::wakes::{WakeSet, concerned};
 use atomic_table::{Seat as Inner, Table};
 use session_model::Entry;
 use sftp_model::TryCopy;
 use ssh_encoding::OutOfMemory;
 use std::alloc::Global;
-use std::sync::{Condvar, Mutex, Wait};
+use std::sync::{Mutex, Wait};
 use std::thread;
 
 /// A value that threads share: it lies in the one slot of a table, and a thread that has taken the slot holds the lock.
@@ -24,14 +26,14 @@ use std::thread;
 pub struct Shared<S: Held + Drop> {
     pub(crate) table: Table<S, View, Origin, SeatRule, Global>,
     // Threads that are about to take the value wait here. It counts the changes, for those that wait for one.
-    pub(crate) gate: Mutex<u64>,
-    pub(crate) moved: Condvar,
+    pub(crate) gate: Mutex<Gate>,
+    pub(crate) condvars: Condvars,
     ghost sized: { (table.shared.table_id.words ≡ 1) × (table.shared.table_id.slots ≡ 1) },
 }
 
 impl<S: Held + Drop> Shared<S> {
     /// Returns the value protected by its lock, which nobody has used yet and which was made of this; and the home
-    /// seat, which names no lane.
+    /// seat, which names no lane. Each of `lanes` lanes has a condition variable of its own.
     ///
     /// # Errors
     ///
@@ -40,11 +42,14 @@ impl<S: Held + Drop> Shared<S> {
         alloc: Global,
         value: S,
         origin: &Origin,
+        lanes: usize,
     ) -> Result<(Shared<S>, Seat<S>), OutOfMemory>
         requires { S.shown value ≡ at_first origin.now }
         ensures { IfOk result (λ r. (r.1.inner.me ≡ (home origin.now, [])) × (r.1.lane ≡ None)
             × (r.1.receipts.items ≡ []) × (r.1.inner.table_id ≡ r.0.table.shared.table_id)) }
     {
+        let gate = Gate::new(alloc, lanes)?;
+        let condvars = Condvars::new(alloc, lanes)?;
         let mut slots = Vec::new(alloc);
         if slots.reserve(1).is_err() {
             return Err(OutOfMemory);
@@ -54,8 +59,8 @@ impl<S: Held + Drop> Shared<S> {
             Ok((table, inner)) => Ok((
                 Shared {
                     table,
-                    gate: Mutex::new(0),
-                    moved: Condvar::new(),
+                    gate: Mutex::new(gate),
+                    condvars,
                 },
                 Seat::home(alloc, inner),
             )),
@@ -89,8 +94,8 @@ impl<S: Held + Drop> Shared<S> {
         self.table.shared.store::<Release>(seat, 0, 0);
     }
 
-    /// Does one hold: an event, and receipts for the entries that it added. The seat's share follows the users. The
-    /// last answer is true if the waiting threads are to be woken.
+    /// Does one hold: an event, and receipts for the entries that it added. The seat's share follows the users. Returns
+    /// also the waiting threads that the hold concerns.
     pub(crate) fn hold<A, E: Event<S, A>, R: Wait>(
         &self,
         rt: &R,
@@ -100,7 +105,7 @@ impl<S: Held + Drop> Shared<S> {
         share: &mut u64,
         lane: Option<u32>,
         event: E,
-    ) -> (A, Result<(), OutOfMemory>, bool)
+    ) -> (A, Result<(), OutOfMemory>, WakeSet)
         requires own { seat.old.table_id ≡ self.now.table.shared.table_id }
         requires is { IsSeatOf lane share.old seat.old.me }
         requires may { MayHold (claim_of seat.old.me) (E.needs event) }
@@ -112,14 +117,16 @@ impl<S: Held + Drop> Shared<S> {
         self.acquire(rt, seat);
         let held = seat.slot_mut(&self.table.shared, 0);
         let from = held.entries().len();
-        let before = held.moves();
+        let before = held.tide();
         let others = held.users() - *share;
         let did = event.act(held, lane);
         *share = held.users() - others;
-        let moved = held.moves() != before;
-        let copied = copy_from(alloc, held.entries(), from, receipts);
+        let after = held.tide();
+        let journal = held.entries();
+        let concerned = concerned(before, after, journal, from);
+        let copied = copy_from(alloc, journal, from, receipts);
         self.release(seat);
-        (did, copied, moved)
+        (did, copied, concerned)
     }
 }
 

@@ -1,9 +1,9 @@
-mod MoveLaws
+pub mod MoveLaws
 mod FaultLaws
-mod RunLaws
+pub mod RunLaws
 mod RunReports
 mod HalfLaws
 mod CountLaws
 mod OpenedLaws
-mod Sends
+pub mod Sends
 mod EndLaws

@@ -21,8 +21,9 @@ use Rattle.std.proofs.Common.{
   ◌∙◌,
   subst,
   arith,
+  rules,
 }
-use Rattle.std.specs.Prelude.{Option, slice_index_or}
+use Rattle.std.specs.Prelude.{Option, drop, slice_index_or, take}
 use Rattle.atomic_table.specs.Seated.{TableId}
 use Rattle.session_model.specs.declared.entry.Entry.{Entry}
 use Rattle.session_seats.specs.declared.rule.Held.{Ghosts}
@@ -144,6 +145,16 @@ module _ {G : Ghosts Locked} (test : Entry → Bool) (z : TableId) where
   ran_append [] (t ∷ ts) olds news all more = absurd all
   ran_append (s ∷ ss) [] olds news all more = absurd all
   ran_append (s ∷ ss) (t ∷ ts) olds news all more = (all.0, ran_append ss ts olds news all.1 more)
+
+-- The items of a Vec whose slice was lent are those of the slice.
+pub lent_items : {X : Type 0} (old new : List X) (n : ℕ) → n ≡ length old → length new ≡ length old
+    → take n (new ++ drop (length new) old) ≡ new
+lent_items [] [] zero n long = search rules
+lent_items [] [] (suc n) is long = absurd (omega (arith, is))
+lent_items [] (y ∷ ys) n is long = absurd (omega (arith, long))
+lent_items (x ∷ xs) [] n is long = absurd (omega (arith, long))
+lent_items (x ∷ xs) (y ∷ ys) zero is long = absurd (omega (arith, is))
+lent_items (x ∷ xs) (y ∷ ys) (suc n) is long = λ i. y ∷ lent_items xs ys n (omega (arith, is)) (omega (arith, long)) i
 
 -- where the home seat gave all others, none is missing, also after they ran
 pub ran_complete : {G : Ghosts Locked} (test : Entry → Bool) (z : TableId) (home home' : Seat Locked G)

@@ -3,10 +3,17 @@
 #![tactic(auto)]
 
 mod ends;
+mod halves;
 mod laws;
 mod run;
 mod seats;
+mod shared_run;
 
+pub use halves::{Halves, NoStop, Stop};
 pub use laws::link_faults_are_counted;
-pub use run::run_shared;
+pub use run::{run_shared, run_stoppable};
+pub use seats::{
+    Crew, open_session, run_home, run_reader, run_sender, spend, spend_crew, start, stop,
+};
 pub use sftp_tasks::SharedReport;
+pub use shared_run::{SharedRun, Signals};

@@ -15,98 +15,96 @@ ghost use Rattle.session_threads.specs.Reports.{Ended, IsCause, RunsOf, RunsShar
 ghost use Rattle.session_threads.specs.Running.{AllReady, AllRan, HasRun, IsReady, WorkedUntilEnd, moves_none, sends_none, takes_none};
 
 use crate::ends::is_ended;
-use crate::seats::{Crew, Told, open_session, run_lane, run_reader, run_sender, start, stop};
+use crate::halves::{Halves, NoStop, Stop};
+use crate::seats::{
+    Crew, open_session, run_home, run_lane, run_reader, run_sender, spend, spend_crew, start,
+};
+use crate::shared_run::{SharedRun, Signals};
 use sftp_link::{LinkIn, LinkOut};
 use sftp_tasks::{
-    Error, Lane, OutOfMemory, Seat, SftpOptions, SharedReport, SharedSftp, fault_for,
+    Error, Lane, NotClosed, OutOfMemory, Seat, SftpOptions, SharedReport, SharedSftp, fault_for,
 };
-use std::alloc::{AllocError, Global};
+use std::alloc::Global;
 use std::sync::Wait;
 use std::thread;
 use std::thread::Threads;
 use std::time::Clock;
 
-/// Runs the threads of the lanes; the home seat leaves first. Returns no seats if an allocation for the threads failed;
-/// the session is given up then.
-fn run_lanes<R: Threads + Wait + Sync>(
+/// Runs the threads of the lanes; the home seat leaves first.
+fn run_lanes<S: Stop + Sync, R: Threads + Wait + Clock + Sync>(
     rt: &R,
-    shared: &SharedSftp,
-    home: Seat,
-    seats: Vec<Seat>,
-) -> (Seat, Result<Vec<Seat>, AllocError>)
-    requires home { IsReady shared.now.shared.table.shared.table_id home }
-    requires seats { AllReady shared.now.shared.table.shared.table_id seats.items }
-    ensures home { HasRun moves_none shared.now.shared.table.shared.table_id home result.0 }
-    ensures lanes { IfOk result.1 (λ lanes. AllRan moves_none shared.now.shared.table.shared.table_id seats.items lanes.items) }
-{
-    let mut home = run_lane(rt, shared, home);
-    let ran = thread::map_vec(
-        rt,
-        seats,
-        &|seat: Seat| -> Seat
-            requires { IsReady shared.now.shared.table.shared.table_id seat }
-            ensures { HasRun moves_none shared.entry.now.shared.table.shared.table_id seat result }
-        { run_lane(rt, shared, seat) },
-    );
-    match ran {
-        Ok(lanes) => (home, Ok(lanes)),
-        Err(e) => {
-            stop(rt, shared, &mut home);
-            (home, Err(e))
-        }
-    }
-}
-
-/// Runs the threads of the worker that reads, and of the lanes.
-fn run_others<I: LinkIn + Send + Drop, R: Threads + Wait + Clock + Sync>(
-    rt: &R,
-    shared: &SharedSftp,
-    reader: Seat,
-    input: I,
-    home: Seat,
-    lanes: Vec<Seat>,
-) -> ((Told, I), (Seat, Result<Vec<Seat>, AllocError>))
-    requires reader { (reader.inner.table_id ≡ shared.now.shared.table.shared.table_id) × ((I.LinkState.state input).faults < 2 ^ 64 - 1) }
-    requires lanes { IsReady shared.now.shared.table.shared.table_id home × AllReady shared.now.shared.table.shared.table_id lanes.items }
-    ensures reader { HasRun sends_none shared.now.shared.table.shared.table_id reader result.0.0.seat
-        × WorkedUntilEnd ReadWorks result.0.0.did (reader.inner.me, I.LinkState.state input) (result.0.0.seat.inner.me, I.LinkState.state result.0.1) }
-    ensures lanes { HasRun moves_none shared.now.shared.table.shared.table_id home result.1.0
-        × IfOk result.1.1 (λ ran. AllRan moves_none shared.now.shared.table.shared.table_id lanes.items ran.items) }
-{
-    thread::join(
-        rt,
-        move || -> (Told, I)
-            requires { (reader.inner.table_id ≡ shared.now.shared.table.shared.table_id) × ((I.LinkState.state input).faults < 2 ^ 64 - 1) }
-            ensures { HasRun sends_none shared.entry.now.shared.table.shared.table_id reader result.0.seat
-                × WorkedUntilEnd ReadWorks result.0.did (reader.inner.me, I.LinkState.state input) (result.0.seat.inner.me, I.LinkState.state result.1) }
-        { run_reader(rt, shared, reader, input) },
-        move || -> (Seat, Result<Vec<Seat>, AllocError>)
-            requires { IsSync R.row × IsReady shared.now.shared.table.shared.table_id home × AllReady shared.now.shared.table.shared.table_id lanes.items }
-            ensures { HasRun moves_none shared.entry.now.shared.table.shared.table_id home result.0
-                × IfOk result.1 (λ ran. AllRan moves_none shared.entry.now.shared.table.shared.table_id lanes.items ran.items) }
-        { run_lanes(rt, shared, home, lanes) },
-    )
-}
-
-/// Runs all threads of a run.
-fn run_threads<O: LinkOut + Send + Drop, I: LinkIn + Send + Drop, R: Threads + Wait + Clock + Sync>(
-    rt: &R,
-    shared: &SharedSftp,
-    crew: Crew,
-    out: O,
-    input: I,
-) -> (
-    (Told, O),
-    ((Told, I), (Seat, Result<Vec<Seat>, AllocError>)),
+    run: &SharedRun<S>,
+    home: &mut Seat,
+    seats: &mut Vec<Seat>,
 )
-    requires crew { (hello : Reply) × IsCrew hello shared.now.shared.table.shared.table_id crew }
-    requires counts { ((O.LinkState.state out).faults < 2 ^ 64 - 1) × ((I.LinkState.state input).faults < 2 ^ 64 - 1) }
-    ensures sender { HasRun takes_none shared.now.shared.table.shared.table_id crew.sender result.0.0.seat
-        × WorkedUntilEnd FlushWorks result.0.0.did (crew.sender.inner.me, O.LinkState.state out) (result.0.0.seat.inner.me, O.LinkState.state result.0.1) }
-    ensures reader { HasRun sends_none shared.now.shared.table.shared.table_id crew.reader result.1.0.0.seat
-        × WorkedUntilEnd ReadWorks result.1.0.0.did (crew.reader.inner.me, I.LinkState.state input) (result.1.0.0.seat.inner.me, I.LinkState.state result.1.0.1) }
-    ensures lanes { HasRun moves_none shared.now.shared.table.shared.table_id crew.home result.1.1.0
-        × IfOk result.1.1.1 (λ ran. AllRan moves_none shared.now.shared.table.shared.table_id crew.lanes.items ran.items) }
+    requires home { IsReady run.now.shared.shared.table.shared.table_id home.old }
+    requires seats { AllReady run.now.shared.shared.table.shared.table_id seats.old.items }
+    ensures home { HasRun moves_none run.now.shared.shared.table.shared.table_id home.old home.new }
+    ensures lanes { AllRan moves_none run.now.shared.shared.table.shared.table_id seats.old.items seats.new.items }
+{
+    run_home(rt, run, home);
+    thread::for_each_mut(
+        rt,
+        seats.as_mut_slice(),
+        usize::MAX, // a thread for each seat
+        &|_: usize, seat: &mut Seat|
+            requires { IsReady run.now.shared.shared.table.shared.table_id seat.now }
+            ensures { HasRun moves_none run.entry.now.shared.shared.table.shared.table_id seat.entry.now seat.exit.now }
+        { run_lane(rt, run, seat) },
+    );
+}
+
+/// Runs the threads of the worker that reads, of the home seat and of the lanes. Returns the result of the worker.
+fn run_others<I: LinkIn + Send, S: Stop + Sync, R: Threads + Wait + Clock + Sync>(
+    rt: &R,
+    run: &SharedRun<S>,
+    reader: &mut Seat,
+    input: &mut I,
+    home: &mut Seat,
+    lanes: &mut Vec<Seat>,
+) -> Result<(), Error>
+    requires reader { (reader.old.inner.table_id ≡ run.now.shared.shared.table.shared.table_id) × ((I.LinkState.state input.old).faults < 2 ^ 64 - 1) }
+    requires lanes { IsReady run.now.shared.shared.table.shared.table_id home.old × AllReady run.now.shared.shared.table.shared.table_id lanes.old.items }
+    ensures reader { HasRun sends_none run.now.shared.shared.table.shared.table_id reader.old reader.new
+        × WorkedUntilEnd ReadWorks result (reader.old.inner.me, I.LinkState.state input.old) (reader.new.inner.me, I.LinkState.state input.new) }
+    ensures lanes { HasRun moves_none run.now.shared.shared.table.shared.table_id home.old home.new
+        × AllRan moves_none run.now.shared.shared.table.shared.table_id lanes.old.items lanes.new.items }
+{
+    let mut read = || -> Result<(), Error>
+        requires { (reader.now.inner.table_id ≡ run.now.shared.shared.table.shared.table_id) × ((I.LinkState.state input.now).faults < 2 ^ 64 - 1) }
+        ensures { HasRun sends_none run.entry.now.shared.shared.table.shared.table_id reader.entry.now reader.exit.now
+            × WorkedUntilEnd ReadWorks result (reader.entry.now.inner.me, I.LinkState.state input.entry.now) (reader.exit.now.inner.me, I.LinkState.state input.exit.now) }
+    { run_reader(rt, run, reader, input) };
+    let mut poll = ||
+        requires { IsSync R.row × IsSync S.row × IsReady run.now.shared.shared.table.shared.table_id home.now × AllReady run.now.shared.shared.table.shared.table_id lanes.now.items }
+        ensures { HasRun moves_none run.entry.now.shared.shared.table.shared.table_id home.entry.now home.exit.now
+            × AllRan moves_none run.entry.now.shared.shared.table.shared.table_id lanes.entry.now.items lanes.exit.now.items }
+    { run_lanes(rt, run, home, lanes) };
+    let (got, _) = thread::join_mut(rt, &mut read, &mut poll);
+    got
+}
+
+/// Runs all threads of a run. Returns the results of the worker that sends and of the one that reads.
+fn run_threads<
+    O: LinkOut + Send,
+    I: LinkIn + Send,
+    S: Stop + Sync,
+    R: Threads + Wait + Clock + Sync,
+>(
+    rt: &R,
+    run: &SharedRun<S>,
+    crew: &mut Crew,
+    out: &mut O,
+    input: &mut I,
+) -> (Result<(), Error>, Result<(), Error>)
+    requires crew { (hello : Reply) × IsCrew hello run.now.shared.shared.table.shared.table_id crew.old }
+    requires counts { ((O.LinkState.state out.old).faults < 2 ^ 64 - 1) × ((I.LinkState.state input.old).faults < 2 ^ 64 - 1) }
+    ensures sender { HasRun takes_none run.now.shared.shared.table.shared.table_id crew.old.sender crew.new.sender
+        × WorkedUntilEnd FlushWorks result.0 (crew.old.sender.inner.me, O.LinkState.state out.old) (crew.new.sender.inner.me, O.LinkState.state out.new) }
+    ensures reader { HasRun sends_none run.now.shared.shared.table.shared.table_id crew.old.reader crew.new.reader
+        × WorkedUntilEnd ReadWorks result.1 (crew.old.reader.inner.me, I.LinkState.state input.old) (crew.new.reader.inner.me, I.LinkState.state input.new) }
+    ensures lanes { HasRun moves_none run.now.shared.shared.table.shared.table_id crew.old.home crew.new.home
+        × AllRan moves_none run.now.shared.shared.table.shared.table_id crew.old.lanes.items crew.new.lanes.items }
 {
     let Crew {
         home,
@@ -114,23 +112,21 @@ fn run_threads<O: LinkOut + Send + Drop, I: LinkIn + Send + Drop, R: Threads + W
         sender,
         reader,
     } = crew;
-    thread::join(
-        rt,
-        move || -> (Told, O)
-            requires { (sender.inner.table_id ≡ shared.now.shared.table.shared.table_id) × ((O.LinkState.state out).faults < 2 ^ 64 - 1) }
-            ensures { HasRun takes_none shared.entry.now.shared.table.shared.table_id sender result.0.seat
-                × WorkedUntilEnd FlushWorks result.0.did (sender.inner.me, O.LinkState.state out) (result.0.seat.inner.me, O.LinkState.state result.1) }
-        { run_sender(rt, shared, sender, out) },
-        move || -> ((Told, I), (Seat, Result<Vec<Seat>, AllocError>))
-            requires { IsSync R.row × (reader.inner.table_id ≡ shared.now.shared.table.shared.table_id)
-                × ((I.LinkState.state input).faults < 2 ^ 64 - 1)
-                × IsReady shared.now.shared.table.shared.table_id home × AllReady shared.now.shared.table.shared.table_id lanes.items }
-            ensures { HasRun sends_none shared.entry.now.shared.table.shared.table_id reader result.0.0.seat
-                × WorkedUntilEnd ReadWorks result.0.0.did (reader.inner.me, I.LinkState.state input) (result.0.0.seat.inner.me, I.LinkState.state result.0.1)
-                × HasRun moves_none shared.entry.now.shared.table.shared.table_id home result.1.0
-                × IfOk result.1.1 (λ ran. AllRan moves_none shared.entry.now.shared.table.shared.table_id lanes.items ran.items) }
-        { run_others(rt, shared, reader, input, home, lanes) },
-    )
+    let mut send = || -> Result<(), Error>
+        requires { (sender.now.inner.table_id ≡ run.now.shared.shared.table.shared.table_id) × ((O.LinkState.state out.now).faults < 2 ^ 64 - 1) }
+        ensures { HasRun takes_none run.entry.now.shared.shared.table.shared.table_id sender.entry.now sender.exit.now
+            × WorkedUntilEnd FlushWorks result (sender.entry.now.inner.me, O.LinkState.state out.entry.now) (sender.exit.now.inner.me, O.LinkState.state out.exit.now) }
+    { run_sender(rt, run, sender, out) };
+    let mut others = || -> Result<(), Error>
+        requires { IsSync R.row × IsSync S.row × (reader.now.inner.table_id ≡ run.now.shared.shared.table.shared.table_id)
+            × ((I.LinkState.state input.now).faults < 2 ^ 64 - 1)
+            × IsReady run.now.shared.shared.table.shared.table_id home.now × AllReady run.now.shared.shared.table.shared.table_id lanes.now.items }
+        ensures { HasRun sends_none run.entry.now.shared.shared.table.shared.table_id reader.entry.now reader.exit.now
+            × WorkedUntilEnd ReadWorks result (reader.entry.now.inner.me, I.LinkState.state input.entry.now) (reader.exit.now.inner.me, I.LinkState.state input.exit.now)
+            × HasRun moves_none run.entry.now.shared.shared.table.shared.table_id home.entry.now home.exit.now
+            × AllRan moves_none run.entry.now.shared.shared.table.shared.table_id lanes.entry.now.items lanes.exit.now.items }
+    { run_others(rt, run, reader, input, home, lanes) };
+    thread::join_mut(rt, &mut send, &mut others)
 }
 
 /// Returns the error of a worker that found something wrong itself, which is the session's first fault. Returns `None`
@@ -183,18 +179,21 @@ fn first_of(seats: Vec<Seat>) -> (Seat, Vec<Seat>)
 
 /// Returns the seats of a run in the order of its receipts, the first one apart from the others. Fails if an allocation
 /// fails.
-fn in_order(
-    lanes: Vec<Seat>,
-    home: Seat,
-    sender: Seat,
-    reader: Seat,
-) -> Result<(Seat, Vec<Seat>), OutOfMemory>
-    ensures { IfOk result (λ r. r.0 ∷ r.1.items ≡ lanes.items ++ home ∷ sender ∷ reader ∷ []) }
+fn in_order(crew: Crew) -> Result<(Seat, Vec<Seat>), OutOfMemory>
+    ensures { IfOk result (λ r. r.0 ∷ r.1.items ≡ crew.lanes.items ++ crew.home ∷ crew.sender ∷ crew.reader ∷ []) }
 {
-    let mut seats = lanes;
-    if seats.reserve(3).is_err() {
+    let mut crew = crew;
+    if crew.lanes.reserve(3).is_err() {
+        spend_crew(crew);
         return Err(OutOfMemory);
     }
+    let Crew {
+        home,
+        lanes,
+        sender,
+        reader,
+    } = crew;
+    let mut seats = lanes;
     seats.push_reserved(home);
     seats.push_reserved(sender);
     seats.push_reserved(reader);
@@ -210,21 +209,14 @@ fn was_open(report: &SharedReport) -> bool
 
 /// Ends the session, and reports what it did, the receipts of the lanes first. Fails if an allocation fails, if the
 /// session has stopped, and if it isn't open.
-fn close_run<R: Wait>(
-    rt: &R,
-    shared: SharedSftp,
-    home: Seat,
-    lanes: Vec<Seat>,
-    sender: Seat,
-    reader: Seat,
-) -> Result<SharedReport, OutOfMemory>
-    requires own { AllOf shared.shared.table.shared.table_id (lanes.items ++ home ∷ sender ∷ reader ∷ []) }
-    requires all { HasAllSeats (claims_of (lanes.items ++ home ∷ sender ∷ reader ∷ [])) }
-    requires named { map lane_named (lanes.items ++ home ∷ sender ∷ reader ∷ []) ≡ named_in_order (length (sight_by home.inner.me).lanes) }
-    ensures runs { IfOk result (λ report. RunsOf (sight_by home.inner.me) report) }
-    ensures reported { IfOk result (Reported (lanes.items ++ home ∷ sender ∷ reader ∷ [])) }
+fn close_run<R: Wait>(rt: &R, shared: SharedSftp, crew: Crew) -> Result<SharedReport, OutOfMemory>
+    requires own { AllOf shared.shared.table.shared.table_id (crew.lanes.items ++ crew.home ∷ crew.sender ∷ crew.reader ∷ []) }
+    requires all { HasAllSeats (claims_of (crew.lanes.items ++ crew.home ∷ crew.sender ∷ crew.reader ∷ [])) }
+    requires named { map lane_named (crew.lanes.items ++ crew.home ∷ crew.sender ∷ crew.reader ∷ []) ≡ named_in_order (length (sight_by crew.home.inner.me).lanes) }
+    ensures runs { IfOk result (λ report. RunsOf (sight_by crew.home.inner.me) report) }
+    ensures reported { IfOk result (Reported (crew.lanes.items ++ crew.home ∷ crew.sender ∷ crew.reader ∷ [])) }
 {
-    let Ok((first, others)) = in_order(lanes, home, sender, reader) else {
+    let Ok((first, others)) = in_order(crew) else {
         return Err(OutOfMemory);
     };
     match shared.close(rt, first, others) {
@@ -234,45 +226,57 @@ fn close_run<R: Wait>(
             }
             Ok(report)
         }
-        Err(_) => Err(OutOfMemory),
+        Err(refused) => {
+            let NotClosed {
+                error: _,
+                seat,
+                others,
+            } = refused;
+            drop(seat.into_receipts());
+            spend(others);
+            Err(OutOfMemory)
+        }
     }
 }
 
 /// Runs the threads of an opened session, and ends it. The halves come back. Errors are those of `run_shared`.
-fn run_crew<O: LinkOut + Send + Drop, I: LinkIn + Send + Drop, R: Threads + Wait + Clock + Sync>(
+fn run_crew<
+    O: LinkOut + Send,
+    I: LinkIn + Send,
+    S: Stop + Sync + Drop,
+    R: Threads + Wait + Clock + Sync,
+>(
     rt: &R,
     shared: SharedSftp,
     crew: Crew,
-    out: O,
-    input: I,
+    halves: Halves<O, I, S>,
     lanes: usize,
 ) -> (Result<SharedReport, Error>, O, I)
     requires crew { ((hello : Reply) × IsCrew hello shared.shared.table.shared.table_id crew) × (lanes ≡ length (sight_by crew.home.inner.me).lanes) }
-    requires counts { ((O.LinkState.state out).faults < 2 ^ 64 - 1) × ((I.LinkState.state input).faults < 2 ^ 64 - 1) }
+    requires counts { ((O.LinkState.state halves.out).faults < 2 ^ 64 - 1) × ((I.LinkState.state halves.input).faults < 2 ^ 64 - 1) }
     ensures runs { IfOk result.0 (λ report. RunsOf (sight_by crew.home.inner.me) report) }
     ensures over { IfOk result.0 (λ report. IsEnded lanes (reverse report.journal.items)) }
-    ensures ends { IfOk result.0 (WorkersEnd (O.LinkState.state out) (O.LinkState.state result.1) (I.LinkState.state input) (I.LinkState.state result.2) crew.sender.inner.me) }
-    ensures stops { IfErr result.0 (WorkersStop (O.LinkState.state out) (O.LinkState.state result.1) (I.LinkState.state input) (I.LinkState.state result.2)) }
+    ensures ends { IfOk result.0 (WorkersEnd (O.LinkState.state halves.out) (O.LinkState.state result.1) (I.LinkState.state halves.input) (I.LinkState.state result.2) crew.sender.inner.me) }
+    ensures stops { IfErr result.0 (WorkersStop (O.LinkState.state halves.out) (O.LinkState.state result.1) (I.LinkState.state halves.input) (I.LinkState.state result.2)) }
 {
-    let ((sender, out), ((reader, input), (home, ran))) = run_threads(
-        rt, &shared, crew, out, input,
-    );
-    let Told {
-        seat: sender,
-        did: sent,
-    } = sender;
-    let Told {
-        seat: reader,
-        did: got,
-    } = reader;
+    let Halves { out, input, stop } = halves;
+    let mut out = out;
+    let mut input = input;
+    let mut crew = crew;
+    let run = SharedRun {
+        shared,
+        signals: Signals::new(stop),
+    };
+    let (sent, got) = run_threads(rt, &run, &mut crew, &mut out, &mut input);
+    let SharedRun { shared, signals: _ } = run;
     match first_error(sent, got) {
-        Some(e) => return (Err(e), out, input),
+        Some(e) => {
+            spend_crew(crew);
+            return (Err(e), out, input);
+        }
         None => {}
     }
-    let Ok(seats) = ran else {
-        return (Err(Error::OutOfMemory), out, input);
-    };
-    match close_run(rt, shared, home, seats, sender, reader) {
+    match close_run(rt, shared, crew) {
         Ok(report) => {
             if !is_ended(report.journal.as_slice(), lanes) {
                 return (Err(Error::OutOfMemory), out, input);
@@ -295,12 +299,52 @@ fn run_crew<O: LinkOut + Send + Drop, I: LinkIn + Send + Drop, R: Threads + Wait
 /// If the halves report it, the one was sent the hello's frame and then the frames of all Sends of the journal, in
 /// order. From the other came a frame that reads as VERSION and then one for each Take, in order.
 ///
-/// If no thread can be created, the run may wait for good.
+/// A thread that ends with an error gives the session up and then calls `stop`, so that a thread which waits inside a
+/// call of a half ends as well.
 ///
 /// # Errors
 ///
-/// `OutOfMemory` if an allocation failed, and also for a run whose journal isn't that of such an end. Any other error
-/// stopped the opening or one of the workers, and is the session's first fault.
+/// `OutOfMemory` if an allocation failed, if no thread could be created for a worker, and also for a run whose journal
+/// isn't that of such an end. Any other error stopped the opening or one of the workers, and is the session's first
+/// fault.
+pub fn run_stoppable<
+    O: LinkOut + Send,
+    I: LinkIn + Send,
+    S: Stop + Sync + Drop,
+    R: Threads + Wait + Clock + Sync,
+>(
+    rt: &R,
+    alloc: Global,
+    halves: Halves<O, I, S>,
+    lanes: &[Lane],
+    options: &SftpOptions,
+) -> (Result<SharedReport, Error>, O, I)
+    requires lanes { are_ok lanes.now ≡ true }
+    requires counts { ((O.LinkState.state halves.out).faults < 2 ^ 64 - 1) × ((I.LinkState.state halves.input).faults < 2 ^ 64 - 1) }
+    ensures runs { IfOk result.0 (λ report. RunsShared lanes.now options.now report) }
+    ensures over { IfOk result.0 (λ report. IsEnded (length lanes.now) (reverse report.journal.items)) }
+    ensures ends { IfOk result.0 (Ended (O.LinkState.state halves.out) (O.LinkState.state result.1) (I.LinkState.state halves.input) (I.LinkState.state result.2)) }
+    ensures stops { IfErr result.0 (StopsBy (O.LinkState.state halves.out) (O.LinkState.state result.1) (I.LinkState.state halves.input) (I.LinkState.state result.2)) }
+{
+    let Halves { out, input, stop } = halves;
+    let mut out = out;
+    let mut input = input;
+    let (shared, home) = match open_session(rt, alloc, &mut out, &mut input, lanes, options) {
+        Ok(opened) => opened,
+        Err(e) => return (Err(e), out, input),
+    };
+    let Ok(crew) = start(rt, alloc, &shared, home, lanes.len()) else {
+        return (Err(Error::OutOfMemory), out, input);
+    };
+    run_crew(rt, shared, crew, Halves { out, input, stop }, lanes.len())
+}
+
+/// Runs lanes over the two halves of a link, as `run_stoppable` does. A thread that waits inside a call of a half is
+/// not woken if another thread ends with an error: it waits for its peer.
+///
+/// # Errors
+///
+/// Those of `run_stoppable`.
 pub fn run_shared<
     O: LinkOut + Send + Drop,
     I: LinkIn + Send + Drop,
@@ -320,14 +364,10 @@ pub fn run_shared<
     ensures ends { IfOk result.0 (Ended (O.LinkState.state out) (O.LinkState.state result.1) (I.LinkState.state input) (I.LinkState.state result.2)) }
     ensures stops { IfErr result.0 (StopsBy (O.LinkState.state out) (O.LinkState.state result.1) (I.LinkState.state input) (I.LinkState.state result.2)) }
 {
-    let mut out = out;
-    let mut input = input;
-    let (shared, home) = match open_session(rt, alloc, &mut out, &mut input, lanes, options) {
-        Ok(opened) => opened,
-        Err(e) => return (Err(e), out, input),
+    let halves = Halves {
+        out,
+        input,
+        stop: NoStop,
     };
-    let Ok(crew) = start(rt, alloc, &shared, home, lanes.len()) else {
-        return (Err(Error::OutOfMemory), out, input);
-    };
-    run_crew(rt, shared, crew, out, input, lanes.len())
+    run_stoppable(rt, alloc, halves, lanes, options)
 }

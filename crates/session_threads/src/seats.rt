@@ -13,6 +13,8 @@ ghost use Rattle.session_threads.specs.Running.{AllMadeNothing, AllReady, HasGiv
 ghost use Rattle.session_threads.specs.Crews.{IsCrew, IsHome, lanes_below};
 ghost use Rattle.session_threads.specs.Running.{IsOf};
 
+use crate::halves::Stop;
+use crate::shared_run::SharedRun;
 use sftp_link::{LinkIn, LinkOut};
 use sftp_tasks::{
     Error, Lane, OutOfMemory, Seat, SftpOptions, SharedSftp, fault_for, flush_worker, read_worker,
@@ -23,30 +25,49 @@ use std::time::Clock;
 
 /// The seats of a run, all at one session. The home seat gave the others.
 ///
-/// Used in `crates/session_threads/src/run.rt`.
-#[derive(Drop)]
+/// Example: `crates/example_threads/src/calls.rt`.
+#[must_use]
 pub struct Crew {
-    pub(crate) home: Seat,
+    /// The seat that names no lane, and gave the others.
+    pub home: Seat,
     /// The seats of the lanes, in lane order.
-    pub(crate) lanes: Vec<Seat>,
+    pub lanes: Vec<Seat>,
     /// The seat of the worker that sends.
-    pub(crate) sender: Seat,
+    pub sender: Seat,
     /// The seat of the worker that reads.
-    pub(crate) reader: Seat,
+    pub reader: Seat,
 }
 
-/// The result of a worker's thread: its seat, and the result of the worker.
-///
-/// Used in `crates/session_threads/src/run.rt`.
-#[derive(Drop)]
-pub struct Told {
-    pub(crate) seat: Seat,
-    pub(crate) did: Result<(), Error>,
+/// Ends the seats of a run that has no report.
+pub fn spend(seats: Vec<Seat>) {
+    let mut seats = seats.into_iter();
+    while let Some(seat) = seats.next() {
+        drop(seat.into_receipts());
+    }
+    seats.destroy_empty();
+}
+
+/// Ends all seats of a run that has no report.
+pub fn spend_crew(crew: Crew) {
+    let Crew {
+        home,
+        lanes,
+        sender,
+        reader,
+    } = crew;
+    drop(home.into_receipts());
+    spend(lanes);
+    drop(sender.into_receipts());
+    drop(reader.into_receipts());
 }
 
 /// Returns a session of these lanes, which its home seat opens: it sends the hello over the one half, and takes VERSION
-/// from the other. Fails if an allocation fails, or with the error that stopped the opening.
-pub(crate) fn open_session<O: LinkOut, I: LinkIn, R: Wait>(
+/// from the other.
+///
+/// # Errors
+///
+/// `OutOfMemory` if an allocation fails. Any other error stopped the opening, and is the session's first fault.
+pub fn open_session<O: LinkOut, I: LinkIn, R: Wait>(
     rt: &R,
     alloc: Global,
     out: &mut O,
@@ -66,17 +87,26 @@ pub(crate) fn open_session<O: LinkOut, I: LinkIn, R: Wait>(
     let mut home = home;
     match shared.greet(rt, &mut home, out, input) {
         Ok(true) => Ok((shared, home)),
-        Ok(false) => Err(Error::OutOfMemory), // nobody else has a seat yet
-        Err(e) => match fault_for(&e) {
-            Some(_) => Err(e),
-            None => Err(Error::OutOfMemory), // no fault was kept before
-        },
+        Ok(false) => {
+            drop(home.into_receipts());
+            Err(Error::OutOfMemory) // nobody else has a seat yet
+        }
+        Err(e) => {
+            drop(home.into_receipts());
+            match fault_for(&e) {
+                Some(_) => Err(e),
+                None => Err(Error::OutOfMemory), // no fault was kept before
+            }
+        }
     }
 }
 
-/// Returns the seats of a run of `count` lanes, which the home seat of an opened session gives. Fails if an allocation
-/// fails.
-pub(crate) fn start<R: Wait>(
+/// Returns the seats of a run of `count` lanes, which the home seat of an opened session gives.
+///
+/// # Errors
+///
+/// `OutOfMemory` if an allocation fails, and if the session has fewer lanes.
+pub fn start<R: Wait>(
     rt: &R,
     alloc: Global,
     shared: &SharedSftp,
@@ -89,7 +119,10 @@ pub(crate) fn start<R: Wait>(
     ensures made { IfOk result (λ crew. SameMade (sight_by home.inner.me) (sight_by crew.home.inner.me)) }
 {
     let mut home = home;
-    let seats = lane_seats(rt, alloc, shared, &mut home, count)?;
+    let Ok(seats) = lane_seats(rt, alloc, shared, &mut home, count) else {
+        drop(home.into_receipts());
+        return Err(OutOfMemory);
+    };
     let sender = shared.worker_seat(rt, &mut home);
     let reader = shared.worker_seat(rt, &mut home);
     Ok(Crew {
@@ -128,12 +161,16 @@ fn lane_seats<R: Wait>(
     let mut seats = Vec::new(alloc);
     for _ in 0..count {
         if seats.reserve(1).is_err() {
+            spend(seats);
             return Err(OutOfMemory);
         }
         let Some(seat) = shared.seat(rt, home) else {
+            spend(seats);
             return Err(OutOfMemory);
         };
         if !names(&seat, seats.len()) {
+            drop(seat.into_receipts());
+            spend(seats);
             return Err(OutOfMemory);
         }
         seats.push_reserved(seat);
@@ -141,12 +178,13 @@ fn lane_seats<R: Wait>(
     Ok(seats)
 }
 
-/// Gives the session up, so that no other thread waits for this one.
-pub(crate) fn stop<R: Wait>(rt: &R, shared: &SharedSftp, seat: &mut Seat)
-    requires { seat.old.inner.table_id ≡ shared.now.shared.table.shared.table_id }
-    ensures { HasRun moves_none shared.now.shared.table.shared.table_id seat.old seat.new }
+/// Gives the session up, so that no other thread waits for this one, and ends the waits inside calls of the halves.
+pub fn stop<S: Stop, R: Wait>(rt: &R, run: &SharedRun<S>, seat: &mut Seat)
+    requires { seat.old.inner.table_id ≡ run.now.shared.shared.table.shared.table_id }
+    ensures { HasRun moves_none run.now.shared.shared.table.shared.table_id seat.old seat.new }
 {
-    shared.give_up(rt, seat);
+    run.shared.give_up(rt, seat);
+    run.signals.stop_waits();
 }
 
 /// Polls a lane to its end, and releases its seat.
@@ -166,62 +204,78 @@ fn finish_lane<R: Wait>(rt: &R, shared: &SharedSftp, seat: &mut Seat) -> Result<
     }
 }
 
-/// Runs the thread of a lane, or of the home seat. If it can't be finished the session is given up.
-pub(crate) fn run_lane<R: Wait>(rt: &R, shared: &SharedSftp, seat: Seat) -> Seat
-    requires { IsReady shared.now.shared.table.shared.table_id seat }
-    ensures { HasRun moves_none shared.now.shared.table.shared.table_id seat result }
+/// Runs the thread of a lane. If it can't be finished the session is given up.
+pub(crate) fn run_lane<S: Stop, R: Wait>(rt: &R, run: &SharedRun<S>, seat: &mut Seat)
+    requires { IsReady run.now.shared.shared.table.shared.table_id seat.old }
+    ensures { HasRun moves_none run.now.shared.shared.table.shared.table_id seat.old seat.new }
 {
-    let mut seat = seat;
-    match finish_lane(rt, shared, &mut seat) {
-        Ok(()) => return seat,
+    match finish_lane(rt, &run.shared, seat) {
+        Ok(()) => return,
         Err(_) => {}
     }
-    stop(rt, shared, &mut seat);
-    seat
+    stop(rt, run, seat);
+}
+
+/// Lets the home seat leave, once both workers have started. If one of them can't start the session is given up.
+pub fn run_home<S: Stop, R: Wait + Clock>(rt: &R, run: &SharedRun<S>, home: &mut Seat)
+    requires { IsReady run.now.shared.shared.table.shared.table_id home.old }
+    ensures { HasRun moves_none run.now.shared.shared.table.shared.table_id home.old home.new }
+{
+    if run.signals.have_started(rt) {
+        run_lane(rt, run, home);
+        return;
+    }
+    stop(rt, run, home);
 }
 
 /// Runs the thread that sends. If it can't continue the session is given up.
-pub(crate) fn run_sender<O: LinkOut, R: Wait + Clock>(
+///
+/// # Errors
+///
+/// Those of `flush_worker` of `sftp_tasks`.
+pub fn run_sender<O: LinkOut, S: Stop, R: Wait + Clock>(
     rt: &R,
-    shared: &SharedSftp,
-    seat: Seat,
-    out: O,
-) -> (Told, O)
-    requires own { seat.inner.table_id ≡ shared.now.shared.table.shared.table_id }
-    requires count { (O.LinkState.state out).faults < 2 ^ 64 - 1 }
-    ensures ran { HasRun takes_none shared.now.shared.table.shared.table_id seat result.0.seat }
-    ensures works { WorkedUntilEnd FlushWorks result.0.did (seat.inner.me, O.LinkState.state out) (result.0.seat.inner.me, O.LinkState.state result.1) }
+    run: &SharedRun<S>,
+    seat: &mut Seat,
+    out: &mut O,
+) -> Result<(), Error>
+    requires own { seat.old.inner.table_id ≡ run.now.shared.shared.table.shared.table_id }
+    requires count { (O.LinkState.state out.old).faults < 2 ^ 64 - 1 }
+    ensures ran { HasRun takes_none run.now.shared.shared.table.shared.table_id seat.old seat.new }
+    ensures works { WorkedUntilEnd FlushWorks result (seat.old.inner.me, O.LinkState.state out.old) (seat.new.inner.me, O.LinkState.state out.new) }
 {
-    let mut seat = seat;
-    let mut out = out;
-    match flush_worker(rt, shared, &mut seat, &mut out) {
-        Ok(()) => (Told { seat, did: Ok(()) }, out),
+    run.signals.note_start(rt);
+    match flush_worker(rt, &run.shared, seat, out) {
+        Ok(()) => Ok(()),
         Err(e) => {
-            stop(rt, shared, &mut seat);
-            (Told { seat, did: Err(e) }, out)
+            stop(rt, run, seat);
+            Err(e)
         }
     }
 }
 
 /// Runs the thread that reads. If it can't continue the session is given up.
-pub(crate) fn run_reader<I: LinkIn, R: Wait>(
+///
+/// # Errors
+///
+/// Those of `read_worker` of `sftp_tasks`.
+pub fn run_reader<I: LinkIn, S: Stop, R: Wait>(
     rt: &R,
-    shared: &SharedSftp,
-    seat: Seat,
-    input: I,
-) -> (Told, I)
-    requires own { seat.inner.table_id ≡ shared.now.shared.table.shared.table_id }
-    requires count { (I.LinkState.state input).faults < 2 ^ 64 - 1 }
-    ensures ran { HasRun sends_none shared.now.shared.table.shared.table_id seat result.0.seat }
-    ensures works { WorkedUntilEnd ReadWorks result.0.did (seat.inner.me, I.LinkState.state input) (result.0.seat.inner.me, I.LinkState.state result.1) }
+    run: &SharedRun<S>,
+    seat: &mut Seat,
+    input: &mut I,
+) -> Result<(), Error>
+    requires own { seat.old.inner.table_id ≡ run.now.shared.shared.table.shared.table_id }
+    requires count { (I.LinkState.state input.old).faults < 2 ^ 64 - 1 }
+    ensures ran { HasRun sends_none run.now.shared.shared.table.shared.table_id seat.old seat.new }
+    ensures works { WorkedUntilEnd ReadWorks result (seat.old.inner.me, I.LinkState.state input.old) (seat.new.inner.me, I.LinkState.state input.new) }
 {
-    let mut seat = seat;
-    let mut input = input;
-    match read_worker(rt, shared, &mut seat, &mut input) {
-        Ok(()) => (Told { seat, did: Ok(()) }, input),
+    run.signals.note_start(rt);
+    match read_worker(rt, &run.shared, seat, input) {
+        Ok(()) => Ok(()),
         Err(e) => {
-            stop(rt, shared, &mut seat);
-            (Told { seat, did: Err(e) }, input)
+            stop(rt, run, seat);
+            Err(e)
         }
     }
 }

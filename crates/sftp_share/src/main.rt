@@ -7,12 +7,8 @@ mod laws;
 mod left;
 mod outcome;
 mod replay_laws;
-#[cfg(test)]
-mod replay_tests;
 mod replayed;
 mod share;
-#[cfg(test)]
-mod tests;
 mod threads;
 mod trace;
 

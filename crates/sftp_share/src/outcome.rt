@@ -5,7 +5,7 @@ use sftp_model::Reply;
 
 /// The answers of a machine to the requests of a trace, compared with the replies that were taken there.
 ///
-/// Example: `crates/sftp_share/src/replay_tests.rt`.
+/// Example: `crates/sftp_share/src/replayed.rt`.
 #[derive(Drop)]
 pub enum Replay {
     /// Every reply that was taken is the machine's. This is the machine after the last request.

@@ -1,5 +1,5 @@
--- believed, except DoesNothing, OfLane, StepsOneLane, CancelsLaneCall, LettingGo, PollsLane, ReleasesLane,
---   SubmitsLaneCall, HandingOut, KeepsFirstFault, tells_written
+-- believed, except DoesNothing, OfLane, CancelsLaneCall, LettingGo, PollsLane, ReleasesLane, SubmitsLaneCall,
+--   HandingOut, KeepsFirstFault, tells_written
 -- Effects of each event on the locked value, for the lane that its seat names.
 use Rattle.std.specs.Prelude.{
   ◌≡◌,
@@ -32,7 +32,6 @@ use Rattle.std.specs.Option.{option_map}
 use Rattle.plan_model.specs.declared.call.Call.{Call}
 use Rattle.session_driver.specs.declared.session.Phase.{Phase}
 use Rattle.session_driver.specs.declared.session.Phase.TheVariants.{Failed, Open}
-use Rattle.session_driver.specs.declared.session.Stepped.{Stepped}
 use Rattle.sftp_model.specs.declared.error.Error.{Error}
 use Rattle.sftp_model.specs.declared.error.Fault.{Fault}
 use Rattle.sftp_model.specs.Frames.{frame}
@@ -41,7 +40,7 @@ use Rattle.sftp_model.specs.ReplyReadings.{reply_at}
 use Rattle.sftp_core.specs.Pieces.{chunk_bytes}
 use Rattle.sftp_lanes.specs.Counts.{unsent_in}
 use Rattle.sftp_lanes.specs.Seen.{SessionValue}
-use Rattle.sftp_lanes.specs.Events.{CancelsIn, HandsOutIn, StepsIn, TakesIn}
+use Rattle.sftp_lanes.specs.Events.{CancelsIn, HandsOutIn, TakesIn}
 use Rattle.session_model.specs.Readings.{count_unanswered}
 use Rattle.session_work.specs.Working.{past_of}
 use Rattle.sftp_wire.specs.FrameReader.{Received, body_of}
@@ -77,10 +76,6 @@ abbrev pub OfLane : {A : Type 0} → (ℕ → Locked → Locked → Result A Err
     → Result A Error → Type 0
 OfLane Did nothing None y z r = (z ≡ y) × DoesNothing nothing y.session r
 OfLane Did nothing (Some lane) y z r = Did lane y z r
-
-abbrev pub StepsOneLane : ℕ → Locked → Locked → Result Stepped Error → Type 0
-StepsOneLane lane y z (Ok event) = StepsIn y.session.phase lane y.session z.session event
-StepsOneLane lane y z (Err e) = RefusesCall e y.session z.session
 
 abbrev pub CancelsLaneCall : ℕ → Locked → Locked → Result Bool Error → Type 0
 CancelsLaneCall lane y z (Ok event) = CancelsIn y.session.phase lane y.session z.session event

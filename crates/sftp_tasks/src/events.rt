@@ -2,37 +2,10 @@
 use crate::frames::Handed;
 use crate::locked::Locked;
 use crate::polls::Polled;
-use session_driver::Stepped;
 use session_model::Call;
 use session_seats::Event;
 use sftp_model::{Error, Fault};
 use sftp_wire::FrameReader;
-
-/// One step of the seat's lane.
-///
-/// Used by the functions of this module.
-#[derive(Drop)]
-pub struct Step;
-
-impl Event<Locked, Result<Stepped, Error>> for Step {
-    ghost use Rattle.session_driver.specs.declared.session.Stepped.TheVariants as stepped;
-    ghost use Rattle.session_seats.specs.Holds.{no_allowance};
-    ghost use Rattle.sftp_tasks.specs.Entries.{by_step};
-    ghost use Rattle.sftp_tasks.specs.LockedEvents.{OfLane, StepsOneLane, UnlessFault};
-
-    ghost only = { λ _. by_step };
-
-    ghost needs = { λ _. no_allowance };
-
-    ghost does = { λ _ lane. UnlessFault (OfLane StepsOneLane stepped.Nothing lane) };
-
-    fn act(self, value: &mut Locked, lane: Option<u32>) -> Result<Stepped, Error> {
-        let Some(lane) = lane else {
-            return value.idle(Stepped::Nothing);
-        };
-        value.step(lane)
-    }
-}
 
 /// Cancels the call of the seat's lane, if it was started.
 ///
@@ -57,32 +30,6 @@ impl Event<Locked, Result<bool, Error>> for CancelCall {
             return value.idle(false);
         };
         value.cancel(lane)
-    }
-}
-
-/// Releases the seat's lane, if its calls have ended.
-///
-/// Used in `crates/session_threads/src/ends.rt`.
-#[derive(Drop)]
-pub struct LetGo;
-
-impl Event<Locked, Result<bool, Error>> for LetGo {
-    ghost use Rattle.std.specs.Prelude.{false};
-    ghost use Rattle.session_seats.specs.Holds.{no_allowance};
-    ghost use Rattle.sftp_tasks.specs.Entries.{by_let_go};
-    ghost use Rattle.sftp_tasks.specs.LockedEvents.{OfLane, LettingGo, UnlessFault};
-
-    ghost only = { λ _. by_let_go };
-
-    ghost needs = { λ _. no_allowance };
-
-    ghost does = { λ _ lane. UnlessFault (OfLane LettingGo false lane) };
-
-    fn act(self, value: &mut Locked, lane: Option<u32>) -> Result<bool, Error> {
-        let Some(lane) = lane else {
-            return value.idle(false);
-        };
-        value.let_go(lane)
     }
 }
 

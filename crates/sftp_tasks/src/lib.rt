@@ -18,8 +18,8 @@ mod shared_sftp;
 mod workers;
 
 pub use events::{
-    CancelCall, Fail, Finish, GiveUp, HandOut, LetGo, LookStage, MayRead, Poll, Release, Step,
-    Submit, TakeFrame, Written,
+    CancelCall, Fail, Finish, GiveUp, HandOut, LookStage, MayRead, Poll, Release, Submit,
+    TakeFrame, Written,
 };
 pub use frames::Handed;
 pub use laws::workers_show_their_seats;

@@ -5,7 +5,7 @@ ghost use Rattle.sftp_tasks.specs.SessionEvents.{GivesUp, HasNoFault, KeepsFault
 
 use session_driver::{Phase, RunsLanes, Stepped};
 use session_model::Entry;
-use session_seats::{Counts, Held};
+use session_seats::{Counts, Held, Tide};
 use sftp_lanes::Session;
 use sftp_model::{Error, Fault};
 use ssh_encoding::OutOfMemory;
@@ -31,14 +31,12 @@ impl Held for Locked {
         self.session.journal()
     }
 
-    fn moves(&self) -> u64 {
-        let failed = matches!(self.session.phase(), Phase::Failed);
-        (self.session.journal().len() as u64)
-            .wrapping_add(self.counts.handed)
-            .wrapping_add(self.counts.written)
-            .wrapping_add(self.counts.taken)
-            .wrapping_add(self.counts.stage)
-            .wrapping_add(u64::from(failed))
+    fn tide(&self) -> Tide {
+        Tide {
+            written: self.counts.written,
+            stage: self.counts.stage,
+            phase: phase_number(self.session.phase()),
+        }
     }
 
     fn users(&self) -> u64 {
@@ -63,9 +61,17 @@ impl Held for Locked {
         }
         false
     }
+}
 
-    fn raise(&mut self, stage: u64) {
-        self.counts.stage = self.counts.stage.max(stage);
+/// Returns a number that is another one for each phase.
+fn phase_number(phase: Phase) -> u64 {
+    match phase {
+        Phase::Fresh => 0,
+        Phase::Greeted => 1,
+        Phase::Asking => 2,
+        Phase::Queried => 3,
+        Phase::Open => 4,
+        Phase::Failed => 5,
     }
 }
 

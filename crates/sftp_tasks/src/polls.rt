@@ -10,6 +10,7 @@ use crate::events::Poll;
 use crate::locked::Locked;
 use crate::shared_sftp::{Seat, SharedSftp, settle};
 use session_driver::Stepped;
+use session_seats::Waiter;
 use sftp_model::Error;
 use std::sync::Wait;
 
@@ -100,6 +101,14 @@ impl Locked {
     }
 }
 
+/// Returns the changes for which the seat waits: those of its lane. A seat that names no lane never waits.
+fn waiter_of(seat: &Seat) -> Waiter {
+    match seat.lane() {
+        Some(lane) => Waiter::Lane(lane),
+        None => Waiter::Reader,
+    }
+}
+
 impl SharedSftp {
     /// Steps the seat's lane until all of its calls have ended, and returns how many it has. Meanwhile it waits for
     /// VERSION and for replies. Returns 0 if the seat names no lane.
@@ -115,8 +124,9 @@ impl SharedSftp {
         ensures polls { PollsUntil seat.old.lane result seat.old.inner.me seat.new.inner.me }
         ensures ended { IfOk result (λ calls. SeesEnded seat.old.lane calls (sight_by seat.new.inner.me)) }
     {
+        let who = waiter_of(seat);
         for _ in rt.forever() {
-            let seen = self.shared.changes(rt);
+            let seen = self.shared.changes(rt, who);
             // No `?`: it converts the error, and `polls` is by cases on the result.
             let polled = match self.poll(rt, seat) {
                 Ok(polled) => polled,
@@ -125,7 +135,7 @@ impl SharedSftp {
             if polled.is_ended() {
                 return Ok(polled.calls());
             }
-            self.pause(rt, polled, seen);
+            self.pause(rt, polled, who, seen);
         }
         unreachable!()
     }
@@ -142,10 +152,10 @@ impl SharedSftp {
         settle(did, copied)
     }
 
-    /// Waits for a change if the poll found nothing to do.
-    fn pause<R: Wait>(&self, rt: &R, polled: Polled, seen: u64) {
+    /// Waits for a change that concerns the lane if the poll found nothing to do.
+    fn pause<R: Wait>(&self, rt: &R, polled: Polled, who: Waiter, seen: u64) {
         if let Polled::Waits = polled {
-            self.shared.wait(rt, seen);
+            self.shared.wait(rt, who, seen);
         }
     }
 }

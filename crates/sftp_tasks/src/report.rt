@@ -36,7 +36,7 @@ pub struct SharedReport {
 /// A shared session could not be closed. Its seats come back, each with its receipts.
 ///
 /// Used by the functions of this module.
-#[derive(Drop)]
+#[must_use]
 pub struct NotClosed {
     /// `BackgroundTaskFailure` with the fault that is recorded in the journal that the first seat has seen, or
     /// `OutOfMemory`.
@@ -142,11 +142,7 @@ impl SharedSftp {
         ensures covers { IfOk result (λ r. HasAllSeats (claims_of (seat ∷ others.items)) → CoversPlacesOnce (length r.journal.items) (map items_of r.receipts.items)) }
         ensures refused { IfErr result (λ n. Refused seat others.items n.error n.seat n.others.items) }
     {
-        let SharedSftp {
-            alloc,
-            shared,
-            flush_interval: _,
-        } = self;
+        let SharedSftp { alloc, shared } = self;
         let Ok(empty) = Locked::new(alloc, &[], &SftpOptions::default()) else {
             return Err(NotClosed {
                 error: Error::OutOfMemory,

@@ -22,7 +22,6 @@ use sftp_values::Items;
 use ssh_encoding::OutOfMemory;
 use std::alloc::Global;
 use std::sync::Wait;
-use std::time::Duration;
 
 /// A seat at the shared session.
 pub type Seat = session_seats::Seat<Locked>;
@@ -35,8 +34,6 @@ pub type Seat = session_seats::Seat<Locked>;
 pub struct SharedSftp {
     pub(crate) alloc: Global,
     pub(crate) shared: Shared<Locked>,
-    // The longest time that a request may stay unsent; zero sets no limit.
-    pub(crate) flush_interval: Duration,
 }
 
 impl Locked {
@@ -64,7 +61,8 @@ impl Locked {
 }
 
 impl SharedSftp {
-    /// Returns a session of these lanes with its hello in the queue, and the home seat, which names no lane.
+    /// Returns a session of these lanes with its hello in the queue, and the home seat, which names no lane. The option
+    /// `flush_interval` has no effect: a worker that sends waits only while nothing is unsent.
     ///
     /// # Errors
     ///
@@ -80,16 +78,8 @@ impl SharedSftp {
     {
         let value = Locked::new(alloc, lanes, options)?;
         let origin = Origin::of(&Items::new(copies_of(alloc, lanes)?), options);
-        let (shared, seat) = Shared::new(alloc, value, &origin)?;
-        let flush_interval = Duration::from_micros(options.get_flush_interval());
-        Ok((
-            SharedSftp {
-                alloc,
-                shared,
-                flush_interval,
-            },
-            seat,
-        ))
+        let (shared, seat) = Shared::new(alloc, value, &origin, lanes.len())?;
+        Ok((SharedSftp { alloc, shared }, seat))
     }
 
     /// Returns the next lane's seat, from lane 0 on, or `None` exactly if each lane has one. Nothing is added to the

@@ -9,10 +9,10 @@ ghost use Rattle.sftp_tasks.specs.Workers.{FlushShift, FlushWorks, ReadShift, Re
 use crate::events::{Finish, LookStage};
 use crate::rounds::{flush_round, read_round};
 use crate::shared_sftp::{Seat, SharedSftp, settle};
+use session_seats::Waiter;
 use sftp_link::{LinkIn, LinkOut};
 use sftp_model::Error;
 use std::sync::Wait;
-use std::time::Clock;
 
 /// The kind of one shift of a worker.
 ///
@@ -116,13 +116,12 @@ fn read_shift<I: LinkIn, R: Wait>(
     }
 }
 
-/// Makes rounds that send until the stage of the end is 2. If nothing is unsent it waits for a change, at most for the
-/// session's flush interval; an interval of 0 bounds no wait.
+/// Makes rounds that send until the stage of the end is 2. If nothing is unsent it waits for a request, or for the end.
 ///
 /// # Errors
 ///
 /// Those of `flush_round`.
-pub fn flush_worker<O: LinkOut, R: Wait + Clock>(
+pub fn flush_worker<O: LinkOut, R: Wait>(
     rt: &R,
     shared: &SharedSftp,
     seat: &mut Seat,
@@ -136,7 +135,7 @@ pub fn flush_worker<O: LinkOut, R: Wait + Clock>(
     ensures stage { OnOk result ((sight_by seat.new.inner.me).counts.stage ≡ 2) }
 {
     for _ in rt.forever() {
-        let seen = shared.shared.changes(rt);
+        let seen = shared.shared.changes(rt, Waiter::Sender);
         // No `?`: it converts the error, and `rounds` is by cases on the result.
         let shift = match flush_shift(rt, shared, seat, out) {
             Ok(shift) => shift,
@@ -145,7 +144,7 @@ pub fn flush_worker<O: LinkOut, R: Wait + Clock>(
         if shift.is_over() {
             return Ok(());
         }
-        shared.rest_briefly(rt, shift, seen);
+        shared.rest(rt, shift, Waiter::Sender, seen);
     }
     unreachable!()
 }
@@ -171,7 +170,7 @@ pub fn read_worker<I: LinkIn, R: Wait>(
     ensures answered { OnOk result (SeesAnswered (sight_by seat.new.inner.me)) }
 {
     for _ in rt.forever() {
-        let seen = shared.shared.changes(rt);
+        let seen = shared.shared.changes(rt, Waiter::Reader);
         // No `?`: it converts the error, and `rounds` is by cases on the result.
         let shift = match read_shift(rt, shared, seat, input) {
             Ok(shift) => shift,
@@ -180,25 +179,16 @@ pub fn read_worker<I: LinkIn, R: Wait>(
         if shift.is_over() {
             return Ok(());
         }
-        shared.rest(rt, shift, seen);
+        shared.rest(rt, shift, Waiter::Reader, seen);
     }
     unreachable!()
 }
 
 impl SharedSftp {
-    /// Waits for a change after a shift without work.
-    fn rest<R: Wait>(&self, rt: &R, shift: Shift, seen: u64) {
+    /// Waits for a change that concerns the worker, after a shift without work.
+    fn rest<R: Wait>(&self, rt: &R, shift: Shift, who: Waiter, seen: u64) {
         if let Shift::Idle = shift {
-            self.shared.wait(rt, seen);
-        }
-    }
-
-    /// Waits for a change after a shift without work, at most for the flush interval, if there is one.
-    fn rest_briefly<R: Wait + Clock>(&self, rt: &R, shift: Shift, seen: u64) {
-        if self.flush_interval.is_zero() {
-            self.rest(rt, shift, seen);
-        } else if let Shift::Idle = shift {
-            self.shared.wait_for(rt, seen, self.flush_interval);
+            self.shared.wait(rt, who, seen);
         }
     }
 }

@@ -1,7 +1,7 @@
-//! Tests of the shared session by the public calls of `sftp_tasks`.
+//! Tests of the shared session by the public calls of `sftp_tasks`, and of the texts of scripts that are refused.
 #![tactic(auto)]
 
 #[cfg(test)]
 mod one_thread;
 #[cfg(test)]
-mod threads;
+mod texts;

@@ -3,14 +3,14 @@ use Rattle.sftp_tasks.specs.Reported.{Reported}
 use Rattle.session_threads.proofs.RunReports.{runs_looked_at}
 use Rattle.session_threads.proofs.run.close_run.Goals as goal
 
-pub returns-in-Ok-close-clause-runs : goal.returns-in-Ok-close-clause-runs
-returns-in-Ok-close-clause-runs g c =
-    runs_looked_at (c.in-Ok.first ∷ c.in-Ok.others.items) c.args.home c.args.lanes.items
-    (c.args.sender ∷ c.args.reader ∷ []) c.in-Ok-close.report
+pub returns-else-not-was_open-clause-runs : goal.returns-else-not-was_open-clause-runs
+returns-else-not-was_open-clause-runs g c =
+    runs_looked_at (c.in-Ok.first ∷ c.in-Ok.others.items) c.args.crew.home c.args.crew.lanes.items
+    (c.args.crew.sender ∷ c.args.crew.reader ∷ []) c.in-Ok-close.report
     c.was_open.result c.in-Ok.ensures c.in-Ok-close.ensures.closes c.in-Ok-close.ensures.covers c.requires.all
     c.requires.named
     c.was_open.ensures c.if-not-was_open.false
 
-pub returns-in-Ok-close-clause-reported : goal.returns-in-Ok-close-clause-reported
-returns-in-Ok-close-clause-reported g c = subst (λ l. Reported l c.in-Ok-close.report) c.in-Ok.ensures
+pub returns-else-not-was_open-clause-reported : goal.returns-else-not-was_open-clause-reported
+returns-else-not-was_open-clause-reported g c = subst (λ l. Reported l c.in-Ok-close.report) c.in-Ok.ensures
     c.in-Ok-close.ensures.closes

@@ -7,12 +7,14 @@ use Rattle.session_threads.proofs.seats.run_reader.Goals as goal
 
 pub returns-in-Ok-clause-ran : goal.returns-in-Ok-clause-ran
 returns-in-Ok-clause-ran g c =
-    ran_grew sends_none _ (by_read c.args.seat.lane) (read_sends c.args.seat.lane) c.args.seat c.read_worker.new.seat
+    ran_grew sends_none _ (by_read c.args.seat.now.lane) (read_sends c.args.seat.now.lane) c.args.seat.now
+    c.read_worker.new.seat
     (c.read_worker.ensures.own.0 ∙ c.requires.own) c.read_worker.ensures.own.1 c.read_worker.ensures.only
 
 pub returns-in-Err-clause-ran : goal.returns-in-Err-clause-ran
 returns-in-Err-clause-ran g c =
-    ran_on sends_none _ c.args.seat c.read_worker.new.seat c.stop.new.seat
-    (ran_grew sends_none _ (by_read c.args.seat.lane) (read_sends c.args.seat.lane) c.args.seat c.read_worker.new.seat
+    ran_on sends_none _ c.args.seat.now c.read_worker.new.seat c.stop.new.seat
+    (ran_grew sends_none _ (by_read c.args.seat.now.lane) (read_sends c.args.seat.now.lane) c.args.seat.now
+    c.read_worker.new.seat
     (c.read_worker.ensures.own.0 ∙ c.requires.own) c.read_worker.ensures.own.1 c.read_worker.ensures.only)
     (ran_weaker moves_none sends_none _ moves_sends c.read_worker.new.seat c.stop.new.seat c.stop.ensures)

@@ -7,13 +7,14 @@ use Rattle.session_threads.proofs.seats.run_sender.Goals as goal
 
 pub returns-in-Ok-clause-ran : goal.returns-in-Ok-clause-ran
 returns-in-Ok-clause-ran g c =
-    ran_grew takes_none _ (by_flush c.args.seat.lane) (flush_takes c.args.seat.lane) c.args.seat c.flush_worker.new.seat
+    ran_grew takes_none _ (by_flush c.args.seat.now.lane) (flush_takes c.args.seat.now.lane) c.args.seat.now
+    c.flush_worker.new.seat
     (c.flush_worker.ensures.own.0 ∙ c.requires.own) c.flush_worker.ensures.own.1 c.flush_worker.ensures.only
 
 pub returns-in-Err-clause-ran : goal.returns-in-Err-clause-ran
 returns-in-Err-clause-ran g c =
-    ran_on takes_none _ c.args.seat c.flush_worker.new.seat c.stop.new.seat
-    (ran_grew takes_none _ (by_flush c.args.seat.lane) (flush_takes c.args.seat.lane) c.args.seat
+    ran_on takes_none _ c.args.seat.now c.flush_worker.new.seat c.stop.new.seat
+    (ran_grew takes_none _ (by_flush c.args.seat.now.lane) (flush_takes c.args.seat.now.lane) c.args.seat.now
     c.flush_worker.new.seat (c.flush_worker.ensures.own.0 ∙ c.requires.own) c.flush_worker.ensures.own.1
     c.flush_worker.ensures.only)
     (ran_weaker moves_none takes_none _ moves_takes c.flush_worker.new.seat c.stop.new.seat c.stop.ensures)

@@ -9,13 +9,13 @@ use Rattle.session_threads.proofs.seats.start.Goals as goal
 pub returns-clause-crew : goal.returns-clause-crew
 returns-clause-crew g c =
     let z = c.args.shared.now.shared.table.shared.table_id in
-    let seats = c.in_ok-seats.seats.items in
+    let seats = c.in-Ok.seats.items in
     let a = c.lane_seats.new.home in
     let b = c.worker_seat-sender.new.from in
     let d = c.worker_seat-reader.new.from in
     let sends = c.worker_seat-sender.ensures in
     let reads = c.worker_seat-reader.ensures in
-    let one = c.in_ok-seats.ensures.seats in
+    let one = c.in-Ok.ensures.seats in
     let home = c.lane_seats.ensures.home in
     let s = worker_given z a b c.worker_seat-sender.result seats sends.own.0 sends.same.0 sends.given sends.fresh.1
     home.ready one.1 in
@@ -26,7 +26,7 @@ returns-clause-crew g c =
     let count : c.args.count ≡ length (claim_of d.inner.me).sight.lanes = c.requires.count
     ∙ ap (λ (l : List Lane). length l) (sym lanes) in
     let named = crew_named seats d c.worker_seat-sender.result c.worker_seat-reader.result c.args.count
-    c.in_ok-seats.ensures.named
+    c.in-Ok.ensures.named
     (r.0.lane ∙ s.0.lane ∙ home.lane ∙ c.requires.home.lane) sends.fresh.0 reads.fresh.0 in
     λ hello sees.
     let first = still_sees z c.args.home a hello home sees in
@@ -47,13 +47,13 @@ returns-clause-crew g c =
 pub returns-clause-made : goal.returns-clause-made
 returns-clause-made g c =
     let z = c.args.shared.now.shared.table.shared.table_id in
-    let seats = c.in_ok-seats.seats.items in
+    let seats = c.in-Ok.seats.items in
     let a = c.lane_seats.new.home in
     let b = c.worker_seat-sender.new.from in
     let d = c.worker_seat-reader.new.from in
     let sends = c.worker_seat-sender.ensures in
     let reads = c.worker_seat-reader.ensures in
-    let one = c.in_ok-seats.ensures.seats in
+    let one = c.in-Ok.ensures.seats in
     let home = c.lane_seats.ensures.home in
     let s = worker_given z a b c.worker_seat-sender.result seats sends.own.0 sends.same.0 sends.given sends.fresh.1
     home.ready one.1 in

@@ -6,7 +6,7 @@ pub invariant_of-self : goal.invariant_of-self
 invariant_of-self g c =
     let m = c.args.self.now.inner.me in
     let n = c.leave_with-last.new.seat.me in
-    let k = leaves_keeps g.S.Held.shown c.leave_with-last.result m n c.args.self.now.lane c.args.self.now.receipts.items
+    let k = leaves_keeps g.S.Held.shown c.leave_with-last.result.0 m n c.args.self.now.lane c.args.self.now.receipts.items
     c.leave_with-last.ensures.left in
     let is = c.args.self.now.shares in
     let less = c.leave_with-last.ensures.left.share in

@@ -44,8 +44,8 @@ returns-clause-held g c =
     let past = (g.S.Held.shown h.value).past in
     let from : length c.entries-from.result.now ≡ length past = sym (length-reverse c.entries-from.result.now)
     ∙ ap (λ (l : List Entry). length l) (c.entries-from.ensures ∙ ap (λ y. (g.S.Held.shown y).past) (sym held)) in
-    let is = receipts_on c.entries.result.now more past (length c.entries-from.result.now)
-    (c.entries.ensures ∙ goes.past) from in
+    let is = receipts_on c.entries-journal.result.now more past (length c.entries-from.result.now)
+    (c.entries-journal.ensures ∙ goes.past) from in
     holds g.S.Held.shown c.args.seat.now.me c.acquire.new.seat.me h z c.args.lane
     (g.E.Event.only c.args.event c.args.lane) (g.E.Event.needs c.args.event) more goes
     c.release.new.seat.me _ c.release.ensures.gave

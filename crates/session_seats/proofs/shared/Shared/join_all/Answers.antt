@@ -1,64 +1,46 @@
-use Rattle.std.proofs.Common.{rules, ◌≡◌, ◌∷◌, [], ◌++◌, List, length, refl, sym, ap, ◌∙◌, subst, append_assoc, append-nil, arith, Global}
+use Rattle.std.proofs.Common.{rules, ◌≡◌, ◌∷◌, [], List, length, refl, sym, ap, ◌∙◌, subst, arith}
 use Rattle.std.specs.Vec.Iter.{into_iter_items}
-use Rattle.std.specs.declared.vec.Vec.{Vec}
-use Rattle.session_seats.specs.declared.view.Receipt.{Receipt}
-use Rattle.session_seats.specs.Closes.{AllOf, JoinsAll, receipts_of, list_of}
-use Rattle.session_seats.proofs.JoinLaws.{joins_as, one_more, map-snoc}
+use Rattle.session_seats.specs.Closes.{AllOf}
+use Rattle.session_seats.proofs.JoinLaws.{joining_all, joining_can, joining_first, joining_more, joining_none}
 use Rattle.session_seats.proofs.shared.Shared.join_all.Goals as goal
 
 pub loop-seat-init : goal.loop-seat-init
 loop-seat-init g c =
-    let items = c.into_iter-seat-iterator.ensures.into_iter_gives.0 in
+    let items = c.into_iter-rest.ensures.rest in
     let long = ap (λ l. length l) items in
     let room = c.requires.may.1 in (
+      joining_none g.S.Held.shown c.args.seats.items _ c.args.base.now.me c.args.base.now.table_id
+          c.args.lists.now.items items
+          (subst (λ z. AllOf z c.args.seats.items) (sym c.requires.own) c.requires.others),
       refl,
       search rules,
-      refl,
-      (λ users claim y is. is),
-      sym (append-nil c.args.lists.now.items),
       omega arith,
-      subst (λ z. AllOf z (into_iter_items c.into_iter-seat-iterator.result)) (sym c.requires.own)
-          (subst (AllOf c.args.self.now.table.shared.table_id) (sym c.into_iter-seat-iterator.ensures.into_iter_gives.0)
-          c.requires.others),
     )
 
 pub join_seat-requires : goal.join_seat-requires
 join_seat-requires g c =
     let i = c.loop-seat.invariant in
     let s = c.in-Some.seat in
-    let steps : into_iter_items c.loop-seat.seat-iterator ≡ s ∷ into_iter_items c.next.new.self =
-    c.in-Some.ensures.steps.0 in
-    let can = c.requires.may.0 in
-    let of = subst (AllOf c.args.base.now.table_id) steps i.6 in (
-      i.2 ∙ c.requires.own,
-      of.0 ∙ c.requires.own,
+    let steps : into_iter_items c.loop-seat.rest ≡ s ∷ into_iter_items c.next.new.self = search rules in (
+      i.1 ∙ c.requires.own,
+      joining_first g.S.Held.shown _ _ _ _ _ _ _ _ s steps i.0 ∙ c.requires.own,
       ap (λ x. x.1) s.free,
       search rules,
-      joins_as g.S.Held.shown _ _ c.loop-seat.base.me s can.0 can.1 can.2 c.loop-seat.yielded
-          (i.3 can.0 can.1 can.2 can.3),
+      joining_can g.S.Held.shown _ _ _ c.loop-seat.base.me _ _ _ _ _ s c.requires.may.0 i.0,
     )
 
 pub loop-seat-preserved : goal.loop-seat-preserved
 loop-seat-preserved g c =
     let i = c.loop-seat.invariant in
     let s = c.in-Some.seat in
-    let at = c.loop-seat in
-    let steps : into_iter_items c.loop-seat.seat-iterator ≡ s ∷ into_iter_items c.next.new.self =
-    c.in-Some.ensures.steps.0 in
-    let gone = c.in-Some.ensures.steps.1 in
+    let steps : into_iter_items c.loop-seat.rest ≡ s ∷ into_iter_items c.next.new.self = search rules in
     let short = ap (λ l. length l) steps in
-    let of = subst (AllOf c.args.base.now.table_id) steps i.6 in (
-      append_assoc at.yielded (s ∷ []) _ ∙ rw (← steps) i.0,
-      (let was = i.1 in omega arith),
-      c.join_seat.ensures.0 ∙ i.2,
-      (λ users claim y is. one_more g.S.Held.shown at.base.me c.join_seat.new.seat.me s users claim y at.yielded
-          (i.3 users claim y is) c.join_seat.ensures.2),
-      c.push_reserved.ensures.items
-          ∙ ap (λ (r : List (Vec Receipt Global)). r ++ s.receipts ∷ []) i.4
-          ∙ append_assoc c.args.lists.now.items (receipts_of at.yielded) (s.receipts ∷ [])
-          ∙ ap (λ (r : List (Vec Receipt Global)). c.args.lists.now.items ++ r) (sym (map-snoc list_of at.yielded s)),
-      (let room = i.5 in omega arith),
-      of.1,
+    let gone = c.next.ensures.len in (
+      joining_more g.S.Held.shown _ _ _ _ c.loop-seat.base.me c.join_seat.new.seat.me _ _ c.loop-seat.lists.items _ s
+          steps c.join_seat.ensures.2 c.push_reserved.ensures.items i.0,
+      c.join_seat.ensures.0 ∙ i.1,
+      (let was = i.2 in search rules),
+      (let room = i.3 in omega arith),
     )
 
 nothing_left : {X : Type 0} (l : List X) → length l ≡ 0 → l ≡ []
@@ -66,10 +48,7 @@ nothing_left [] h = refl
 nothing_left (x ∷ xs) h = absurd (omega arith)
 
 pub returns-clause-joined : goal.returns-clause-joined
-returns-clause-joined g c =
-    let at = c.loop-seat in
-    let i = c.loop-seat.invariant in
-    let none = c.in-None.ensures.steps in
-    let empty : into_iter_items at.seat-iterator ≡ [] = nothing_left _ (sym i.1 ∙ none.0) in
-    let all = sym (append-nil at.yielded) ∙ rw empty at i.0 ∙ c.into_iter-seat-iterator.ensures.into_iter_gives.0 in
-    subst (λ l. JoinsAll c.args.base.now.me at.base.me l) all i.3
+returns-clause-joined g c = (joining_all g.S.Held.shown _ _ _ _ _ _ _ (nothing_left _ (search rules)) c.loop-seat.invariant.0).0
+
+pub returns-clause-lists : goal.returns-clause-lists
+returns-clause-lists g c = (joining_all g.S.Held.shown _ _ _ _ _ _ _ (nothing_left _ (search rules)) c.loop-seat.invariant.0).1
