@@ -92,6 +92,8 @@ expect 6 'sftp_mirror: no/socket: no server listens' sftp_mirror unix no/socket 
 
 expect 2 'sftp_serve: word 1 word' sftp_serve no-such-argument
 expect 2 'sftp_serve: word 2 hex' sftp_serve 'dir 64' 'dir x'
+# A word is one line: a line feed within it separates no words.
+expect 2 'sftp_serve: word 1 count' sftp_serve "$(printf 'file 61 -\ndir 62')"
 
 refuse "unknown link 'no-such-argument', which is not unix:PATH, tcp:HOST:PORT or stdio" sftp_transfer no-such-argument
 refuse "get, put or list is missing after 'unix:s'" sftp_transfer unix:s

@@ -46,6 +46,8 @@ GETS, VIEWED_BYTES, VIEW_BLOCK, VIEW_CAPACITY = 10000, 1 << 20, 4096, 64
 SERVED_FILES, SERVED_BYTES, SERVED_DIRECTORIES = 4, 1 << 24, 5000
 # lanes in threads, each of which so often writes a file, reads it and asks for its attributes; and the bytes of a file that is read whole
 THREAD_LANES, THREAD_ROUNDS, WHOLE_BYTES = 16, 60, 1 << 24
+# how many lanes ask for attributes in threads, and so many requests are theirs together
+SWITCH_LANES, SWITCH_STATS = (2, 16, 256), 8192
 
 
 # ---- scripts
@@ -120,10 +122,15 @@ def whole_reads(path, reads):
     return "\n".join(["lane", "stat " + digits(path)] + [f"fs_read {digits(path)} {WHOLE_BYTES}"] * reads) + "\n"
 
 
+def lanes_of_stats(path, lanes):
+    """SWITCH_STATS requests for the attributes of a path, the same number in each lane."""
+    return f"lane\n{(f'stat {digits(path)}' + chr(10)) * (SWITCH_STATS // lanes)}" * lanes
+
+
 # ---- measuring
 
 def measure(folder, command, text):
-    """The seconds, and the greatest memory in MiB, of a command that reads this text; None where it failed."""
+    """The seconds, the greatest memory in MiB, and the voluntary context switches of a command that reads this text; None if it failed."""
     path = os.path.join(folder, "input")
     with open(path, "w") as f:
         f.write(text)
@@ -136,7 +143,7 @@ def measure(folder, command, text):
         seconds = time.monotonic() - start
         timer.cancel()
     child.returncode = status
-    return (seconds, usage.ru_maxrss / 1024) if status == 0 else None
+    return (seconds, usage.ru_maxrss / 1024, usage.ru_nvcsw) if status == 0 else None
 
 
 def best(folder, command, text, times=9):
@@ -379,6 +386,18 @@ def table_of_threads(folder):
         row(f"over OpenSSH's server, {words}", min(runs) if all(runs) else None)
 
 
+def table_of_switches(folder):
+    """How often threads give up their processor, for each request, as the lanes become more; beside one driver of the same lanes."""
+    print(f"{SWITCH_STATS} STATs over OpenSSH's server: voluntary context switches for each request")
+    path = os.path.join(folder, "switches")
+    serve(path, False)
+    for lanes in SWITCH_LANES:
+        for words, program in (("one driver", PROGRAM), ("threads", THREADED)):
+            result = best(folder, [program, "unix", path], lanes_of_stats(folder, lanes), 3)
+            switches = "failed" if result is None else f"{result[0]:10.2f} s {result[2] / SWITCH_STATS:9.2f} switches"
+            print(f"{f'{lanes} lanes, {words}':62} {switches}", flush=True)
+
+
 def table_of_receipts(folder):
     """The memory of whole reads in a session that threads share, by a program that prints numbers alone: what a read gave stands in its
     outcome, in the journal and in a receipt."""
@@ -423,6 +442,7 @@ def main_of_threads():
             sys.exit(f"bench: {needed} is missing")
     with tempfile.TemporaryDirectory() as folder:
         table_of_threads(folder)
+        table_of_switches(folder)
         table_of_receipts(folder)
 
 
@@ -454,6 +474,7 @@ def main():
             sys.exit(f"bench: no comparison with sftp, missing: {' '.join(missing)}")
         table_of_servers(folder)
         table_of_threads(folder)
+        table_of_switches(folder)
         table_of_receipts(folder)
         names = [os.path.join(folder, str(k)) for k in range(sizes[-1])]
         for name in names:

@@ -1,10 +1,12 @@
 #!/bin/sh
 # Runs the program of crates/example_threads: a hundred runs of eight lanes over the server in memory, whose receipts are compared with
 # their journals; five of eight lanes over replies that are laid out beforehand, whose outcomes are those that these replies bring;
-# and, where OpenSSH's SFTP server and socat are there, sixteen lanes in threads over it, with 1,000 files up and 1,000 down
-# that are compared, twenty runs of four and of sixteen lanes that read large files beside as many that write them, and servers that
-# end in the middle or are killed, after which each thread ends. It installs nothing: where the server or socat is missing it says
-# which, and passes over that part. Another program than the one that `rt ci` built may be given.
+# if there is python3, a server that sends one invalid frame and then neither reads nor writes, and one that answers late, while no
+# thread may be busy; and, if there are OpenSSH's SFTP server and socat, sixteen lanes in threads over it, with 1,000 files up and
+# 1,000 down that are compared, twenty runs of four and of sixteen lanes that read large files beside as many that write them, eight
+# threads that submit and cancel calls, a process that may create no thread, and servers that end in the middle or are killed, after
+# which each thread ends. It installs nothing: if a program is missing it says which, and skips that part. Another program than the
+# one that `rt ci` built may be given.
 set -u
 case ${1-} in
 '' | /*) program=${1-} ;;
@@ -61,6 +63,116 @@ for _ in 1 2 3 4 5; do
     tell 'replies that are laid out' $?
 done
 
+# the hexadecimal digits of what standard input holds
+hex() {
+    od -An -v -tx1 | tr -d ' \n'
+}
+
+# ---- servers that stop and that are late
+
+# Serves one connection at a socket. VERSION comes at once. After sixteen requests `stops` answers each OPEN, waits until the WRITEs
+# fill the socket, notes the time, sends a frame of length 0, and then neither reads nor writes. `late` waits three seconds, and then
+# answers each request with SSH_FX_NO_SUCH_FILE.
+cat >"$room/server.py" <<'END'
+import socket, struct, sys, time
+
+path, kind, noted = sys.argv[1:]
+listener = socket.socket(socket.AF_UNIX)
+listener.bind(path)
+listener.listen(1)
+peer = listener.accept()[0]
+
+
+def exactly(count):
+    data = b""
+    while len(data) < count:
+        more = peer.recv(count - len(data))
+        if not more:
+            sys.exit(1)
+        data += more
+    return data
+
+
+def frame():
+    return exactly(struct.unpack(">I", exactly(4))[0])
+
+
+def send(body):
+    peer.sendall(struct.pack(">I", len(body)) + body)
+
+
+frame()
+send(b"\x02\x00\x00\x00\x03")
+requests = [frame() for _ in range(16)]
+if kind == "stops":
+    for body in requests:
+        if body[0] == 3:
+            send(b"\x66" + body[1:5] + b"\x00\x00\x00\x01h")
+    time.sleep(0.5)
+    with open(noted, "w") as file:
+        file.write(str(time.time_ns() // 1000000))
+    peer.sendall(b"\x00\x00\x00\x00")
+    time.sleep(60)
+else:
+    time.sleep(3)
+    for body in requests:
+        send(b"\x65" + body[1:5] + b"\x00\x00\x00\x02" + 8 * b"\x00")
+END
+
+# waits for a socket
+await() {
+    tries=0
+    while ! [ -S "$room/$1" ] && [ $tries -lt 100 ]; do
+        sleep 0.1
+        tries=$((tries + 1))
+    done
+}
+
+# runs the server of Python's
+answer() {
+    python3 "$room/server.py" "$room/$1.socket" "$1" "$room/noted" 2>"$room/served" &
+    listeners="$listeners $!"
+    await "$1.socket"
+}
+
+if command -v python3 >/dev/null; then
+    # one lane asks for attributes, and fifteen write 600,000 bytes in all: the sender waits inside `send`
+    part=$(head -c 40000 /dev/urandom | hex)
+    {
+        printf 'lane\nstat 2f\n'
+        for lane in 1 2 3 4 5 6 7 8 9 a b c d e f; do
+            printf 'lane\nfs_write 6%s %s\n' $lane "$part"
+        done
+    } >"$room/writes"
+    answer stops
+    timeout 30 "$program" unix "$room/stops.socket" <"$room/writes" >"$room/text" 2>"$room/err"
+    status=$?
+    took=$(($(date +%s%N) / 1000000 - $(cat "$room/noted" 2>/dev/null || echo 0)))
+    [ $status -eq 1 ] && [ "$(wc -l <"$room/err")" -eq 1 ] && grep -q ': the server sent an invalid reply$' "$room/err" &&
+        [ $took -lt 1000 ]
+    tell "a server that stops after an invalid frame, status $status, after $took ms" $?
+
+    lane=0
+    while [ $lane -lt 16 ]; do
+        lane=$((lane + 1))
+        printf 'lane\nstat 2f\n'
+    done >"$room/stats"
+    answer late
+    (
+        timeout 30 "$program" counts "$room/late.socket" <"$room/stats" >"$room/text" 2>"$room/err"
+        echo $? >"$room/status"
+        times >"$room/times"
+    )
+    # user and system time of the children, in milliseconds
+    busy=$(tail -n 1 "$room/times" | awk '{ split($1, u, "[ms]"); split($2, s, "[ms]")
+        print int(((u[1] + s[1]) * 60 + u[2] + s[2]) * 1000) }')
+    status=$(cat "$room/status")
+    [ "$status" -eq 0 ] && [ "$busy" -lt 300 ]
+    tell "a server that answers late, status $status, after $busy ms of processor time" $?
+else
+    echo "example_threads: servers that stop and that are late: skipped, missing: python3"
+fi
+
 # ---- over OpenSSH's server
 
 missing=
@@ -76,16 +188,7 @@ fi
 serve() {
     socat "UNIX-LISTEN:$room/$1,fork" "EXEC:$2" 2>/dev/null &
     listeners="$listeners $!"
-    tries=0
-    while ! [ -S "$room/$1" ] && [ $tries -lt 100 ]; do
-        sleep 0.1
-        tries=$((tries + 1))
-    done
-}
-
-# the hexadecimal digits of what standard input holds
-hex() {
-    od -An -v -tx1 | tr -d ' \n'
+    await "$1"
 }
 
 # those of a name in the room
@@ -161,6 +264,34 @@ for lanes in 4 16; do
         tell "$lanes lanes that read and $lanes that write 250,000 bytes, run $run, status $status" $status
     done
 done
+
+# ---- threads of the program's own
+
+for run in 1 2 3; do
+    timeout 60 "$program" calls "$room/socket" >"$room/text" 2>"$room/err"
+    status=$?
+    [ $status -eq 0 ] && [ "$(cat "$room/text")" = 'calls 1600 cancelled 400' ]
+    tell "eight threads that submit and cancel calls, run $run, status $status" $?
+done
+
+# ---- a process that may create no thread, or one: the run ends, and waits for nobody
+
+if [ "$(id -u)" -eq 0 ] && command -v setpriv >/dev/null && command -v prlimit >/dev/null; then
+    mkdir "$room/shown"
+    cp "$program" "$room/shown/program"
+    chmod 755 "$room" "$room/shown" "$room/shown/program"
+    chmod 777 "$room/socket"
+    printf 'lane\nstat 2f\nlane\nstat 2f\n' >"$room/two"
+    for most in 1 2; do
+        timeout 30 setpriv --reuid=65533 --clear-groups prlimit --nproc=$most:$most "$room/shown/program" \
+            unix "$room/socket" <"$room/two" >"$room/text" 2>"$room/err"
+        status=$?
+        [ $status -eq 1 ] && [ "$(wc -l <"$room/err")" -eq 1 ]
+        tell "a user with at most $most threads, status $status" $?
+    done
+else
+    echo "example_threads: a process that may create no thread: skipped, as it needs root, setpriv and prlimit"
+fi
 
 # ---- servers that end in the middle: after so many bytes of what they are told, or of what they tell
 

@@ -280,6 +280,23 @@ class RefusesWrites(Server):
         return self.status(id, FAILURE)
 
 
+class RefusesFolder(Server):
+    """A folder that can't be made."""
+    def __init__(self):
+        super().__init__()
+        self.files = {}
+
+    def answer(self, kind, body):
+        if kind != MKDIR:
+            return super().answer(kind, body)
+        id, length = struct.unpack(">II", body[:8])
+        path = body[8:8 + length]
+        if path == b"/up/a":
+            return self.status(id, FAILURE)
+        self.folders[path] = []
+        return self.status(id, OK)
+
+
 class Breaks(Server):
     """The connection ends behind so many bytes."""
     def __init__(self, left):
@@ -384,6 +401,20 @@ def put_file(program, server, status, cause, wanted):
         expect(case, server.files.get(b"/up") == wanted, "there are other bytes under the name")
 
 
+def put_tree(program, server, status, cause, wanted):
+    """A tree of a folder with a file, and a file beside it, that goes up: its status, its cause, and just these files."""
+    case = type(server).__name__
+    with tempfile.TemporaryDirectory() as folder:
+        os.makedirs(os.path.join(folder, "up", "a"))
+        for name in ("a/b", "ab"):
+            with open(os.path.join(folder, "up", name), "wb") as f:
+                f.write(name.encode())
+        ended, told = run(program, folder, server, ["put", "-r", "up", "/up"])
+        expect(case, ended == status, f"status {ended}, {status} wanted: {told[:200]}")
+        expect(case, cause in told, f"{cause!r} isn't told: {told[:200]}")
+        expect(case, server.files == wanted, f"there is {sorted(server.files)}, wanted was {sorted(wanted)}")
+
+
 def break_everywhere(program):
     """The connection breaks behind each byte of the server's answers, of a file that comes down and of one that goes up."""
     whole = Counts()
@@ -430,6 +461,7 @@ def main():
     for server in (TooMuch, OtherKind, OtherId, LongHandle, OldVersion, HugeFrame, EmptyFrame, RefusesReads):
         get_file(program, server(), 1, "sftp_transfer:", None)
     put_file(program, RefusesWrites(), 1, "the server refused the request (status 4)", None)
+    put_tree(program, RefusesFolder(), 1, "up/a", {b"/up/ab": b"ab"})
     break_everywhere(program)
     for failure in failures:
         print("hostile:", failure)

@@ -385,15 +385,19 @@ for pairs in 4 16; do
         for lane in $lanes; do printf 'step %s\nstep %s\n' "$lane" "$lane"; done
         echo flush
     } >"$room/script"
-    run
-    copied=0
-    for pair in $(seq $pairs); do
-        cmp "$room/large" "$room/both/$pair" && copied=$((copied + 1))
+    for turn in $(seq 20); do
+        rm -f "$room"/both/*
+        run
+        copied=0
+        for pair in $(seq $pairs); do
+            cmp "$room/large" "$room/both/$pair" && copied=$((copied + 1))
+        done
+        sed -n 's/^lane [0-9]* call 1 read //p' "$room/outcomes" >"$room/got"
+        [ $status -eq 0 ] && [ $copied -eq $pairs ] && [ "$(wc -l <"$room/got")" -eq $pairs ] &&
+            [ "$(sort -u "$room/got")" = "$content" ] &&
+            [ "$(grep -c ' call 1 count 250000$' "$room/outcomes")" -eq $pairs ]
+        tell "$pairs large pieces down and $pairs up at once, run $turn" $?
     done
-    sed -n 's/^lane [0-9]* call 1 read //p' "$room/outcomes" >"$room/got"
-    [ $status -eq 0 ] && [ $copied -eq $pairs ] && [ "$(wc -l <"$room/got")" -eq $pairs ] &&
-        [ "$(sort -u "$room/got")" = "$content" ] && [ "$(grep -c ' call 1 count 250000$' "$room/outcomes")" -eq $pairs ]
-    tell "$pairs large pieces down and $pairs up at once" $?
 done
 
 # ---- a server that is silent is given up after the time limit, and one that answers is not
@@ -443,11 +447,14 @@ if [ -x "$mirror" ]; then
 
     head -c 300000 /dev/urandom >"$room/large"
     printf 'down %s 9\nup %s %s\n' "$(at large)" "$(at copy)" "$(hex <"$room/large")" >"$room/list"
-    timeout 60 "$mirror" unix "$room/socket" 2 8 <"$room/list" >"$room/outcomes"
-    status=$?
     printf 'got %s %s\n' "$(at large)" "$(hex <"$room/large")" >"$room/wanted"
-    [ $status -eq 0 ] && grep -qxF -f "$room/wanted" "$room/outcomes" && cmp "$room/large" "$room/copy"
-    tell 'a large file down and one up at once' $?
+    for turn in $(seq 20); do
+        rm -f "$room/copy"
+        timeout 60 "$mirror" unix "$room/socket" 2 8 <"$room/list" >"$room/outcomes"
+        status=$?
+        [ $status -eq 0 ] && grep -qxF -f "$room/wanted" "$room/outcomes" && cmp "$room/large" "$room/copy"
+        tell "a large file down and one up at once, run $turn" $?
+    done
 
     timeout 20 "$mirror" unix "$room/silent" 2 8 --timeout 1 <"$room/list" >"$room/text" 2>"$room/err"
     status=$?

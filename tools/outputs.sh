@@ -1,9 +1,8 @@
 #!/bin/sh
 # Runs each program with a standard output that can't be written: a full device, a pipe that nobody reads, and a closed
-# descriptor. The status is that of the manual page, and a line on standard error names the program and the cause. If
-# nobody reads a pipe, SIGPIPE ends the program, unless it is ignored. Over a Unix socket neither the text nor a message
-# goes into the socket, though its number is free. The parts over a socket are skipped if socat or OpenSSH's SFTP server
-# is missing.
+# descriptor. The status is that of the manual page, and a line on standard error names the program and the cause. Over a
+# Unix socket neither the text nor a message goes into the socket, though its number is free. The parts over a socket are
+# skipped if socat or OpenSSH's SFTP server is missing.
 set -u
 cd "$(dirname "$0")/.." || exit 1
 
@@ -57,14 +56,8 @@ refuse() {
     exec 3<>"$room/pipe" 4>"$room/pipe" 3>&-
     timeout 60 "$program" "$@" <"$input" >&4 2>"$room/err" 4>&-
     status=$?
-    tell "$name $* with an output that nobody reads" 141 ''
-    (
-        trap '' PIPE
-        timeout 60 "$program" "$@" <"$input" >&4 2>"$room/err" 4>&-
-    )
-    status=$?
     exec 4>&-
-    tell "$name $* with an output that nobody reads, without SIGPIPE" "$wanted" "$(cause 'Broken pipe (os error 32)')"
+    tell "$name $* with an output that nobody reads" "$wanted" "$(cause 'Broken pipe (os error 32)')"
     timeout 60 "$program" "$@" <"$input" >&- 2>"$room/err"
     status=$?
     tell "$name $* with a closed output" "$wanted" "$(cause 'Bad file descriptor (os error 9)')"

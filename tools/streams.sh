@@ -87,6 +87,13 @@ cp "$room/answers" "$room/wanted"
 grep -q "^Usage: sftp_serve " "$room/answers" || echo 'no usage' >"$room/wanted"
 tell 'the word --help'
 
+# a stream that can't be read
+printf '' >"$room/wanted"
+want 3 'sftp_serve: the connection failed
+'
+run <&-
+tell 'no standard input'
+
 # answers that can't be written
 if [ -c /dev/full ]; then
     printf '' >"$room/wanted"
