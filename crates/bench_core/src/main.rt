@@ -1,4 +1,4 @@
-//! A benchmark of the core alone: `n` requests in flight at once, answered in the order of their ids. tools/bench.sh
+//! A benchmark of the core alone: `n` requests in flight at once, answered in the order of their ids. tools/bench.py
 //! measures its time. Its argument is the number of requests, 1000 by default.
 #![tactic(auto)]
 

@@ -25,7 +25,7 @@ use std::marker::Model;
 /// name occurs once and beneath a directory, no two names have one file, and files and names are within their bounds:
 /// the contract of `grant_count` says so.
 ///
-/// Example: `crates/test_machine/src/order.rt`.
+/// Example: `crates/sftp_map_server/src/state.rt`.
 #[derive(Drop)]
 pub struct Machine {
     pub(crate) store: Store,

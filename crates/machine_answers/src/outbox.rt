@@ -11,7 +11,7 @@ use std::marker::Model;
 /// Frames of replies: the rest of the one that is being sent, and those that wait, in the order of their requests. The
 /// next pick n takes number n modulo their count; after the last pick it takes the first.
 ///
-/// Example: `crates/test_machine/src/outbox.rt`.
+/// Example: `crates/sftp_map_server/src/state.rt`.
 #[derive(Drop)]
 pub struct Outbox {
     ready: Vec<u8>,

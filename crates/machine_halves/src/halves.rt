@@ -13,7 +13,7 @@ use std::sync::{Arc, Mutex, Wait};
 
 /// The half to which bytes are sent. It has no faults, and reports the pieces that it moved.
 ///
-/// Example: `crates/sftp_share/src/tests/held_back.rt`.
+/// Example: `crates/machine_halves/src/pair.rt`.
 #[derive(Drop)]
 pub struct MapOut<R> {
     alloc: Global,
@@ -25,7 +25,7 @@ pub struct MapOut<R> {
 
 /// The half from which bytes come. It has no faults, and reports the pieces that it moved.
 ///
-/// Example: `crates/sftp_share/src/tests/held_back.rt`.
+/// Example: `crates/machine_halves/src/pair.rt`.
 #[derive(Drop)]
 pub struct MapIn<R> {
     alloc: Global,
@@ -55,7 +55,7 @@ impl<R> Model for MapIn<R> {
 
 /// A way to split the server in memory in two.
 ///
-/// Example: `crates/sftp_share/src/tests/held_back.rt`.
+/// Example: `crates/machine_halves/src/pair.rt`.
 pub struct SharedMap;
 
 impl SharedMap {

@@ -12,7 +12,7 @@ use std::marker::Model;
 
 /// The name of a file or a directory: its components. A contract sees it as their list.
 ///
-/// Example: `crates/test_machine/src/paths.rt`.
+/// Example: `crates/machine_answers/src/name_requests.rt`.
 #[derive(Debug, Drop)]
 pub struct TreeName {
     parts: Vec<ByteText>,

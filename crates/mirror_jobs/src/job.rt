@@ -3,7 +3,7 @@ use sftp_values::ByteText;
 
 /// A file to copy.
 ///
-/// Example: `crates/mirror_jobs/src/tests.rt`.
+/// Example: `crates/sftp_mirror/src/copy.rt`.
 #[derive(Debug, Drop, PartialEq, Eq)]
 pub enum Job {
     /// To the server: the file at the path is created or truncated, written, and read back.

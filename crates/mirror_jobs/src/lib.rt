@@ -7,8 +7,6 @@ mod directory;
 mod job;
 mod lanes;
 mod laws;
-#[cfg(test)]
-mod tests;
 mod text;
 mod turns;
 mod verdict;

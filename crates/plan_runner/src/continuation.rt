@@ -20,9 +20,8 @@ use crate::whole::{Readdir, directory_opened, names_replied, whole_opened};
 use crate::whole_read::{read_on, read_opened, window_replied};
 use crate::write_call::{Part, part_replied, write_replied};
 use plan_window::Window;
-use sftp_model::{Facts, Outcome, Reply, Site};
+use sftp_model::{Outcome, Reply, Site};
 use ssh_encoding::OutOfMemory;
-use std::alloc::Global;
 
 impl Running {
     /// Returns the place of the request whose reply is awaited.
@@ -49,42 +48,34 @@ fn first_place(window: &Window) -> Option<u64>
     }
 }
 
-/// Continues a call after the reply that it awaited, if it awaited one. `bytes` are those that the call carries, and
-/// the next request has `place`.
+/// Continues a call after the reply that it awaited, if it awaited one. `bytes` are those that the call carries.
 ///
 /// # Errors
 ///
 /// `OutOfMemory` if an allocation fails; `site` is unchanged.
 pub fn go_on(
-    alloc: Global,
+    turn: Turn,
     running: Running,
     reply: Option<Reply>,
     bytes: &[u8],
-    place: u64,
     site: &mut Site,
-    facts: &Facts,
 ) -> Result<Next, OutOfMemory>
-    requires sound { IsRunningSound running bytes.now site.old facts.now }
-    requires within { AreWithin facts.now site.old }
+    requires sound { IsRunningSound running bytes.now site.old turn.facts }
+    requires within { AreWithin turn.facts site.old }
     requires fits { IsFittingReply running reply }
-    requires range { AsksWithin facts.now (after running bytes.now site.old facts.now reply) }
-    ensures { ContinuesByPlan running reply bytes.now place site.old site.new facts.now result }
+    requires range { AsksWithin turn.facts (after running bytes.now site.old turn.facts reply) }
+    ensures { ContinuesByPlan running reply bytes.now turn.place site.old site.new turn.facts result }
 {
-    let turn = Turn {
-        alloc,
-        place,
-        facts: *facts,
-    };
     let Some(reply) = reply else {
         return go_on_at_once(turn, running, bytes, site);
     };
     match running {
-        Running::Ending { by, .. } => Ok(Next::Done(ending_told(alloc, by, reply)?)),
+        Running::Ending { by, .. } => Ok(Next::Done(ending_told(turn.alloc, by, reply)?)),
         Running::Opening { place, slot, flags } => {
             Ok(Next::Done(open_replied(place, slot, flags, reply, site)))
         }
         Running::Reading { slot, file, .. } => {
-            Ok(Next::Done(read_replied(alloc, slot, file, reply, site)?))
+            Ok(Next::Done(read_replied(turn.alloc, slot, file, reply, site)?))
         }
         Running::Gathering {
             place: awaited,
@@ -150,7 +141,9 @@ pub fn go_on(
             };
             names_replied(turn, read, got, reply, site)
         }
-        Running::Flushing { slot } => Ok(flush_replied(slot, reply, place, site, facts)),
+        Running::Flushing { slot } => {
+            Ok(flush_replied(slot, reply, turn.place, site, &turn.facts))
+        },
         Running::AwaitingRoom { slot, done } => {
             room_replied(turn, Unwritten { slot, done }, reply, bytes, site)
         }
@@ -161,7 +154,7 @@ pub fn go_on(
             n,
             offset,
             ..
-        } => Ok(Next::Done(filled_replied(alloc, slot, n, offset, reply, site)?)),
+        } => Ok(Next::Done(filled_replied(turn.alloc, slot, n, offset, reply, site)?)),
         Running::Copying {
             from,
             to,

@@ -46,6 +46,7 @@ pub use path_calls::{
 pub use read_all_call::{begin_read_all, read_rest};
 pub use read_call::begin_read;
 pub use replies::is_good;
+pub use turn::Turn;
 pub use whole::{begin_fs_write, begin_list};
 pub use whole_read::{begin_fs_read, widen};
 pub use write_call::{begin_write, begin_write_all, begin_write_parts, write_rest};

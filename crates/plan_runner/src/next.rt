@@ -5,7 +5,7 @@ use sftp_values::{ByteText, Items};
 
 /// A request whose handles are named by the places of their grants: of the OPENs that brought them.
 ///
-/// Example: `crates/test_library/src/sites.rt`.
+/// Example: `crates/session_work/src/requests.rt`.
 #[derive(Debug, Drop)]
 pub enum Asked {
     /// A request without a handle.
@@ -68,7 +68,7 @@ pub enum EndsBy {
 
 /// A started call. Its place is that of the request whose reply is awaited.
 ///
-/// Example: `crates/test_library/src/sites.rt`.
+/// Example: `crates/session_work/src/lane.rt`.
 #[derive(Debug, Drop)]
 pub enum Running {
     /// The reply ends the call, and no slot changes.
@@ -182,7 +182,7 @@ pub enum Running {
 
 /// The next step of a call.
 ///
-/// Example: `crates/test_library/src/sites.rt`.
+/// Example: `crates/session_work/src/call.rt`.
 #[derive(Debug, Drop)]
 pub enum Next {
     /// This request is asked, and the call continues with its reply.

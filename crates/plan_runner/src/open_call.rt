@@ -15,14 +15,13 @@ use crate::next::{Asked, Next, Running};
 use crate::replies::{refused, status_refusal};
 use crate::single::{attributes, is_too_long};
 use crate::site::set_slot;
+use crate::turn::Turn;
 use bitflags::Flags;
 use sftp_model::numbers::{SSH_FXF_READ, SSH_FXF_WRITE};
 use sftp_model::{
-    Error, Facts, FileAt, IoKind, OpenFlags, OpenOptions, Outcome, RemotePath, Reply, Request,
-    Site, Slot,
+    Error, FileAt, IoKind, OpenFlags, OpenOptions, Outcome, RemotePath, Reply, Request, Site, Slot,
 };
 use ssh_encoding::OutOfMemory;
-use std::alloc::Global;
 
 /// Returns the OPEN of a path.
 pub(crate) fn open_request(path: RemotePath, flags: OpenFlags) -> Request
@@ -54,26 +53,28 @@ pub fn opened_file(flags: OpenFlags, grant: u64) -> FileAt
 ///
 /// `OutOfMemory` if an allocation fails.
 pub fn begin_open(
-    alloc: Global,
+    turn: Turn,
     slot: u8,
     options: OpenOptions,
     path: &[u8],
-    place: u64,
     site: &Site,
-    facts: &Facts,
 ) -> Result<Next, OutOfMemory>
     requires { slot < length site.now.slots }
-    ensures { IfOk result (StartsAsPlanned (call.OpenFile slot options path.now) place site.now site.now facts.now) }
+    ensures { IfOk result (StartsAsPlanned (call.OpenFile slot options path.now) turn.place site.now site.now turn.facts) }
 {
     let flags = options.flags();
-    let path = RemotePath::new(Vec::from_slice(alloc, path)?);
+    let path = RemotePath::new(Vec::from_slice(turn.alloc, path)?);
     let request = open_request(path, flags);
     if is_too_long(&request) {
         return Ok(Next::Done(refused(IoKind::PathTooLong)));
     }
     Ok(Next::Ask(
         Asked::Plain(request),
-        Running::Opening { place, slot, flags },
+        Running::Opening {
+            place: turn.place,
+            slot,
+            flags,
+        },
     ))
 }
 

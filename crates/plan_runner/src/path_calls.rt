@@ -7,6 +7,7 @@ ghost use Rattle.plan_runner.specs.Begun.{StartsAsPlanned};
 use crate::next::{EndsBy, Next};
 use crate::replies::unsupported;
 use crate::single::{ask_path, attributes, offers};
+use crate::turn::Turn;
 use sftp_model::{Extensions, Facts, RemotePath, Request, Site};
 use ssh_encoding::OutOfMemory;
 use std::alloc::Global;
@@ -55,22 +56,20 @@ pub fn begin_lstat(
 ///
 /// `OutOfMemory` if an allocation fails.
 pub fn begin_set_stat(
-    alloc: Global,
+    turn: Turn,
     path: &[u8],
     size: Option<u64>,
     mode: Option<u32>,
-    place: u64,
     site: &Site,
-    facts: &Facts,
 ) -> Result<Next, OutOfMemory>
-    ensures { IfOk result (StartsAsPlanned (call.SetStat path.now size mode) place site.now site.now facts.now) }
+    ensures { IfOk result (StartsAsPlanned (call.SetStat path.now size mode) turn.place site.now site.now turn.facts) }
 {
-    let path = site.directory.join(alloc, path)?;
+    let path = site.directory.join(turn.alloc, path)?;
     let request = Request::Setstat {
         path,
         attrs: attributes(size, mode),
     };
-    Ok(ask_path(request, EndsBy::Status, place, site, facts))
+    Ok(ask_path(request, EndsBy::Status, turn.place, site, &turn.facts))
 }
 
 /// Removes a file.

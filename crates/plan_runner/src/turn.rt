@@ -3,9 +3,11 @@ use sftp_model::Facts;
 use std::alloc::Global;
 
 /// The allocator, the place of the next request, and the facts of the session.
+///
+/// Example: `crates/session_work/src/call.rt`.
 #[derive(Clone, Copy)]
-pub(crate) struct Turn {
-    pub(crate) alloc: Global,
-    pub(crate) place: u64,
-    pub(crate) facts: Facts,
+pub struct Turn {
+    pub alloc: Global,
+    pub place: u64,
+    pub facts: Facts,
 }

@@ -100,7 +100,7 @@ pub(crate) fn whole_opened(
     match reply {
         Reply::Handle(_handle) => {
             let file = file_to_replace(grant);
-            write_rest(turn.alloc, None, file, 0, bytes, turn.place, &turn.facts)
+            write_rest(turn, None, file, 0, bytes)
         }
         Reply::Status {
             code,

@@ -120,29 +120,27 @@ pub(crate) fn write_replied(
 ///
 /// `OutOfMemory` if an allocation fails.
 pub fn write_rest(
-    alloc: Global,
+    turn: Turn,
     slot: Option<u8>,
     file: FileAt,
     done: usize,
     bytes: &[u8],
-    place: u64,
-    facts: &Facts,
 ) -> Result<Next, OutOfMemory>
     requires { done ≤ length bytes.now }
     ensures goes { (site : SiteValue)
-        → IfOk result (RunsByPlan (rest_next (keep_in slot) file (drop done bytes.now) site facts.now) place bytes.now site facts.now) }
+        → IfOk result (RunsByPlan (rest_next (keep_in slot) file (drop done bytes.now) site turn.facts) turn.place bytes.now site turn.facts) }
     ensures left { (site : SiteValue) → IsKept slot file site
-        → IfOk result (LeavesCancelled (left_kept slot site facts.now) place bytes.now site facts.now) }
+        → IfOk result (LeavesCancelled (left_kept slot site turn.facts) turn.place bytes.now site turn.facts) }
     ensures sound { (site : SiteValue) → IsKept slot file site
-        → IfOk result (KeepsRunningSound bytes.now facts.now site site) }
-    ensures pends { (site : SiteValue) → IfOk result (PendsAfter (pends_idle site) place site) }
-    ensures asks { AsksRest slot file place result }
+        → IfOk result (KeepsRunningSound bytes.now turn.facts site site) }
+    ensures pends { (site : SiteValue) → IfOk result (PendsAfter (pends_idle site) turn.place site) }
+    ensures asks { AsksRest slot file turn.place result }
 {
     let rest = &bytes[done..];
     if rest.is_empty() {
         return Ok(Next::Done(Outcome::Done));
     }
-    let len = rest.len().min(facts.write_len as usize);
+    let len = rest.len().min(turn.facts.write_len as usize);
     if !file.writable {
         return Ok(Next::Done(refused(IoKind::NotWritable)));
     }
@@ -152,12 +150,12 @@ pub fn write_rest(
     let asked = Asked::Write {
         grant: file.grant,
         offset: file.offset,
-        content: content_of(alloc, &rest[..len])?,
+        content: content_of(turn.alloc, &rest[..len])?,
     };
     Ok(Next::Ask(
         asked,
         Running::Writing {
-            place,
+            place: turn.place,
             slot,
             file,
             done,
@@ -184,7 +182,12 @@ pub fn begin_write_all(
     let Slot::File(file) = slot_of(site, slot) else {
         return Ok(Next::Done(Outcome::NoFile));
     };
-    write_rest(alloc, Some(slot), *file, 0, bytes, place, facts)
+    let turn = Turn {
+        alloc,
+        place,
+        facts: *facts,
+    };
+    write_rest(turn, Some(slot), *file, 0, bytes)
 }
 
 /// Writes the bytes of all parts, which are passed in joined, to the file in a slot.
@@ -243,15 +246,7 @@ pub(crate) fn part_replied(
         offset: part.file.offset + len as u64,
         ..part.file
     };
-    let next = write_rest(
-        turn.alloc,
-        part.slot,
-        moved,
-        part.done + len,
-        bytes,
-        turn.place,
-        &turn.facts,
-    )?;
+    let next = write_rest(turn, part.slot, moved, part.done + len, bytes)?;
     keep(site, part.slot, moved);
     Ok(next)
 }

@@ -25,7 +25,7 @@ use std::mem;
 /// A call that is running: its stage, and its runner. It cannot be dropped: `cancel` consumes it, also after it has
 /// returned its result, and `let_go` if its core was ended.
 ///
-/// Example: `crates/test_library/src/tickets.rt`.
+/// Example: `crates/sftp_client/src/sftp/calls.rt`.
 #[must_use]
 pub struct PendingCall<M> {
     stage: Stage,
@@ -143,7 +143,7 @@ impl<M: PlanRunner> PendingCall<M> {
 
 /// A runner that works on no value of its caller.
 ///
-/// Example: `crates/test_library/src/tickets.rt`.
+/// Example: `crates/sftp_fs/src/directory.rt`.
 pub trait Alone: PlanRunner {}
 
 impl<M: Alone> PendingCall<M> {

@@ -25,7 +25,7 @@ pub enum Then<V> {
 /// A runner: the rest of a call's plan after the request whose reply is awaited, as a value. It is not concerned with
 /// tickets, faults, the memory of a submission, or the core.
 ///
-/// Example: `crates/test_library/src/scene.rt`.
+/// Example: `crates/sftp_file/src/reads.rt`.
 pub trait PlanRunner: Sized + Drop {
     /// The value that the call returns.
     type Value;

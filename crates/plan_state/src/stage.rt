@@ -14,7 +14,7 @@ use std::mem;
 
 /// The stage of a call: what it awaits.
 ///
-/// Example: `crates/test_library/src/calls.rt`.
+/// Example: `crates/sftp_file/src/short_calls.rt`.
 #[must_use]
 pub enum Stage {
     /// Nothing: the call has returned its result.

@@ -12,7 +12,7 @@ use sftp_values::Items;
 
 /// A request of a call, as it is to be submitted.
 ///
-/// Example: `crates/test_library/src/tickets.rt`.
+/// Example: `crates/plan_state/src/runner.rt`.
 #[derive(Drop)]
 pub enum Asking {
     /// This request.

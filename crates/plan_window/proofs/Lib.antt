@@ -1,6 +1,5 @@
 pub mod PlanLaws
 mod StepLaws
-mod RowLaws
 mod KeepLaws
 mod PlainLaws
 mod OffsetLaws

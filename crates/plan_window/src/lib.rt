@@ -14,6 +14,3 @@ mod window;
 pub use laws::windows_tell_the_plan;
 pub use next_move::WindowMove;
 pub use window::{Answered, ReadAt, Window};
-
-#[cfg(test)]
-mod tests;

@@ -16,7 +16,7 @@ use std::alloc::Global;
 
 /// The next move of a whole read.
 ///
-/// Example: `crates/plan_window/src/tests.rt`.
+/// Example: `crates/plan_runner/src/whole_read.rt`.
 #[derive(Debug, Drop)]
 pub enum WindowMove {
     /// A READ of `len` bytes from this offset on is asked.

@@ -11,7 +11,7 @@ use std::marker::Model;
 
 /// A READ: the place of its request, its offset and the number of bytes that it asks for.
 ///
-/// Example: `crates/plan_window/src/tests.rt`.
+/// Example: `crates/plan_runner/src/whole_read.rt`.
 #[derive(Clone, Copy, Debug, PartialEq, Eq)]
 pub struct ReadAt {
     pub place: u64,
@@ -31,7 +31,7 @@ pub struct Answered {
 /// The READs of a whole read: those that were answered before any that was not, and the others. A move looks only at
 /// those in flight: what it needs of the others is kept beside them.
 ///
-/// Example: `crates/test_plan/src/whole_reads.rt`.
+/// Example: `crates/plan_runner/src/whole_read.rt`.
 #[derive(Debug, Drop)]
 pub struct Window {
     pub(crate) answered: Items<Answered>,

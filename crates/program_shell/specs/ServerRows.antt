@@ -1,6 +1,6 @@
 -- Worked arguments after the operands of a command that names a server.
 use Rattle.std.specs.Prelude.{◌≡◌, [], ◌∷◌, codes, Some, None, refl}
-use Rattle.program_shell.specs.Servers.{server_at}
+use Rattle.program_shell.specs.Servers.{nanos_in, server_at}
 
 pub no_timeout : server_at (codes "s") [] ≡ Some (codes "s", 60)
 no_timeout = refl
@@ -19,3 +19,9 @@ a_timeout_without_its_number = refl
 
 pub another_argument : server_at (codes "s") (codes "x" ∷ []) ≡ None
 another_argument = refl
+
+pub a_minute : nanos_in 60 ≡ Some 60000000000
+a_minute = refl
+
+pub no_seconds : nanos_in 0 ≡ None
+no_seconds = refl

@@ -1,5 +1,5 @@
 -- The server that a command line names, and the time limit of the link to it.
-use Rattle.std.specs.Prelude.{ℕ, List, [], ◌∷◌, Option, Some, None, codes, if◌then◌else◌}
+use Rattle.std.specs.Prelude.{ℕ, ◌*◌, ◌==◌, List, [], ◌∷◌, Option, Some, None, codes, if◌then◌else◌}
 use Rattle.std.specs.Option.{option_map}
 use Rattle.std.specs.Result.{result_ok}
 use Rattle.std.specs.Str.{bytes_eq}
@@ -22,6 +22,10 @@ ServerWords = List ℕ × ℕ
 -- The server at a path, by the arguments after the operands of a command.
 abbrev pub server_at : List ℕ → List (List ℕ) → Option ServerWords
 server_at path words = option_map (λ seconds. (path, seconds)) (seconds_in words)
+
+-- The time limit of this many seconds, in nanoseconds; 0 seconds are no limit.
+abbrev pub nanos_in : ℕ → Option ℕ
+nanos_in seconds = if seconds == 0 then None else Some (seconds * 1000000000)
 
 -- ---- The value of the code
 

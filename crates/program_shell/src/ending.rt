@@ -18,7 +18,7 @@ pub const NO_LINK: u8 = 6;
 
 /// The meaning of an answer that was written whole.
 ///
-/// Example: `crates/program_shell/src/tests.rt`.
+/// Example: `crates/sftp_cli/src/bulk.rt`.
 #[derive(Clone, Copy, Debug, PartialEq, Eq)]
 pub enum Answered {
     /// Everything was done.
@@ -31,7 +31,7 @@ pub enum Answered {
 
 /// The reason why an answer isn't written whole.
 ///
-/// Example: `crates/program_shell/src/tests.rt`.
+/// Example: `crates/sftp_share/src/share.rt`.
 #[derive(Clone, Copy, Debug, PartialEq, Eq)]
 pub enum ProgramFailure {
     /// The source failed.

@@ -14,8 +14,6 @@ mod program;
 mod refusal;
 mod server;
 mod system;
-#[cfg(test)]
-mod tests;
 
 pub use answer::{Answer, answer_to};
 pub use commands::{Command, CommandOption, Misfit, Operand, misfit_of, tell_refusal};
@@ -25,6 +23,6 @@ pub use left::{write_dirs, write_files};
 pub use over_link::answer_over_link;
 pub use printed::{Printed, read_bytes, refuse, write_answer};
 pub use program::{LinkProgram, Program};
-pub use refusal::{error_line, error_name, refusal_line, stop_reply, want_of_memory};
+pub use refusal::{error_line, error_name, out_of_memory_from, refusal_line, stop_reply};
 pub use server::{ServerAt, TIMEOUT, server_at};
 pub use system::{exit_over, exit_with, words_given};

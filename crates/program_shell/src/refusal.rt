@@ -70,7 +70,7 @@ pub fn error_name(error: &Error) -> Option<&'static str>
 }
 
 /// Returns out of memory, which is the only error that remains possible for a run over a server in memory.
-pub fn want_of_memory(error: Error) -> OutOfMemory
+pub fn out_of_memory_from(error: Error) -> OutOfMemory
     requires { error ≡ errors.OutOfMemory }
 {
     match error {

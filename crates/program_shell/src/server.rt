@@ -1,8 +1,9 @@
 //! The server that a command line names, and the time limit of the link to it.
 ghost use Rattle.std.specs.Prelude.{◌≡◌, map};
+ghost use Rattle.std.specs.Duration.{as_nanos};
 ghost use Rattle.std.specs.Option.{option_map};
 ghost use Rattle.std.specs.String.{string_bytes};
-ghost use Rattle.program_shell.specs.Servers.{seconds_in, server_at, server_seen};
+ghost use Rattle.program_shell.specs.Servers.{nanos_in, seconds_in, server_at, server_seen};
 
 use crate::commands::{CommandOption, Operand};
 use script_grammar::number_in;
@@ -36,7 +37,9 @@ pub struct ServerAt<'a> {
 
 impl<'a> ServerAt<'a> {
     /// Returns the time limit, or `None` if there is none.
-    pub fn timeout(&self) -> Option<Duration> {
+    pub fn timeout(&self) -> Option<Duration>
+        ensures { option_map as_nanos result ≡ nanos_in self.now.seconds }
+    {
         if self.seconds == 0 {
             None
         } else {

@@ -11,7 +11,7 @@ use thiserror::Error;
 
 /// The reason why a script is not read.
 ///
-/// Example: `crates/test_session/src/script.rt`.
+/// Example: `crates/test_tasks/src/texts.rt`.
 #[derive(Clone, Copy, Debug, PartialEq, Eq, Error)]
 pub enum ScriptError {
     /// Out of memory.
@@ -24,7 +24,7 @@ pub enum ScriptError {
 
 /// The reason why a line is not read.
 ///
-/// Example: `crates/script_words/src/tests.rt`.
+/// Example: `crates/script_grammar/src/options.rt`.
 #[derive(Clone, Copy, Debug, PartialEq, Eq)]
 pub enum LineError {
     /// Out of memory.

@@ -42,7 +42,7 @@ pub trait Field {
 
 /// The number of a slot, from 0 to 15.
 ///
-/// Example: `crates/script_words/src/tests.rt`.
+/// Example: `crates/script_grammar/src/calls.rt`.
 pub struct Slot;
 
 impl Field for Slot {
@@ -72,7 +72,7 @@ impl Field for Number {
 
 /// A number of 64 bits.
 ///
-/// Example: `crates/script_words/src/tests.rt`.
+/// Example: `crates/script_grammar/src/calls.rt`.
 pub struct Long;
 
 impl Field for Long {
@@ -117,7 +117,7 @@ impl Field for Len {
 
 /// The bits of a mode, which are a number of 16 bits.
 ///
-/// Example: `crates/script_words/src/tests.rt`.
+/// Example: `crates/script_grammar/src/calls.rt`.
 pub struct Mode;
 
 impl Field for Mode {

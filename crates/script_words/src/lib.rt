@@ -17,6 +17,3 @@ pub use number::{number_from, number_in};
 pub use parts::slot_and_parts;
 pub use reason::Reason;
 pub use words::{four_words, no_word, one_word, split_line, split_word, three_words, two_words};
-
-#[cfg(test)]
-mod tests;

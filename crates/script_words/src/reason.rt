@@ -2,7 +2,7 @@
 
 /// The reason why a line of a script is refused.
 ///
-/// Example: `crates/test_session/src/script.rt`.
+/// Example: `crates/test_tasks/src/texts.rt`.
 #[derive(Clone, Copy, Debug, PartialEq, Eq, thiserror::Error)]
 pub enum Reason {
     /// The script has more than 16777216 bytes.

@@ -3,7 +3,7 @@ use sftp_model::{Outcome, Reply, Request};
 
 /// The owner of a request, on whose behalf it is submitted.
 ///
-/// Example: `crates/test_session/src/text.rt`.
+/// Example: `crates/session_work/src/journal.rt`.
 #[derive(Clone, Copy, Debug, PartialEq, Eq)]
 pub enum Owner {
     /// A call of a lane, each by its number.
@@ -16,7 +16,7 @@ pub enum Owner {
 
 /// An event of a session.
 ///
-/// Example: `crates/test_session/src/text.rt`.
+/// Example: `crates/sftp_share/src/trace.rt`.
 #[derive(Debug, Drop, PartialEq, Eq)]
 pub enum Event {
     /// A request was put into the queue.

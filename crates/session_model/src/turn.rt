@@ -1,7 +1,7 @@
 //! Turns of a schedule.
 /// One turn of a schedule. A lane is named by its number, from 0 on.
 ///
-/// Example: `crates/test_session/src/driver.rt`.
+/// Example: `crates/mirror_jobs/src/turns.rt`.
 #[derive(Clone, Copy, Debug, PartialEq, Eq)]
 pub enum Turn {
     /// The next move of this lane.

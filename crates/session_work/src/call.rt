@@ -12,7 +12,7 @@ ghost use Rattle.session_work.specs.Premises.{MayBegin, MayResume};
 ghost use Rattle.session_work.specs.Turning.{BeginsLaneCall, IsSafe, WentOn, AnswersUnreplied, joined_of};
 
 use plan_runner::{
-    Next, Running, begin_buf_flush, begin_buf_read, begin_buf_seek, begin_buf_write,
+    Next, Running, Turn, begin_buf_flush, begin_buf_read, begin_buf_seek, begin_buf_write,
     begin_buf_write_all, begin_buffer, begin_canonicalize, begin_clone, begin_close, begin_copy,
     begin_cwd, begin_fs_read, begin_fs_write, begin_hard_link, begin_list, begin_lstat, begin_meta,
     begin_mkdir, begin_open, begin_read, begin_read_all, begin_read_link, begin_remove,
@@ -89,9 +89,17 @@ pub(crate) fn begin(
     ensures unchanged { OnErr result (site.new ≡ site.old) }
 {
     match call {
-        Call::OpenFile { slot, flags, path } => {
-            begin_open(alloc, *slot, *flags, path.as_slice(), place, site, facts)
-        }
+        Call::OpenFile { slot, flags, path } => begin_open(
+            Turn {
+                alloc,
+                place,
+                facts: *facts,
+            },
+            *slot,
+            *flags,
+            path.as_slice(),
+            site,
+        ),
         Call::Read { slot, n } => Ok(begin_read(*slot, *n, place, site, facts)),
         Call::ReadAll { slot, n } => Ok(begin_read_all(
             alloc, *slot, *n as u64, place, site, facts,
@@ -178,13 +186,15 @@ pub(crate) fn begin(
         Call::Stat { path } => begin_stat(alloc, path.as_slice(), place, site, facts),
         Call::Lstat { path } => begin_lstat(alloc, path.as_slice(), place, site, facts),
         Call::SetStat { path, size, perm } => begin_set_stat(
-            alloc,
+            Turn {
+                alloc,
+                place,
+                facts: *facts,
+            },
             path.as_slice(),
             *size,
             mode_of(*perm),
-            place,
             site,
-            facts,
         ),
         Call::Remove { path } => begin_remove(alloc, path.as_slice(), place, site, facts),
         Call::Mkdir { path } => begin_mkdir(alloc, path.as_slice(), place, site, facts),
@@ -225,32 +235,28 @@ pub(crate) fn begin(
     }
 }
 
-/// Continues a call after the reply that it awaited, if it awaited one; its next request would have the place. Fails
-/// only if an allocation fails; the site is unchanged then.
+/// Continues a call after the reply that it awaited, if it awaited one. Fails only if an allocation fails; the site is
+/// unchanged then.
 pub(crate) fn resume(
-    alloc: Global,
+    turn: Turn,
     call: &Call,
     running: Running,
     reply: Option<Reply>,
-    place: u64,
     site: &mut Site,
-    facts: &Facts,
 ) -> Result<Next, OutOfMemory>
-    requires { MayResume call.now facts.now running reply site.old }
-    ensures went { IfOk result (WentOn running reply call.now facts.now place site.old site.new) }
-    ensures asks { IfOk result (GoesOnAsking (opened_after running reply) place (reads_under (Some running)) site.old site.new) }
-    ensures by { IfOk result (GoesOnBy running reply place facts.now) }
+    requires { MayResume call.now turn.facts running reply site.old }
+    ensures went { IfOk result (WentOn running reply call.now turn.facts turn.place site.old site.new) }
+    ensures asks { IfOk result (GoesOnAsking (opened_after running reply) turn.place (reads_under (Some running)) site.old site.new) }
+    ensures by { IfOk result (GoesOnBy running reply turn.place turn.facts) }
     ensures unchanged { OnErr result (site.new ≡ site.old) }
 {
-    let joined = joined_of(alloc, call)?;
+    let joined = joined_of(turn.alloc, call)?;
     go_on(
-        alloc,
+        turn,
         running,
         reply,
         bytes_of(call, joined.as_slice()),
-        place,
         site,
-        facts,
     )
 }
 

@@ -22,7 +22,7 @@ use crate::call::{begin, meanwhile, resume};
 use crate::requests::{settle, settle_meanwhile};
 use crate::tokens::{Awaited, Granted, Tokens, grant_at};
 use plan_runner::site::{holds_grant, oldest_deferred, some_has};
-use plan_runner::{Running, take_oldest};
+use plan_runner::{Running, Turn, take_oldest};
 use session_model::Call;
 use sftp_core::{Core, Ended};
 use sftp_model::{Facts, Handle, Outcome, RemotePath, Request, Site, Slot};
@@ -226,6 +226,11 @@ impl LaneState {
         ensures small { IfOk result IsSmall }
         ensures left { OnErr result (IsOpen core.new) }
     {
+        let turn = Turn {
+            alloc,
+            place,
+            facts: *facts,
+        };
         self.tokens.tickets.reserve(1)?;
         self.tokens.grants.reserve(1)?;
         let Some(running) = mem::replace(&mut self.running, None) else {
@@ -233,22 +238,14 @@ impl LaneState {
             return settle(core, next, place, &mut self.running, &mut self.tokens);
         };
         let Some(awaited) = running.awaited(&self.site) else {
-            let next = resume(alloc, call, running, None, place, &mut self.site, facts)?;
+            let next = resume(turn, call, running, None, &mut self.site)?;
             return settle(core, next, place, &mut self.running, &mut self.tokens);
         };
         let Some(reply) = self.tokens.reply(core, awaited) else {
             let next = meanwhile(alloc, call, running, place, &self.site, facts)?;
             return settle_meanwhile(core, next, place, &mut self.running, &mut self.tokens);
         };
-        let next = resume(
-            alloc,
-            call,
-            running,
-            Some(reply),
-            place,
-            &mut self.site,
-            facts,
-        )?;
+        let next = resume(turn, call, running, Some(reply), &mut self.site)?;
         settle(core, next, place, &mut self.running, &mut self.tokens)
     }
 

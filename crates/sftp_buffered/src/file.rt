@@ -49,7 +49,7 @@ pub struct ReadUnderWay {
 /// A file with a buffer for reads, and with writes whose statuses are taken later. It isn't droppable: `into_inner`
 /// consumes it, and `let_go` does after its core was given up.
 ///
-/// Example: `crates/test_files/src/buffered.rt`.
+/// Example: `crates/test_client/src/buffered.rt`.
 #[must_use]
 pub struct TokioCompatFile {
     pub(crate) file: File,

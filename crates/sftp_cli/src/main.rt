@@ -4,8 +4,6 @@
 mod answer;
 mod bulk;
 mod bulk_laws;
-#[cfg(test)]
-mod bulk_tests;
 mod content;
 mod drawn_script;
 mod draws;
@@ -16,8 +14,6 @@ mod refused;
 mod run;
 mod script;
 mod summary;
-#[cfg(test)]
-mod tests;
 mod text;
 
 pub use bulk_laws::{

@@ -7,7 +7,7 @@ ghost use Rattle.sftp_cli.specs.declared.printed.Form.TheVariants as form;
 ghost use Rattle.sftp_cli.specs.Printed.{IsServedReport, bytes_left, file_len_of, report_text};
 
 use crate::{summary_of, write_summary};
-use program_shell::{want_of_memory, write_dirs, write_files};
+use program_shell::{out_of_memory_from, write_dirs, write_files};
 use script_text::write_text;
 use session_model::{Lane, Report, Turn};
 use sftp_lanes::run_lanes;
@@ -47,7 +47,7 @@ pub(crate) fn served_run(
     let _ended = server.is_ended();
     match result {
         Ok(report) => Ok(report),
-        Err(error) => Err(want_of_memory(error)),
+        Err(error) => Err(out_of_memory_from(error)),
     }
 }
 

@@ -9,7 +9,7 @@ use sftp_values::Items;
 
 /// The numbers that summarize a run, each at most the greatest of 64 bits.
 ///
-/// Example: `crates/sftp_cli/src/bulk_tests.rt`.
+/// Example: `crates/sftp_cli/src/bulk.rt`.
 #[derive(Clone, Copy, Debug, PartialEq, Eq)]
 pub struct Summary {
     /// The number of lanes.

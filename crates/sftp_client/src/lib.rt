@@ -21,6 +21,3 @@ pub use sftp_model::{
     Error, Extensions, Fault, FormatKind, IoKind, OpenOptions, RemotePath, SftpOptions,
 };
 pub use ssh_encoding::OutOfMemory;
-
-#[cfg(test)]
-mod tests;

@@ -6,7 +6,7 @@ use sftp_model::{Expected, Handle, Reply};
 
 /// The record that a core keeps under one id: a request without its reply, a reply whose ticket is out, or a grant.
 ///
-/// Example: `crates/test_files/src/paths/listing.rt`.
+/// Example: `crates/sftp_core/src/table.rt`.
 #[derive(Debug, Drop)]
 pub enum IdRecord {
     /// A request of this kind. `sent`: it was handed out. `wanted`: its ticket is out.

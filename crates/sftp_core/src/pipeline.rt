@@ -35,7 +35,7 @@ mod replies;
 /// A contract sees the record under each id, the queue and the pieces of its frames, the kept fault and how far the
 /// greeting has come.
 ///
-/// Example: `crates/test_files/src/file/shared.rt`.
+/// Example: `crates/test_client/src/buffered.rt`.
 #[derive(Drop)]
 pub struct Core {
     alloc: Global,
@@ -275,7 +275,7 @@ impl Core {
 ///
 /// It does not distinguish two cores: the caller must pass the `Ended` of the core that the ticket or grant came from.
 ///
-/// Example: `crates/test_client/src/copies.rt`.
+/// Example: `crates/test_client/src/files.rt`.
 #[derive(Clone, Copy, Debug)]
 pub struct Ended(());
 

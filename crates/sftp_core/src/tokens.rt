@@ -10,7 +10,7 @@ use std::marker::Model;
 ///
 /// It does not distinguish two cores: the caller must pass it to the core that it came from.
 ///
-/// Example: `crates/test_library/src/tickets.rt`.
+/// Example: `crates/sftp_file/src/short_calls.rt`.
 #[must_use]
 pub struct Ticket {
     pub(crate) id: u32,

@@ -92,7 +92,7 @@ impl Copying {
 
 /// Polls of a copy.
 ///
-/// Example: `crates/test_files/src/transfers/copies.rt`.
+/// Example: `crates/test_client/src/polls.rt`.
 pub trait PollCopy {
     // The precondition of a poll.
     ghost may: { CoreValue → Self → FileValue → FileValue → Type 0 };

@@ -15,7 +15,7 @@ use sftp_model::Error;
 
 /// A runner that moves a file.
 ///
-/// Example: `crates/test_files/src/transfers.rt`.
+/// Example: `crates/sftp_client/src/sftp/calls.rt`.
 pub trait OnFile: PlanRunner {
     // The file, at the offset that the call has reached.
     ghost file: { Self → FileAtValue };
@@ -31,7 +31,7 @@ pub trait OnFile: PlanRunner {
 
 /// Polls of a call that moves a file.
 ///
-/// Example: `crates/test_files/src/transfers.rt`.
+/// Example: `crates/test_client/src/polls.rt`.
 pub trait PollFile {
     /// The value that the call returns.
     type Value;

@@ -73,7 +73,7 @@ impl PlanRunner for Opening {
 
 /// Options with which a file can be opened.
 ///
-/// Example: `crates/test_library/src/scene.rt`.
+/// Example: `crates/test_client/src/buffered.rt`.
 pub trait StartOpen {
     // The flags of the OPEN.
     ghost flags: { Self → OpenFlags };

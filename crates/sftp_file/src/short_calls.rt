@@ -16,7 +16,7 @@ use sftp_values::ByteText;
 
 /// A request whose STATUS ends the call.
 ///
-/// Example: `crates/test_library/src/calls.rt`.
+/// Example: `crates/sftp_fs/src/asks.rt`.
 #[derive(Drop)]
 pub struct Settling {}
 

@@ -27,7 +27,7 @@ use std::marker::Model;
 
 /// The error of a `read_all` that did not get all bytes.
 ///
-/// Example: `crates/test_files/src/transfers/read_all.rt`.
+/// Example: `crates/sftp_client/src/sftp/calls.rt`.
 #[derive(Debug, Drop)]
 pub struct ReadAllError {
     /// The error.
@@ -259,7 +259,7 @@ fn take_bytes(call: &mut ReadAllCall) -> BytesMut
 
 /// Polls of a `read_all`.
 ///
-/// Example: `crates/test_files/src/transfers/read_all.rt`.
+/// Example: `crates/test_client/src/polls.rt`.
 pub trait PollReadAll {
     // The precondition of a poll.
     ghost may: { CoreValue → Self → FileValue → Type 0 };

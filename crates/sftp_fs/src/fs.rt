@@ -30,7 +30,7 @@ use std::marker::Model;
 /// unchanged, and the server resolves it from the directory in which the session began (draft-ietf-secsh-filexfer-02,
 /// section 6.2). A contract sees the bytes of the working directory.
 ///
-/// Example: `crates/test_files/src/paths/names.rt`.
+/// Example: `crates/sftp_client/src/sftp.rt`.
 #[derive(Drop)]
 pub struct Fs {
     cwd: RemotePath,

@@ -48,7 +48,7 @@ pub enum Writing {
 /// A whole write under way. It isn't droppable: `cancel` consumes it, also after it has returned its result, and
 /// `let_go` does after its core was given up.
 ///
-/// Example: `crates/test_files/src/paths/whole_writes.rt`.
+/// Example: `crates/sftp_client/src/sftp/calls.rt`.
 #[must_use]
 pub struct FsWriteCall {
     facts: Facts,

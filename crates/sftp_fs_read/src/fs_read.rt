@@ -52,7 +52,7 @@ pub enum Whole {
 /// A whole read under way. It isn't droppable: `cancel` consumes it, also after it has returned its result, and
 /// `let_go` does after its core was given up.
 ///
-/// Example: `crates/test_files/src/paths/whole_reads.rt`.
+/// Example: `crates/sftp_client/src/sftp/calls.rt`.
 #[must_use]
 pub struct FsReadCall {
     stage: Whole,

@@ -31,7 +31,7 @@ use std::marker::Model;
 /// happened. Its journal is a run so far in every phase, and has the recorded fault. When it is dropped, it releases
 /// all that its lanes hold, and sends nothing.
 ///
-/// Example: `crates/test_session/src/lanes.rt`.
+/// Example: `crates/sftp_view/src/run.rt`.
 #[derive(Drop)]
 pub struct Session {
     pub(crate) alloc: Global,

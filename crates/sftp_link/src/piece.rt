@@ -6,7 +6,7 @@ use sftp_values::{ByteText, Same};
 
 /// The bytes that one call moved over a link.
 ///
-/// Example: `crates/sftp_serve/src/tests.rt`.
+/// Example: `crates/sftp_map_server/src/map_server.rt`.
 #[derive(Debug, Drop, PartialEq, Eq)]
 pub enum Piece {
     /// Bytes that were sent to the peer.
@@ -17,7 +17,7 @@ pub enum Piece {
 
 /// The next item of a scripted link.
 ///
-/// Example: `crates/test_session/src/lanes.rt`.
+/// Example: `crates/test_client/src/link.rt`.
 #[derive(Debug, Drop, PartialEq, Eq)]
 pub enum Scripted {
     /// These bytes.

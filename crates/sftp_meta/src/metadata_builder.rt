@@ -11,7 +11,7 @@ use std::marker::Model;
 /// A builder that makes a `MetaData` part by part. A contract sees the attributes that were set so far. Each call
 /// except `create` returns the builder that it changed, so that calls can be chained.
 ///
-/// Example: `crates/test_files/src/paths/names.rt`.
+/// Example: `crates/sftp_fs/src/directory_builder.rt`.
 #[derive(Clone, Copy, Debug)]
 pub struct MetaDataBuilder(FileAttrs);
 

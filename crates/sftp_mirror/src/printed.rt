@@ -7,7 +7,7 @@ ghost use Rattle.sftp_mirror.specs.Printed.{IsServedCopy, copy_text};
 use crate::copy::{CopyReport, copy_jobs};
 use crate::schedule::Schedule;
 use mirror_jobs::{Job, Verdict, write_verdicts};
-use program_shell::{want_of_memory, write_dirs, write_files};
+use program_shell::{out_of_memory_from, write_dirs, write_files};
 use sftp_map_server::MapServer;
 use sftp_model::SftpOptions;
 use ssh_encoding::OutOfMemory;
@@ -40,7 +40,7 @@ pub(crate) fn copy_served(
     let _ended = server.is_ended();
     match result {
         Ok(report) => Ok(report),
-        Err(error) => Err(want_of_memory(error)),
+        Err(error) => Err(out_of_memory_from(error)),
     }
 }
 

@@ -3,7 +3,7 @@ use crate::flags::Extensions;
 
 /// The reply to the query for limits, each number 0 if the server sets none (OpenSSH's PROTOCOL, section 4.8).
 ///
-/// Example: `crates/test_session/src/served.rt`.
+/// Example: `crates/test_wire/src/wire/replies.rt`.
 #[derive(Clone, Copy, Debug, PartialEq, Eq)]
 pub struct Limits {
     /// The most bytes of a frame.
@@ -32,7 +32,7 @@ pub struct ServerConfig {
 
 /// The choice of the file machine for one request.
 ///
-/// Example: `crates/test_session/src/map_server.rt`.
+/// Example: `crates/test_client/src/server.rt`.
 #[derive(Clone, Copy, Debug, PartialEq, Eq)]
 pub struct Choice {
     /// The status code to refuse it with; 0 to process it.

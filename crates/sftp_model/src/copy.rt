@@ -8,7 +8,7 @@ use std::alloc::Global;
 
 /// A type whose values can be copied if an allocation succeeds.
 ///
-/// Example: `crates/test_files/src/history.rt`.
+/// Example: `crates/test_wire/src/model.rt`.
 pub trait TryCopy: Sized {
     /// Returns a value equal to this one.
     ///

@@ -10,7 +10,7 @@ use std::alloc::Global;
 
 /// The first fault of a session, after which it cannot be used.
 ///
-/// Example: `crates/test_client/src/opening.rt`.
+/// Example: `crates/test_wire/src/model.rt`.
 #[derive(Clone, Copy, Debug, PartialEq, Eq, thiserror::Error)]
 pub enum Fault {
     /// The link failed.
@@ -41,7 +41,7 @@ pub enum Fault {
 
 /// The kinds of errors that the client finds in a call by itself, without a request.
 ///
-/// Example: `crates/test_library/src/pieces.rt`.
+/// Example: `crates/test_wire/src/model.rt`.
 #[derive(Clone, Copy, Debug, PartialEq, Eq, thiserror::Error)]
 pub enum IoKind {
     /// The file was not opened to read.

@@ -7,7 +7,7 @@ use bitflags::{Flag, Flags, bitflag_items};
 
 /// The flags of an OPEN (draft-ietf-secsh-filexfer-02, section 6.3).
 ///
-/// Example: `crates/test_library/src/sites.rt`.
+/// Example: `crates/sftp_fs/src/fs_write.rt`.
 #[derive(Clone, Copy, PartialEq, Eq, Debug)]
 pub struct OpenFlags(u32);
 

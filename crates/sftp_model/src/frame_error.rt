@@ -6,7 +6,7 @@ use thiserror::Error;
 
 /// The ways in which a frame's body does not have the form of a reply or request.
 ///
-/// Example: `crates/test_client/src/opening.rt`.
+/// Example: `crates/test_wire/src/model.rt`.
 #[derive(Clone, Copy, Debug, PartialEq, Eq, Error)]
 pub enum FormatKind {
     /// A field extends past the body's end, or a length that must not be 0 is 0.
@@ -25,7 +25,7 @@ pub enum FormatKind {
 
 /// The reason why a frame was not read or written.
 ///
-/// Example: `crates/example_encoding/src/frames.rt`.
+/// Example: `crates/test_wire/src/model.rt`.
 #[derive(Clone, Copy, Debug, PartialEq, Eq, Error)]
 pub enum FrameError {
     #[error("out of memory")]

@@ -14,7 +14,7 @@ use std::marker::Model;
 /// The name that a server assigns to an open file or directory: at most `MAX_HANDLE_LEN` bytes, stored inline. A
 /// contract sees it as their list (draft-ietf-secsh-filexfer-02, section 7).
 ///
-/// Example: `crates/test_session/src/text.rt`.
+/// Example: `crates/bench_core/src/main.rt`.
 #[derive(Debug, Drop)]
 pub struct Handle {
     bytes: [u8; numbers::MAX_HANDLE_LEN],

@@ -11,7 +11,7 @@ use bitflags::Flags;
 /// The options with which a file is opened. Each setter returns the options that it changed, so that calls can be
 /// chained.
 ///
-/// Example: `crates/test_files/src/file/options.rt`.
+/// Example: `crates/test_wire/src/model.rt`.
 #[derive(Clone, Copy, Debug, PartialEq, Eq)]
 pub struct OpenOptions {
     read: bool,

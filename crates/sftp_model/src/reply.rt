@@ -24,7 +24,7 @@ pub struct NameEntry {
 
 /// A reply of a server (draft-ietf-secsh-filexfer-02, sections 4 and 7).
 ///
-/// Example: `crates/test_files/src/history.rt`.
+/// Example: `crates/test_wire/src/wire/frames.rt`.
 #[derive(Debug, Drop, PartialEq, Eq)]
 pub enum Reply {
     /// VERSION, the reply to the hello. It has no id.

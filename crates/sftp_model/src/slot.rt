@@ -7,7 +7,7 @@ use sftp_values::{ByteText, Items};
 
 /// An open file. Requests are numbered in the order of their submission; a place is such a number.
 ///
-/// Example: `crates/test_library/src/sites.rt`.
+/// Example: `crates/sftp_file/src/file.rt`.
 #[derive(Clone, Copy, Debug, PartialEq, Eq)]
 pub struct FileAt {
     /// The place of the OPEN that a HANDLE answered.
@@ -22,7 +22,7 @@ pub struct FileAt {
 
 /// The buffer of a buffered file.
 ///
-/// Example: `crates/test_library/src/sites.rt`.
+/// Example: `crates/plan_runner/src/local_calls.rt`.
 #[derive(Debug, Drop)]
 pub struct Buffer {
     /// The number of bytes that a read into the buffer asks for, at least 1.
@@ -37,7 +37,7 @@ pub struct Buffer {
 
 /// The contents of a lane's slot.
 ///
-/// Example: `crates/test_library/src/sites.rt`.
+/// Example: `crates/plan_runner/src/site.rt`.
 #[derive(Debug, Drop)]
 pub enum Slot {
     Empty,
@@ -47,7 +47,7 @@ pub enum Slot {
 
 /// The slots and the working directory of a lane between its calls.
 ///
-/// Example: `crates/test_library/src/sites.rt`.
+/// Example: `crates/plan_runner/src/site.rt`.
 #[derive(Debug, Drop)]
 pub struct Site {
     /// The slots by their number.
@@ -58,7 +58,7 @@ pub struct Site {
 
 /// The values that VERSION, the limits reply and the options fix for a session.
 ///
-/// Example: `crates/test_library/src/sites.rt`.
+/// Example: `crates/sftp_file/src/file.rt`.
 #[derive(Clone, Copy, Debug, PartialEq, Eq)]
 pub struct Facts {
     /// The extensions that the server offers.

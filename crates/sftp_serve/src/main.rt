@@ -7,8 +7,6 @@ mod laws;
 mod serve;
 mod server;
 mod stop;
-#[cfg(test)]
-mod tests;
 mod words;
 
 pub use laws::other_extensions_are_answered;

@@ -9,7 +9,7 @@ use crate::items::Items;
 
 /// A type whose `==` is true exactly if a contract sees the two values as equal.
 ///
-/// Example: `crates/test_files/src/history.rt`.
+/// Example: `crates/test_wire/src/model.rt`.
 pub trait Same: PartialEq {
     /// `==` decides equality.
     ghost decides: { (a b : Self) → Decides (Self.PartialEq.eq a b) (a ≡ b) };

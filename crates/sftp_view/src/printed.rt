@@ -5,7 +5,7 @@ ghost use Rattle.sftp_view.specs.Printed.{IsServedView, view_text};
 ghost use Rattle.sftp_view.specs.Views.{MayView};
 
 use crate::run::{ViewReport, run_view};
-use program_shell::{want_of_memory, write_dirs, write_files};
+use program_shell::{out_of_memory_from, write_dirs, write_files};
 use sftp_map_server::MapServer;
 use sftp_model::SftpOptions;
 use ssh_encoding::OutOfMemory;
@@ -32,7 +32,7 @@ pub(crate) fn view_served(
     let _ended = server.is_ended();
     match result {
         Ok(report) => Ok(report),
-        Err(error) => Err(want_of_memory(error)),
+        Err(error) => Err(out_of_memory_from(error)),
     }
 }
 

@@ -1,4 +1,3 @@
 mod Waiting
-pub mod Few
 mod Rounds
 pub mod Streaming

@@ -7,10 +7,11 @@ use Rattle.sftp_link.specs.Views.{LinkView}
 use Rattle.sftp_model.specs.declared.slot.Site.{Site}
 use Rattle.plan_model.specs.Moves.{Answers, Plan}
 use Rattle.plan_state.specs.Calls.{CallValue, IsHeld, is_ended}
-use Rattle.sftp_file.specs.Files.{FileValue}
-use Rattle.sftp_file.specs.Gathers.{ReadAllValue, reading_all, with_buffer}
+use Rattle.plan_state.specs.declared.poll.Poll.{Poll}
+use Rattle.sftp_file.specs.Files.{FileValue, file_at}
+use Rattle.sftp_file.specs.Gathers.{ReadAllValue, ReadsAll, reading_all, with_buffer}
 use Rattle.sftp_file.specs.declared.whole_reads.ReadAllError.{ReadAllError}
-use Rattle.sftp_file.proofs.GatherLaws.{held_with}
+use Rattle.sftp_file.proofs.GatherLaws.{held_with, reads_held}
 use Rattle.sftp_fs.specs.WholeWrites.{WriteOpens, is_over as write_over}
 use Rattle.sftp_fs.specs.declared.fs_write.Writing.{Writing}
 use Rattle.sftp_fs.specs.declared.fs_write.Writing.TheVariants as writing
@@ -48,3 +49,9 @@ waited_held state old new p q before after result h =
         record h.last { runner = with_buffer h.last.runner [] } else h.last)
     by_end true = held_with new.core h.last.runner [] h.last.stage h.waited.held
     by_end false = h.waited.held
+
+-- a read of so many bytes that was polled may be given up
+pub bytes_held : (old new : Core) (p q : CallValue ReadAllValue) (before after : FileValue)
+    (result : Poll (Result Filled ReadAllError))
+    → ReadsAll old new p q before after result → IsHeld reading_all new q × (q.runner.file ≡ file_at after)
+bytes_held old new p q before after result h = reads_held old new p q before after result h

@@ -1,49 +1,166 @@
-//! Tests of files that are opened, and of reads of `n` bytes.
-ghost use Rattle.std.specs.Prelude.{◌<◌, ◌-◌, ◌^◌, IsSome, OnOk};
+//! Calls on open files. Some are kept until they have returned their result, and others are consumed.
+ghost use Rattle.std.specs.Prelude.{IsSome, OnOk};
 ghost use Rattle.sftp_core.specs.Info.{info_of};
 
-use crate::script::{DATA, H, HANDLE, VERSION, server, session};
-use bytes::BytesMut;
-use sftp_client::{Core, Ended, Error, File, Link, Sftp, SftpOptions};
+use crate::server::Session;
+use bytes::{Bytes, BytesMut};
+use sftp_client::{Ended, Error, File, Permissions};
 use std::alloc::Global;
-use std::test::Fail;
+use std::io::SeekFrom;
 
-/// Returns the file `a`, opened for reading.
-pub(crate) fn opened<L: Link>(sftp: &mut Sftp<L>) -> Result<File, Error>
-    requires opened { IsSome (info_of sftp.old.core.phase) }
-    requires count { (L.LinkState.state sftp.old.link).faults < 2 ^ 64 - 1 }
-    ensures opened { OnOk result (IsSome (info_of sftp.new.core.phase)) }
-    ensures count { OnOk result ((L.LinkState.state sftp.new.link).faults < 2 ^ 64 - 1) }
+/// Returns a file that is opened for reading.
+pub(crate) fn opened(sftp: &mut Session, path: &[u8]) -> Result<File, Error>
+    requires { IsSome (info_of sftp.old.core.phase) }
+    ensures { OnOk result (IsSome (info_of sftp.new.core.phase)) }
 {
     sftp.ready()?;
-    let call = sftp.start_open(b"a")?;
+    let call = sftp.start_open(path)?;
     sftp.finish(call)
 }
 
-/// Returns the file `b`, opened for writing.
-pub(crate) fn created<L: Link>(sftp: &mut Sftp<L>) -> Result<File, Error>
-    requires opened { IsSome (info_of sftp.old.core.phase) }
-    requires count { (L.LinkState.state sftp.old.link).faults < 2 ^ 64 - 1 }
-    ensures opened { OnOk result (IsSome (info_of sftp.new.core.phase)) }
-    ensures count { OnOk result ((L.LinkState.state sftp.new.link).faults < 2 ^ 64 - 1) }
+/// Returns a file that is created or truncated, for writing.
+pub(crate) fn created(sftp: &mut Session, path: &[u8]) -> Result<File, Error>
+    requires { IsSome (info_of sftp.old.core.phase) }
+    ensures { OnOk result (IsSome (info_of sftp.new.core.phase)) }
 {
     sftp.ready()?;
-    let call = sftp.start_create(b"b")?;
+    let call = sftp.start_create(path)?;
     sftp.finish(call)
 }
 
-/// Returns six bytes of a file, by a call that is kept until it has returned its result.
-#[tactic(auto, using(crate::proofs::Waiting::waited_held))]
-fn bytes_waited<L: Link>(
-    alloc: Global,
-    sftp: &mut Sftp<L>,
+/// Writes all of these pieces, by a call that is kept, or by one that is consumed.
+fn write_all(
+    sftp: &mut Session,
     file: &mut File,
-) -> Result<BytesMut, Error>
-    requires opened { IsSome (info_of sftp.old.core.phase) }
-    requires count { (L.LinkState.state sftp.old.link).faults < 2 ^ 64 - 1 }
+    pieces: &[Bytes],
+    keeps: bool,
+) -> Result<(), Error>
+    requires { IsSome (info_of sftp.old.core.phase) }
 {
     sftp.ready()?;
-    match file.start_read_all(sftp.core(), 6, BytesMut::new(alloc)) {
+    if !keeps {
+        let call = file.start_write_all_zero_copy(sftp.core(), pieces)?;
+        return sftp.finish_on(call, file);
+    }
+    let mut call = file.start_write_all_vectorized(sftp.core(), pieces)?;
+    let answer = sftp.wait_on(&mut call, file);
+    call.cancel(sftp.core());
+    answer
+}
+
+/// Creates a file of these bytes.
+pub(crate) fn put(
+    sftp: &mut Session,
+    path: &[u8],
+    content: &'static [u8],
+    keeps: bool,
+    ended: Ended,
+) -> Result<(), Error>
+    requires { IsSome (info_of sftp.old.core.phase) }
+{
+    let pieces = [Bytes::from_static(content), Bytes::new()];
+    let mut file = created(sftp, path)?;
+    let answer = write_all(sftp, &mut file, &pieces, keeps);
+    file.let_go(ended);
+    answer
+}
+
+/// A call on a file that was created.
+#[derive(Clone, Copy)]
+pub(crate) enum Change {
+    Write,
+    WritePieces,
+    WriteUncopied,
+    /// Five bytes.
+    Len,
+    Permissions,
+    Sync,
+}
+
+/// Makes a change of a file. Returns the number of bytes that one WRITE wrote.
+fn make_change(
+    sftp: &mut Session,
+    file: &mut File,
+    what: Change,
+    pieces: &[Bytes],
+) -> Result<usize, Error>
+    requires { IsSome (info_of sftp.old.core.phase) }
+{
+    sftp.ready()?;
+    match what {
+        Change::Write => {
+            let call = file.start_write(sftp.core(), b"xyz!")?;
+            sftp.finish_on(call, file)
+        }
+        Change::WritePieces => {
+            let call = file.start_write_vectorized(sftp.core(), pieces)?;
+            sftp.finish_on(call, file)
+        }
+        Change::WriteUncopied => {
+            let call = file.start_write_zero_copy(sftp.core(), pieces)?;
+            sftp.finish_on(call, file)
+        }
+        Change::Len => {
+            let call = file.start_set_len(sftp.core(), 5)?;
+            sftp.finish(call)?;
+            Ok(0)
+        }
+        Change::Permissions => {
+            let call = file.start_set_permissions(sftp.core(), Permissions::from(0o644))?;
+            sftp.finish(call)?;
+            Ok(0)
+        }
+        Change::Sync => {
+            let call = file.start_sync_all(sftp.core())?;
+            sftp.finish(call)?;
+            Ok(0)
+        }
+    }
+}
+
+/// Creates a file, makes a change of it, and returns its offset then and the number of bytes that one WRITE wrote.
+pub(crate) fn changed(
+    sftp: &mut Session,
+    path: &[u8],
+    what: Change,
+    ended: Ended,
+) -> Result<(usize, u64), Error>
+    requires { IsSome (info_of sftp.old.core.phase) }
+{
+    let mut file = created(sftp, path)?;
+    let pieces = [Bytes::from_static(b"x"), Bytes::from_static(b"yz!")];
+    let answer = make_change(sftp, &mut file, what, &pieces);
+    let offset = file.poll_complete();
+    file.let_go(ended);
+    Ok((answer?, offset))
+}
+
+/// Moves a file to 5, to 7 and to 4, and returns its offset then.
+pub(crate) fn moved(sftp: &mut Session, path: &[u8], ended: Ended) -> Result<u64, Error>
+    requires { IsSome (info_of sftp.old.core.phase) }
+{
+    let mut file = opened(sftp, path)?;
+    file.stand(5);
+    file.as_mut_file().advance(2);
+    let answer = file.start_seek(SeekFrom::Current(-3));
+    let offset = file.offset();
+    file.let_go(ended);
+    answer?;
+    Ok(offset)
+}
+
+/// Returns the first `n` bytes of a file, by a call that is kept.
+#[tactic(auto, using(crate::proofs::Waiting::waited_held))]
+fn bytes_waited(
+    alloc: Global,
+    sftp: &mut Session,
+    file: &mut File,
+    n: usize,
+) -> Result<BytesMut, Error>
+    requires { IsSome (info_of sftp.old.core.phase) }
+{
+    sftp.ready()?;
+    match file.start_read_all(sftp.core(), n, BytesMut::new(alloc)) {
         Ok(call) => {
             let mut call = call;
             let answer = sftp.wait_bytes(&mut call, file);
@@ -54,73 +171,86 @@ fn bytes_waited<L: Link>(
     }
 }
 
-/// Returns six bytes of a file.
-fn bytes_finished<L: Link>(
+/// Returns the first `n` bytes of a file.
+fn bytes_finished(
     alloc: Global,
-    sftp: &mut Sftp<L>,
+    sftp: &mut Session,
     file: &mut File,
+    n: usize,
 ) -> Result<BytesMut, Error>
-    requires opened { IsSome (info_of sftp.old.core.phase) }
-    requires count { (L.LinkState.state sftp.old.link).faults < 2 ^ 64 - 1 }
+    requires { IsSome (info_of sftp.old.core.phase) }
 {
     sftp.ready()?;
-    match file.start_read_all(sftp.core(), 6, BytesMut::new(alloc)) {
+    match file.start_read_all(sftp.core(), n, BytesMut::new(alloc)) {
         Ok(call) => sftp.finish_bytes(call, file).map_err(|failed| failed.error),
         Err(failed) => Err(failed.error),
     }
 }
 
-/// Returns six bytes of a file, and its offset then.
-fn bytes_read<L: Link>(
+/// Returns true if a file begins with these bytes.
+pub(crate) fn begins_with(
     alloc: Global,
-    sftp: &mut Sftp<L>,
-    ended: Ended,
+    sftp: &mut Session,
+    path: &[u8],
+    content: &[u8],
     keeps: bool,
-) -> Result<(BytesMut, u64), Error>
-    requires opened { IsSome (info_of sftp.old.core.phase) }
-    requires count { (L.LinkState.state sftp.old.link).faults < 2 ^ 64 - 1 }
+    ended: Ended,
+) -> Result<bool, Error>
+    requires { IsSome (info_of sftp.old.core.phase) }
 {
-    let mut file = opened(sftp)?;
+    let mut file = opened(sftp, path)?;
     let answer = if keeps {
-        bytes_waited(alloc, sftp, &mut file)
+        bytes_waited(alloc, sftp, &mut file, content.len())
     } else {
-        bytes_finished(alloc, sftp, &mut file)
+        bytes_finished(alloc, sftp, &mut file, content.len())
     };
-    let stands = file.offset();
     file.let_go(ended);
-    Ok((answer?, stands))
+    Ok(answer?.as_slice() == content)
 }
 
-/// Returns true if six bytes of a file are read over a link as `abcdef`.
-fn reads_bytes<L: Link + Drop>(alloc: Global, link: L, ended: Ended, keeps: bool) -> bool
-    requires { (L.LinkState.state link).faults < 2 ^ 64 - 1 }
+/// Copies five bytes to another open file by a call that is kept, or all by one that is consumed.
+fn copy_on(sftp: &mut Session, from: &mut File, to: &mut File, keeps: bool) -> Result<(), Error>
+    requires { IsSome (info_of sftp.old.core.phase) }
 {
-    let Some(mut sftp) = session(alloc, link) else {
-        return false;
-    };
-    match bytes_read(alloc, &mut sftp, ended, keeps) {
-        Ok((bytes, stands)) => stands == 6 && bytes.as_slice() == ABCDEF,
-        Err(_) => false,
+    sftp.ready()?;
+    if !keeps {
+        let call = from.start_copy_all_to(sftp.core(), to)?;
+        return sftp.finish_copy(call, from, to);
     }
+    let mut call = from.start_copy_to(sftp.core(), to, 5)?;
+    let answer = sftp.wait_copy(&mut call, from, to);
+    call.cancel(sftp.core());
+    answer
 }
 
-/// Tests two READs, of which the first is answered short.
-#[test]
-fn so_many_bytes_are_read(rt: HostRuntime) -> Result<(), Fail> {
-    let alloc = rt.alloc();
-    let ended = Core::new(alloc, &SftpOptions::new())?.end();
-    let answers = [(HANDLE, H), (DATA, ABC), (DATA, DEF)];
-    for keeps in [false, true] {
-        let link = server(alloc, VERSION, &answers)?;
-        assert!(rt; reads_bytes(alloc, link, ended, keeps));
-    }
-    Ok(())
+/// Copies an open file to one of this path.
+fn copy_to(
+    sftp: &mut Session,
+    from: &mut File,
+    path: &[u8],
+    keeps: bool,
+    ended: Ended,
+) -> Result<(), Error>
+    requires { IsSome (info_of sftp.old.core.phase) }
+{
+    let mut to = created(sftp, path)?;
+    let answer = copy_on(sftp, from, &mut to, keeps);
+    to.let_go(ended);
+    answer
 }
 
-/// The fields of two DATA.
-const ABC: &[u8] = b"\0\0\0\x03abc";
-
-const DEF: &[u8] = b"\0\0\0\x03def";
-
-/// Both, joined.
-const ABCDEF: &[u8] = b"abcdef";
+/// Copies a file to another path.
+pub(crate) fn copy(
+    sftp: &mut Session,
+    from: &[u8],
+    to: &[u8],
+    keeps: bool,
+    ended: Ended,
+) -> Result<(), Error>
+    requires { IsSome (info_of sftp.old.core.phase) }
+{
+    let mut from = opened(sftp, from)?;
+    let answer = copy_to(sftp, &mut from, to, keeps, ended);
+    from.let_go(ended);
+    answer
+}

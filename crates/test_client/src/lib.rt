@@ -1,27 +1,23 @@
-//! Tests of calls that are run to their end by a session over a scripted link.
+//! Tests of the libraries by their public calls: each call that no program makes, over the server in memory; what a
+//! session offers; and links over streams that fail.
 #![tactic(auto)]
 
 #[cfg(test)]
-mod calls;
+mod buffered;
 #[cfg(test)]
-mod copies;
-#[cfg(test)]
-mod fault_calls;
+mod edge;
 #[cfg(test)]
 mod files;
+#[cfg(test)]
+mod link;
 #[cfg(test)]
 mod names;
 #[cfg(test)]
 mod offers;
 #[cfg(test)]
-mod opening;
-#[cfg(test)]
 mod paths;
-pub mod peer;
 #[cfg(test)]
-mod script;
-#[cfg(test)]
-mod served_files;
+mod polls;
 #[cfg(test)]
 mod server;
 #[cfg(test)]
@@ -29,6 +25,4 @@ mod streams;
 #[cfg(test)]
 mod tour;
 #[cfg(test)]
-mod waits;
-#[cfg(test)]
-mod writes;
+mod unix;

@@ -1,23 +1,30 @@
-//! Tests of files that are read and written whole, by their paths.
+//! Files that are read and written whole, by their paths.
 ghost use Rattle.std.specs.Prelude.{IsSome};
 ghost use Rattle.sftp_core.specs.Info.{info_of};
 
 use crate::server::Session;
+use bytes::BytesMut;
 use sftp_client::{Error, StartRead};
 use std::alloc::Global;
 
-/// Returns true if a file has these bytes, read with a window.
-pub(crate) fn holds(
-    alloc: Global,
-    sftp: &mut Session,
-    path: &[u8],
-    content: &[u8],
-) -> Result<bool, Error>
+/// Returns the bytes of a file.
+pub(crate) fn read(alloc: Global, sftp: &mut Session, path: &[u8]) -> Result<BytesMut, Error>
     requires { IsSome (info_of sftp.old.core.phase) }
 {
     sftp.ready()?;
     let call = sftp.fs().start_read(alloc, sftp.core(), path)?;
-    Ok(sftp.finish_read(call)?.as_slice() == content)
+    sftp.finish_read(call)
+}
+
+/// Returns them by a call that is kept until it has returned its result.
+pub(crate) fn read_on(alloc: Global, sftp: &mut Session, path: &[u8]) -> Result<BytesMut, Error>
+    requires { IsSome (info_of sftp.old.core.phase) }
+{
+    sftp.ready()?;
+    let mut call = sftp.fs().start_read(alloc, sftp.core(), path)?;
+    let answer = sftp.wait_read(&mut call);
+    call.cancel(sftp.core());
+    answer
 }
 
 /// Creates a file of these bytes.
@@ -32,4 +39,20 @@ pub(crate) fn write(
     sftp.ready()?;
     let call = sftp.fs().start_write(alloc, sftp.core(), path, content)?;
     sftp.finish_write(call)
+}
+
+/// Does the same by a call that is kept until it has returned its result.
+pub(crate) fn write_on(
+    alloc: Global,
+    sftp: &mut Session,
+    path: &[u8],
+    content: &[u8],
+) -> Result<(), Error>
+    requires { IsSome (info_of sftp.old.core.phase) }
+{
+    sftp.ready()?;
+    let mut call = sftp.fs().start_write(alloc, sftp.core(), path, content)?;
+    let answer = sftp.wait_write(&mut call);
+    call.cancel(sftp.core());
+    answer
 }

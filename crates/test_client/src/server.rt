@@ -2,7 +2,8 @@
 ghost use Rattle.std.specs.Prelude.{◌≡◌, true, IfOk, IsSome};
 ghost use Rattle.sftp_core.specs.Info.{info_of};
 
-use sftp_client::{Error, Extensions, Sftp, SftpOptions};
+use bitflags::Flags;
+use sftp_client::{Extensions, Sftp, SftpOptions};
 use sftp_map_server::{Choice, MapServer, ServerConfig, may_begin};
 use sftp_values::Items;
 use std::alloc::Global;
@@ -11,11 +12,11 @@ use std::test::Fail;
 /// A session over the server in memory.
 pub(crate) type Session = Sftp<MapServer>;
 
-/// Returns an empty server. It moves at most `cut` bytes a call, if that is not 0, and gives at most `cap` bytes a DATA
-/// to its first requests. It uses these picks of the replies that wait.
+/// Returns an empty server that offers all extensions except limits. It moves at most `cut` bytes a call, if that is
+/// not 0, and gives at most `cap` bytes a DATA to its first requests. It uses these picks of the replies that wait.
 pub(crate) fn server(alloc: Global, cut: u32, cap: u32, picks: &[u32]) -> Result<MapServer, Fail> {
     let config = ServerConfig {
-        extensions: Extensions::COPY_DATA,
+        extensions: Extensions::from_bits_retain(31),
         limits: None,
         cut,
     };

@@ -1,4 +1,4 @@
-//! Tests of files as streams, with several requests under way at once.
+//! Files as streams, with several requests under way at once.
 ghost use Rattle.std.specs.Prelude.{◌≡◌, ◌≤◌, false, length, IfOk, IsSome, OnOk};
 ghost use Rattle.sftp_core.specs.Info.{info_of};
 ghost use Rattle.plan_state.specs.Keeping.{KeepsHeld};
@@ -6,7 +6,7 @@ ghost use Rattle.sftp_streams.specs.Downloads.{MayRead, content_kind};
 ghost use Rattle.sftp_streams.specs.Parts.{AreAwaited};
 ghost use Rattle.sftp_streams.specs.Uploads.{MayWrite, status_kind};
 
-use crate::served_files::{created, opened};
+use crate::files::{created, opened};
 use crate::server::Session;
 use bytes::Bytes;
 use sftp_client::{Ended, Error, File, Poll};
@@ -14,7 +14,7 @@ use sftp_streams::{Download, Upload};
 use std::alloc::Global;
 
 /// Sends what is queued, and takes a frame if one is awaited.
-fn round(sftp: &mut Session) -> Result<(), Error>
+pub(crate) fn round(sftp: &mut Session) -> Result<(), Error>
     requires { IsSome (info_of sftp.old.core.phase) }
     ensures { KeepsHeld sftp.old.core sftp.new.core }
 {

@@ -2,69 +2,91 @@
 ghost use Rattle.std.specs.Prelude.{IsSome};
 ghost use Rattle.sftp_core.specs.Info.{info_of};
 
+use crate::files::Change;
+use crate::names::Naming;
 use crate::server::{Session, is_open, open_session, server};
-use crate::{names, paths, served_files, streams};
+use crate::{buffered, files, names, paths, polls, streams};
 use sftp_client::{Core, Ended, Error, SftpOptions};
+use sftp_link::LinkIn;
 use sftp_map_server::MapServer;
 use std::alloc::Global;
 use std::test::Fail;
 
-/// An operation, with the result that it must have.
+/// An operation. Its operands are one or two names, or a name and bytes.
 #[derive(Clone, Copy)]
-enum Step {
-    /// A file of these bytes is created, by `File`, by `Fs`, or by `Upload`.
-    Put(&'static [u8], &'static [u8]),
-    Write(&'static [u8], &'static [u8]),
-    Uploads(&'static [u8], &'static [u8]),
-    /// A file has these bytes, by `File`, by `Fs`, or by `Download`.
-    BeginsWith(&'static [u8], &'static [u8]),
-    Holds(&'static [u8], &'static [u8]),
-    Downloads(&'static [u8], &'static [u8]),
-    /// A file has this many bytes.
-    HasLen(&'static [u8], u64),
-    /// A file is copied to another path.
-    Copy(&'static [u8], &'static [u8]),
-    MakeDir(&'static [u8]),
-    RemoveDir(&'static [u8]),
-    RemoveFile(&'static [u8]),
-    Rename(&'static [u8], &'static [u8]),
-    /// A directory has these names.
-    Lists(&'static [u8], &'static [&'static [u8]]),
+enum Do {
+    /// A file of these bytes is created, by `File` or by `Fs`, by a call that is kept or not.
+    Put(bool),
+    Write(bool),
+    /// A file has these bytes, by `File` or by `Fs`, by a call that is kept or not.
+    BeginsWith(bool),
+    Holds(bool),
+    /// A file is created and changed. It is at this offset then, after a WRITE of as many bytes.
+    Change(Change, usize),
+    /// A file is copied to another name, by a call that is kept or not.
+    Copy(bool),
+    /// Calls on two files wait, and are given up.
+    Wait,
+    /// A file is moved to 4.
+    Move,
+    /// A file is created, or has these bytes, by several requests at once.
+    Uploads,
+    Downloads,
+    /// Calls on a buffered file.
+    Buffered,
+    Name(Naming),
+    /// A hard link, which the server refuses by SSH_FX_OP_UNSUPPORTED.
+    Link,
+    /// A name in a directory has this many bytes.
+    HasLen(u64),
+    /// A path has this whole name.
+    Denotes,
 }
 
-/// Returns true if a step of files went as it says.
+/// An operation and its operands.
+type Step = (Do, &'static [u8], &'static [u8]);
+
+/// Returns true if an operation on a file went as it says.
 fn file_step(alloc: Global, sftp: &mut Session, step: Step, ended: Ended) -> Result<bool, Error>
     requires { IsSome (info_of sftp.old.core.phase) }
 {
-    match step {
-        Step::Put(path, content) => Ok(served_files::put(sftp, path, content, ended).is_ok()),
-        Step::Write(path, content) => Ok(paths::write(alloc, sftp, path, content).is_ok()),
-        Step::Uploads(path, content) => streams::uploads(sftp, path, content, ended),
-        Step::BeginsWith(path, content) => served_files::begins_with(
-            alloc, sftp, path, content, ended,
-        ),
-        Step::Holds(path, content) => paths::holds(alloc, sftp, path, content),
-        Step::Downloads(path, content) => streams::downloads(alloc, sftp, path, content, ended),
-        Step::HasLen(path, len) => served_files::has_len(sftp, path, len, ended),
-        Step::Copy(from, to) => Ok(served_files::copy(sftp, from, to, ended).is_ok()),
-        other => name_step(alloc, sftp, other),
+    let (what, path, bytes) = step;
+    match what {
+        Do::Put(keeps) => Ok(files::put(sftp, path, bytes, keeps, ended).is_ok()),
+        Do::BeginsWith(keeps) => files::begins_with(alloc, sftp, path, bytes, keeps, ended),
+        Do::Change(change, n) => {
+            let told = files::changed(sftp, path, change, ended)?;
+            Ok(told == (n, n as u64))
+        }
+        Do::Copy(keeps) => Ok(files::copy(sftp, path, bytes, keeps, ended).is_ok()),
+        Do::Wait => polls::wait(alloc, sftp, path, bytes, ended),
+        Do::Uploads => streams::uploads(sftp, path, bytes, ended),
+        Do::Downloads => streams::downloads(alloc, sftp, path, bytes, ended),
+        Do::Move => Ok(files::moved(sftp, path, ended)? == 4),
+        Do::Buffered => buffered::plays(alloc, sftp, path, ended),
+        _ => path_step(alloc, sftp, step),
     }
 }
 
-/// Returns true if a step of names went as it says.
-fn name_step(alloc: Global, sftp: &mut Session, step: Step) -> Result<bool, Error>
+/// Returns true if an operation on a path went as it says.
+fn path_step(alloc: Global, sftp: &mut Session, step: Step) -> Result<bool, Error>
     requires { IsSome (info_of sftp.old.core.phase) }
 {
-    let answer = match step {
-        Step::MakeDir(path) => names::make_dir(alloc, sftp, path),
-        Step::RemoveDir(path) => names::remove_dir(alloc, sftp, path),
-        Step::RemoveFile(path) => names::remove_file(alloc, sftp, path),
-        Step::Rename(from, to) => names::rename(alloc, sftp, from, to),
-        Step::Lists(path, names) => return names::lists(alloc, sftp, path, names),
-        _ => return Ok(false),
-    };
-    answer?;
-    Ok(true)
+    let (what, path, bytes) = step;
+    match what {
+        Do::Write(true) => Ok(paths::write_on(alloc, sftp, path, bytes).is_ok()),
+        Do::Write(false) => Ok(paths::write(alloc, sftp, path, bytes).is_ok()),
+        Do::Holds(true) => Ok(paths::read_on(alloc, sftp, path)?.as_slice() == bytes),
+        Do::Holds(false) => Ok(paths::read(alloc, sftp, path)?.as_slice() == bytes),
+        Do::Name(naming) => Ok(names::name(alloc, sftp, naming, path, bytes).is_ok()),
+        Do::Link => {
+            let told = names::name(alloc, sftp, Naming::HardLink, path, bytes);
+            Ok(matches!(told, Err(Error::SftpError { code: 8, .. })))
+        }
+        Do::HasLen(len) => Ok(names::len_in(alloc, sftp, path, bytes)? == Some(len)),
+        Do::Denotes => Ok(names::whole(alloc, sftp, path)?.as_bytes() == bytes),
+        _ => Ok(false),
+    }
 }
 
 /// Returns how many steps went as they say, before one that did not.
@@ -79,6 +101,11 @@ fn steps_met(alloc: Global, sftp: &mut Session, steps: &[Step], ended: Ended) ->
     met
 }
 
+/// Returns true if the directory of a session has these names alone.
+fn lists(alloc: Global, sftp: &mut Session, names: &[&[u8]], ended: Ended) -> bool {
+    is_open(sftp) && names::lists(alloc, sftp, b".", names, ended) == Ok(true)
+}
+
 /// Returns the server of a session that ends, if all was answered.
 fn server_left(sftp: Session) -> Result<MapServer, Fail> {
     let mut sftp = sftp;
@@ -91,25 +118,24 @@ fn server_left(sftp: Session) -> Result<MapServer, Fail> {
     }
 }
 
-/// Returns what is left of a server: how many files and directories, and whether the file is the one of the last step.
-fn left(server: &MapServer) -> (u64, u64, bool) {
+/// Returns what is left of a server: how many files and directories, whether the file is the one of the last step, and
+/// whether nothing comes any more.
+fn left(server: &mut MapServer) -> (u64, u64, bool, bool) {
     let is_file = match server.file(0) {
-        Some((name, bytes)) => name == NAME && bytes == HELLO,
+        Some((name, bytes)) => name == NAME && bytes == LAST,
         None => false,
     };
-    (server.file_count(), server.dir_count(), is_file)
+    let is_over = server.recv(&mut [0; 8]) == Ok(0) && server.is_ended();
+    (server.file_count(), server.dir_count(), is_file, is_over)
 }
 
-/// Returns how many steps went as they say over a server, and what is left of it.
-fn toured(
-    alloc: Global,
-    server: MapServer,
-    ended: Ended,
-) -> Result<(usize, (u64, u64, bool)), Fail> {
+/// Returns how many steps went as they say over a server, and whether the server is left as they say.
+fn toured(alloc: Global, server: MapServer, ended: Ended) -> Result<(usize, bool), Fail> {
     let mut sftp = open_session(alloc, server)?;
     let met = steps_met(alloc, &mut sftp, STEPS, ended);
-    let server = server_left(sftp)?;
-    Ok((met, left(&server)))
+    let listed = lists(alloc, &mut sftp, &[NAME], ended);
+    let mut server = server_left(sftp)?;
+    Ok((met, listed && left(&mut server) == (1, 0, true, true)))
 }
 
 #[test]
@@ -119,61 +145,59 @@ fn tours(rt: HostRuntime) -> Result<(), Fail> {
     for (cut, cap, picks) in SERVERS {
         let server = server(alloc, cut, cap, picks)?;
         let told = toured(alloc, server, ended)?;
-        assert_eq!(rt;
-            told,
-            (STEPS.len(), (1, 0, true)),
-            "at a cut of {cut} and a cap of {cap}"
-        );
+        assert_eq!(rt; told, (STEPS.len(), true), "at a cut of {cut}");
     }
     Ok(())
 }
 
 /// The most bytes that a server moves a call, 0 for no limit, the most bytes of a DATA, and its picks of the replies that
 /// wait.
-const SERVERS: [(u32, u32, &[u32]); 4] = [
-    (0, 0, &[]),
-    (1, 0, &[]),
-    (7, 2, &[]),
-    (0, 3, &[1, 2, 1, 1, 2, 2, 1, 1, 2, 1, 1, 2, 2, 1, 1, 2]),
-];
+const SERVERS: [(u32, u32, &[u32]); 3] = [(0, 0, &[]), (1, 0, &[]), (7, 2, &[1, 2, 1, 1, 2, 2, 1])];
 
-/// The file that is left.
+/// The file that is left, and its bytes.
 const NAME: &[u8] = b"n";
+
+const LAST: &[u8] = b"helloWORLDd";
 
 /// Eleven bytes.
 const HELLO: &[u8] = b"hello world";
 
 const STEPS: &[Step] = &[
-    Step::Put(b"a", HELLO),
-    Step::BeginsWith(b"a", HELLO),
-    Step::BeginsWith(b"a", b"hell"),
-    Step::Holds(b"a", HELLO),
-    Step::Downloads(b"a", HELLO),
-    Step::HasLen(b"a", 11),
-    Step::MakeDir(b"d"),
-    Step::Lists(b".", &[b"a", b"d"]),
-    Step::Write(b"d/b", b"by its path"),
-    Step::Holds(b"d/b", b"by its path"),
-    Step::Uploads(b"d/c", HELLO),
-    Step::Holds(b"d/c", HELLO),
-    Step::Put(b"d/e", b""),
-    Step::Holds(b"d/e", b""),
-    Step::Downloads(b"d/e", b""),
-    Step::HasLen(b"d/e", 0),
-    Step::Lists(b"d", &[b"b", b"c", b"e"]),
-    Step::Copy(b"d/b", b"d/f"),
-    Step::Holds(b"d/f", b"by its path"),
-    Step::Put(b"d/f", b"emptied first"),
-    Step::Holds(b"d/f", b"emptied first"),
-    Step::Rename(b"a", b"d/a"),
-    Step::Lists(b".", &[b"d"]),
-    Step::Holds(b"d/a", HELLO),
-    Step::RemoveFile(b"d/b"),
-    Step::RemoveFile(b"d/c"),
-    Step::RemoveFile(b"d/e"),
-    Step::RemoveFile(b"d/f"),
-    Step::Lists(b"d", &[b"a"]),
-    Step::Rename(b"d/a", b"n"),
-    Step::RemoveDir(b"d"),
-    Step::Lists(b".", &[b"n"]),
+    (Do::Put(true), b"a", HELLO),
+    (Do::Put(false), b"b", HELLO),
+    (Do::BeginsWith(true), b"a", HELLO),
+    (Do::BeginsWith(false), b"b", b"hell"),
+    (Do::Write(true), b"a", HELLO),
+    (Do::Write(false), b"b", b""),
+    (Do::Holds(true), b"a", HELLO),
+    (Do::Holds(false), b"b", b""),
+    (Do::Move, b"a", b""),
+    (Do::Wait, b"a", b"b"),
+    (Do::Uploads, b"b", HELLO),
+    (Do::Downloads, b"b", HELLO),
+    (Do::Change(Change::Write, 3), b"b", b""),
+    (Do::Holds(false), b"b", b"xyz"),
+    (Do::Change(Change::WritePieces, 3), b"b", b""),
+    (Do::Holds(false), b"b", b"xyz"),
+    (Do::Change(Change::WriteUncopied, 3), b"b", b""),
+    (Do::Holds(false), b"b", b"xyz"),
+    (Do::Change(Change::Permissions, 0), b"b", b""),
+    (Do::Change(Change::Sync, 0), b"b", b""),
+    (Do::Change(Change::Len, 0), b"b", b""),
+    (Do::Holds(false), b"b", b"\0\0\0\0\0"),
+    (Do::Copy(true), b"a", b"b"),
+    (Do::Holds(false), b"b", b"hello"),
+    (Do::Copy(false), b"a", b"b"),
+    (Do::Holds(false), b"b", HELLO),
+    (Do::Name(Naming::MakeDir), b"d", b""),
+    (Do::Name(Naming::Permissions), b"b", b""),
+    (Do::Link, b"b", b"c"),
+    (Do::Name(Naming::Rename), b"b", b"d/b"),
+    (Do::HasLen(11), b"d", b"b"),
+    (Do::Denotes, b"d/./b", b"/d/b"),
+    (Do::Name(Naming::RemoveFile), b"d/b", b""),
+    (Do::Name(Naming::RemoveDir), b"d", b""),
+    (Do::Buffered, b"a", b""),
+    (Do::Holds(false), b"a", LAST),
+    (Do::Name(Naming::Rename), b"a", NAME),
 ];

@@ -1,5 +1,3 @@
-mod Within
-mod WindowRange
 mod PlanCases1a
 mod PlanCases1b
 mod PlanCases2a

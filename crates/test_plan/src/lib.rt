@@ -1,15 +1,3 @@
-//! Tests of the runners of plans by their public calls: the requests asked, and whole calls reply by reply.
+//! States of plans, each with the move or the site that an independent model gives: they test the definitions of
+//! `plan_model`, and no code.
 #![tactic(auto)]
-
-#[cfg(test)]
-mod buffered;
-#[cfg(test)]
-mod local;
-#[cfg(test)]
-mod setting;
-#[cfg(test)]
-mod tell;
-#[cfg(test)]
-mod whole;
-#[cfg(test)]
-mod whole_reads;

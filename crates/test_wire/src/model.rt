@@ -1,4 +1,5 @@
 //! Tests of copies, contents and paths of the model, and of the texts of its errors.
+use bitflags::Flags;
 use bytes::Bytes;
 use sftp_model::*;
 use sftp_values::{ByteText, Same, is_same};
@@ -104,4 +105,41 @@ fn texts_of_frame_errors(rt: HostRuntime) -> Result<(), Fail> {
     let text = format!(in rt.alloc(); "{}", FrameError::HandleTooLong { len: 257 })?;
     assert!(rt; text.as_str() == "a handle has 257 bytes, and at most 256 are allowed");
     Ok(())
+}
+
+/// Returns the options of these letters: read, write, append, truncate, create, create_new.
+fn options(letters: &str) -> OpenOptions {
+    let mut options = OpenOptions::default();
+    for letter in letters.bytes() {
+        let _ = match letter {
+            b'r' => options.read(true),
+            b'w' => options.write(true),
+            b'a' => options.append(true),
+            b't' => options.truncate(true),
+            b'c' => options.create(true),
+            _ => options.create_new(true),
+        };
+    }
+    options
+}
+
+/// Checks the flags of an OPEN by the draft's section 6.3.
+#[test]
+fn flags(rt: HostRuntime) {
+    let rows = [
+        ("", 0),
+        ("r", 1),
+        ("w", 2),
+        ("a", 2 + 4),
+        ("rwa", 1 + 2 + 4),
+        ("t", 0),
+        ("wt", 2),
+        ("wc", 2 + 8),
+        ("wtc", 2 + 8 + 16),
+        ("wn", 2 + 8 + 32),
+        ("wtcn", 2 + 8 + 32),
+    ];
+    for (letters, bits) in rows {
+        assert!(rt; options(letters).flags().bits() == bits, "at {letters}");
+    }
 }

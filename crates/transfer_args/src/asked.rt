@@ -3,7 +3,7 @@ use crate::options::Options;
 
 /// The direction in which files are copied.
 ///
-/// Example: `crates/transfer_pool/src/tests.rt`.
+/// Example: `crates/sftp_transfer/src/work.rt`.
 #[derive(Clone, Copy, Debug, PartialEq, Eq)]
 pub enum Direction {
     /// From the server.

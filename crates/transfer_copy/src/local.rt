@@ -8,7 +8,7 @@ use std::io;
 
 /// The error of a call on a local file.
 ///
-/// Example: `crates/transfer_pool/src/tests.rt`.
+/// Example: `crates/sftp_transfer/src/system.rt`.
 #[derive(Drop)]
 pub enum LocalError {
     /// Out of memory.
@@ -30,7 +30,7 @@ impl From<io::Error> for LocalError {
 
 /// A local file to copy from or to.
 ///
-/// Example: `crates/transfer_pool/src/tests.rt`.
+/// Example: `crates/sftp_transfer/src/system.rt`.
 pub trait LocalFile {
     // Records the operations that were done.
     ghost History: { Type 0 };

@@ -12,7 +12,7 @@ use std::alloc::Global;
 
 /// An entry that was found below a root, or the root itself.
 ///
-/// Example: `crates/transfer_plan/src/job_tests.rt`.
+/// Example: `crates/sftp_transfer/src/batch.rt`.
 #[derive(Debug, Drop)]
 pub struct Found {
     /// The task for it.

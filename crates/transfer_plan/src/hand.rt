@@ -8,7 +8,7 @@ use crate::tally::Tally;
 
 /// The result of a job.
 ///
-/// Example: `crates/transfer_plan/src/job_tests.rt`.
+/// Example: `crates/sftp_transfer/src/courier.rt`.
 #[derive(Clone, Copy, Debug, PartialEq, Eq)]
 pub enum JobVerdict {
     /// The job was done.
@@ -21,7 +21,7 @@ pub enum JobVerdict {
 
 /// Carries out the jobs of a transfer, each by its task, and reports why one was not done.
 ///
-/// Example: `crates/transfer_plan/src/job_tests.rt`.
+/// Example: `crates/sftp_transfer/src/courier.rt`.
 pub trait Hand {
     // Records the jobs that were carried out.
     ghost History: { Type 0 };

@@ -8,16 +8,10 @@ mod component;
 mod cut;
 mod found;
 mod hand;
-#[cfg(test)]
-mod job_tests;
 mod path_set;
-#[cfg(test)]
-mod path_tests;
 mod tally;
 mod task;
 mod walk;
-#[cfg(test)]
-mod walk_tests;
 
 pub use apart::keep_apart;
 pub use below::path_in;

@@ -13,7 +13,7 @@ use std::marker::Model;
 /// The tally of the jobs so far. A contract sees two flags and a list. The flags are true if all jobs were done, and if
 /// no other can be done. The list has the directories that were not created.
 ///
-/// Example: `crates/transfer_plan/src/job_tests.rt`.
+/// Example: `crates/sftp_transfer/src/courier.rt`.
 #[derive(Drop)]
 pub struct Tally {
     all_done: bool,

@@ -11,7 +11,7 @@ pub const MAX_DEPTH: u32 = 64;
 
 /// The type of a directory entry, as the directory's listing reports it.
 ///
-/// Example: `crates/transfer_plan/src/walk_tests.rt`.
+/// Example: `crates/sftp_transfer/src/local_side.rt`.
 #[derive(Clone, Copy, Debug, PartialEq, Eq)]
 pub enum EntryKind {
     /// A regular file.
@@ -26,7 +26,7 @@ pub enum EntryKind {
 
 /// The task for an entry that was found.
 ///
-/// Example: `crates/transfer_plan/src/walk_tests.rt`.
+/// Example: `crates/sftp_transfer/src/courier.rt`.
 #[derive(Clone, Copy, Debug, PartialEq, Eq)]
 pub enum Task {
     /// Copies a regular file.

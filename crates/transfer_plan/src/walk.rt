@@ -16,7 +16,7 @@ pub const MAX_ENTRIES: usize = 1_000_000;
 
 /// The reason why an entry was not added.
 ///
-/// Example: `crates/transfer_plan/src/walk_tests.rt`.
+/// Example: `crates/sftp_transfer/src/local_side.rt`.
 #[derive(Clone, Copy, Debug, Drop, PartialEq, Eq)]
 pub enum WalkError {
     /// The walk has 1000000 entries already.
@@ -48,7 +48,7 @@ impl From<OutOfMemory> for WalkError {
 /// A walk in progress: the entries found, each directory before its contents, and the directory whose entries are being
 /// added. A contract sees these fields.
 ///
-/// Example: `crates/transfer_plan/src/walk_tests.rt`.
+/// Example: `crates/sftp_transfer/src/local_side.rt`.
 #[derive(Drop)]
 pub struct Walk {
     found: Vec<Found>,

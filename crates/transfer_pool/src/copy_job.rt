@@ -13,7 +13,7 @@ use transfer_copy::{CopyError, FileGet, FilePut, LocalFile, Progress};
 
 /// A file to copy: it is written as `part`, and renamed to `to` when all its bytes are there.
 ///
-/// Example: `crates/transfer_pool/src/tests.rt`.
+/// Example: `crates/sftp_transfer/src/copy.rt`.
 #[derive(Drop)]
 pub struct CopyJob {
     pub way: Direction,
@@ -50,7 +50,7 @@ pub struct Running<F> {
 
 /// A copy that has ended: with the number of bytes, or the reason why it failed.
 ///
-/// Example: `crates/transfer_pool/src/tests.rt`.
+/// Example: `crates/sftp_transfer/src/batch.rt`.
 #[derive(Drop)]
 pub struct Copied<F> {
     pub job: CopyJob,

@@ -15,7 +15,7 @@ use transfer_copy::{CopyError, LocalFile};
 
 /// A file to copy, and its local file, on which nothing was done.
 ///
-/// Example: `crates/transfer_pool/src/tests.rt`.
+/// Example: `crates/sftp_transfer/src/batch.rt`.
 #[derive(Drop)]
 pub struct Wanted<F> {
     pub job: CopyJob,
@@ -24,7 +24,7 @@ pub struct Wanted<F> {
 
 /// The files to copy, and the receiver of their results.
 ///
-/// Example: `crates/transfer_pool/src/tests.rt`.
+/// Example: `crates/sftp_transfer/src/batch.rt`.
 pub trait CopyJobs {
     /// The local files.
     type File: LocalFile + Drop;

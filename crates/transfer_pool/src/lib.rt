@@ -12,6 +12,3 @@ pub use jobs::{CopyJobs, Wanted, copy_all};
 pub use round::turn;
 pub use transfer_args::Direction;
 pub use transfer_copy::{CopyError, LocalError, LocalFile, Progress};
-
-#[cfg(test)]
-mod tests;

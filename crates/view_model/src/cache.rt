@@ -16,7 +16,7 @@ use std::num::NonZeroUsize;
 /// The blocks that were used last, with their bytes, the number of hits and the number of misses. A contract sees the
 /// capacity and the blocks that the definitions keep.
 ///
-/// Example: `crates/view_model/src/tests.rt`.
+/// Example: `crates/sftp_view/src/ops.rt`.
 #[derive(Drop)]
 pub struct BlockCache {
     blocks: LruCache<BlockKey, ByteText>,

@@ -12,7 +12,7 @@ use std::hash::{Hash, Hasher};
 /// A block of a file: the components of the file's name, and the number of the block, of which the first is 0. Two
 /// paths that denote one file have the same keys.
 ///
-/// Example: `crates/view_model/src/tests.rt`.
+/// Example: `crates/sftp_view/src/ops.rt`.
 #[derive(Debug, Drop)]
 pub struct BlockKey {
     pub name: Items<ByteText>,

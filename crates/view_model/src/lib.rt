@@ -10,12 +10,8 @@ mod found;
 mod key;
 mod length;
 mod list;
-#[cfg(test)]
-mod list_tests;
 mod op;
 mod part;
-#[cfg(test)]
-mod tests;
 mod text;
 
 pub use answer::Answer;

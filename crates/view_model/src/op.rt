@@ -3,7 +3,7 @@ use sftp_values::ByteText;
 
 /// An operation on a view. Offsets and lengths are in bytes.
 ///
-/// Example: `crates/view_model/src/list_tests.rt`.
+/// Example: `crates/sftp_view/src/ops.rt`.
 #[derive(Debug, Drop, PartialEq, Eq)]
 pub enum ViewOp {
     /// Reads at most `len` bytes of the file at a path, from an offset on.

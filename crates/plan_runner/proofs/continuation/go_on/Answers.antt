@@ -5,7 +5,7 @@ pub returns-in_ok-read_replied-in-Reading : goal.returns-in_ok-read_replied-in-R
 returns-in_ok-read_replied-in-Reading c = record {
   goes = search rules;
   left = search rules;
-  sound = (c.read_replied.ensures.sound c.args.facts.now, tt);
+  sound = (c.read_replied.ensures.sound c.args.turn.facts, tt);
   pends = search rules;
   asks = search rules;
   by = search rules;
@@ -16,7 +16,7 @@ pub returns-in-Copying : goal.returns-in-Copying
 returns-in-Copying c = record {
   goes = search rules;
   left = search rules;
-  sound = (c.copy_replied.ensures.sound c.args.facts.now, tt);
+  sound = (c.copy_replied.ensures.sound c.args.turn.facts, tt);
   pends = search rules;
   asks = search rules;
   by = search rules;
@@ -27,7 +27,7 @@ pub returns-in-Sending : goal.returns-in-Sending
 returns-in-Sending c = record {
   goes = search rules;
   left = search rules;
-  sound = (c.write_replied.ensures.sound c.args.facts.now, tt);
+  sound = (c.write_replied.ensures.sound c.args.turn.facts, tt);
   pends = search rules;
   asks = search rules;
   by = search rules;
@@ -82,7 +82,7 @@ pub returns-in_ok-filled_replied-in-FillingBuffer : goal.returns-in_ok-filled_re
 returns-in_ok-filled_replied-in-FillingBuffer c = record {
   goes = search rules;
   left = search rules;
-  sound = (c.filled_replied.ensures.sound c.args.facts.now, tt);
+  sound = (c.filled_replied.ensures.sound c.args.turn.facts, tt);
   pends = search rules;
   asks = search rules;
   by = search rules;

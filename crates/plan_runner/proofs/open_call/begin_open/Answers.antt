@@ -8,6 +8,6 @@ returns c = record {
   left = search rules;
   sound = search rules;
   pends = search rules;
-  asks = open_asks c.args.place c.args.slot c.flags-flags.result c.new-path.result c.args.site.now
+  asks = open_asks c.args.turn.place c.args.slot c.flags-flags.result c.new-path.result c.args.site.now
       c.open_request-request.result c.open_request-request.ensures;
 }

@@ -5,6 +5,6 @@ use Rattle.plan_runner.proofs.write_call.write_rest.Goals as goal
 pub returns-clause-asks : goal.returns-clause-asks
 returns-clause-asks c = record {
   offset = search rules;
-  grants = λ site opened has. write_on opened c.args.place c.args.slot c.args.file c.args.done
+  grants = λ site opened has. write_on opened c.args.turn.place c.args.slot c.args.file c.args.done
       c.in_ok-content_of.field-0 site has;
 }

@@ -3,8 +3,8 @@ use Rattle.mirror_jobs.specs.JobLanes.{lanes_of}
 use Rattle.program_shell.proofs.Stopping.{only_for_memory}
 use Rattle.sftp_mirror.proofs.printed.copy_served.Goals as goal
 
-pub want_of_memory-requires : goal.want_of_memory-requires
-want_of_memory-requires c =
+pub out_of_memory_from-requires : goal.out_of_memory_from-requires
+out_of_memory_from-requires c =
     only_for_memory (session_inputs (lanes_of c.args.schedule.width c.args.jobs.now) c.args.options.now)
     c.args.server.now
     c.copy_jobs-result.new.link c.in-Err.error c.requires.may.lanes c.requires.unopened c.requires.quiet

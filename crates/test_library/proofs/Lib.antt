@@ -1,2 +1,0 @@
-mod Awaited
-mod Keeping
