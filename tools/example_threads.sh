@@ -295,13 +295,15 @@ fi
 
 # ---- servers that end in the middle: after so many bytes of what they are told, or of what they tell
 
+# Behind `head` the server of `tells` is killed, since it would wait for requests if all its replies had gone into the pipe.
 for part in 'hears 5' 'hears 40' 'hears 3000' 'hears 100000' 'tells 3000' 'tells 100000'; do
     kind=${part% *}
     bytes=${part#* }
     if [ "$kind" = hears ]; then
         printf '#!/bin/sh\nstdbuf -o0 head -c %s | %s\n' "$bytes" "$server" >"$room/$kind$bytes"
     else
-        printf '#!/bin/sh\n%s | stdbuf -o0 head -c %s\n' "$server" "$bytes" >"$room/$kind$bytes"
+        printf '#!/bin/sh\nsh -c '\''echo $$ >%s/teller; exec %s'\'' | {\n    stdbuf -o0 head -c %s\n    kill -9 $(cat %s/teller)\n}\n' \
+            "$room" "$server" "$bytes" "$room" >"$room/$kind$bytes"
     fi
     chmod +x "$room/$kind$bytes"
     rm -rf "$room/up"
