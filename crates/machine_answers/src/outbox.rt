@@ -2,7 +2,7 @@
 ghost use Rattle.std.specs.Prelude.{◌≡◌, ◌<◌, ◌≤◌, ◌-◌, ◌∷◌, ◌++◌, [], length, take, drop, OnOk, OnErr};
 ghost use Rattle.machine_answers.specs.WaitingFrames.{WaitingFrames, with_next_picked, index_of};
 
-use sftp_values::{ByteText, Items};
+use sftp_values::Items;
 use ssh_encoding::OutOfMemory;
 use std::alloc::Global;
 use std::collections::VecDeque;
@@ -16,7 +16,7 @@ use std::marker::Model;
 pub struct Outbox {
     ready: Vec<u8>,
     given: usize,
-    waiting: VecDeque<ByteText>,
+    waiting: VecDeque<Items<u8>>,
     picks: Items<u32>,
     used: usize,
 }
@@ -68,7 +68,7 @@ impl Outbox {
     /// # Errors
     ///
     /// `OutOfMemory` if an allocation fails; nothing is changed.
-    pub fn hold(&mut self, frame: ByteText) -> Result<(), OutOfMemory>
+    pub fn hold(&mut self, frame: Items<u8>) -> Result<(), OutOfMemory>
         ensures held { OnOk result (self.new ≡ record {
           ready = self.old.ready;
           waiting = self.old.waiting ++ frame ∷ [];

@@ -75,7 +75,7 @@ pub fn go_on(
             Ok(Next::Done(open_replied(place, slot, flags, reply, site)))
         }
         Running::Reading { slot, file, .. } => {
-            Ok(Next::Done(read_replied(turn.alloc, slot, file, reply, site)?))
+            Ok(Next::Done(read_replied(slot, file, reply, site)))
         }
         Running::Gathering {
             place: awaited,

@@ -111,10 +111,10 @@ pub fn begin_read_all(
 }
 
 /// Returns the bytes of both, in this order. Fails only if an allocation fails.
-pub(crate) fn joined(got: ByteText, more: &[u8]) -> Result<ByteText, OutOfMemory>
+pub(crate) fn joined(alloc: Global, got: ByteText, more: &[u8]) -> Result<ByteText, OutOfMemory>
     ensures { IfOk result (λ bytes. bytes ≡ got ++ more.now) }
 {
-    let mut bytes = got.into_vec();
+    let mut bytes = got.into_vec(alloc)?;
     bytes.extend_from_slice(more)?;
     Ok(ByteText::new(bytes))
 }
@@ -136,7 +136,7 @@ fn content_came(
         (Some (reply.Content content))) bytes turn.place site.old site.new turn.facts result }
 {
     let count = content.len() as u64;
-    let all = joined(got, content.as_slice())?;
+    let all = joined(turn.alloc, got, content.as_slice())?;
     let moved = FileAt {
         offset: read.file.offset + count,
         ..read.file

@@ -1,5 +1,5 @@
 //! `read`: at most n bytes at the file's offset.
-ghost use Rattle.std.specs.Prelude.{[], ◌≡◌, ◌<◌, length, Some, None, IfOk, OnErr};
+ghost use Rattle.std.specs.Prelude.{[], ◌≡◌, ◌<◌, length, Some, None};
 ghost use Rattle.sftp_model.specs.declared.slot.Move.TheVariants.{Done};
 ghost use Rattle.sftp_model.specs.declared.slot.Facts.{Facts as FactsValue};
 ghost use Rattle.plan_model.specs.declared.call.Call.TheVariants as call;
@@ -17,8 +17,6 @@ use crate::site::{set_slot, slot_of};
 use sftp_model::numbers::SSH_FX_EOF;
 use sftp_model::{Error, Facts, FileAt, IoKind, Outcome, Reply, Site, Slot};
 use sftp_values::ByteText;
-use ssh_encoding::OutOfMemory;
-use std::alloc::Global;
 
 /// Reads at most `n` bytes of the file in a slot.
 pub fn begin_read(slot: u8, n: u32, place: u64, site: &Site, facts: &Facts) -> Next
@@ -55,32 +53,23 @@ pub fn begin_read(slot: u8, n: u32, place: u64, site: &Site, facts: &Facts) -> N
     )
 }
 
-/// Processes the reply to a READ: the file's offset is moved past the bytes of a DATA. Fails only if an allocation
-/// fails; `site` is unchanged.
+/// Processes the reply to a READ: the file's offset is moved past the bytes of a DATA, which the outcome shares.
 #[tactic(auto, using(crate::proofs::Fewer::fewer_file))]
-pub(crate) fn read_replied(
-    alloc: Global,
-    slot: u8,
-    file: FileAt,
-    reply: Reply,
-    site: &mut Site,
-) -> Result<Outcome, OutOfMemory>
+pub(crate) fn read_replied(slot: u8, file: FileAt, reply: Reply, site: &mut Site) -> Outcome
     requires within { slot < length site.old.slots }
     requires room { HasRoom file reply }
-    ensures gives { IfOk result (λ o. was_read slot file site.old reply ≡ Done o site.new) }
-    ensures unchanged { OnErr result (site.new ≡ site.old) }
+    ensures gives { was_read slot file site.old reply ≡ Done result site.new }
     ensures sound { (facts : FactsValue) → KeepsSite facts site.old site.new }
     ensures fewer { AwaitsNoMore site.old site.new }
 {
     match reply {
         Reply::Content(bytes) => {
-            let copy = ByteText::new(Vec::from_slice(alloc, bytes.as_slice())?);
             let moved = FileAt {
                 offset: file.offset + bytes.len() as u64,
                 ..file
             };
             set_slot(site, slot, Slot::File(moved));
-            Ok(Outcome::Bytes(copy))
+            Outcome::Bytes(ByteText::shared(bytes))
         }
         Reply::Status {
             code,
@@ -88,10 +77,10 @@ pub(crate) fn read_replied(
             language,
         } => {
             if code == SSH_FX_EOF {
-                return Ok(Outcome::End);
+                return Outcome::End;
             }
-            Ok(status_refusal(code, message, language))
+            status_refusal(code, message, language)
         }
-        _ => Ok(Outcome::Refused(Error::InvalidResponse { id: None })),
+        _ => Outcome::Refused(Error::InvalidResponse { id: None }),
     }
 }

@@ -169,13 +169,16 @@ fn decide(
             Poll::Pending,
             Whole::Open(grant, reads, tickets),
         ),
-        Ok(WindowMove::Whole(bytes)) => {
-            finish(core, grant, tickets);
-            (
-                Poll::Ready(Ok(BytesMut::from_vec(bytes.into_vec()))),
-                Whole::Ended,
-            )
-        }
+        Ok(WindowMove::Whole(bytes)) => match bytes.into_vec(core.alloc()) {
+            Err(_) => (
+                Poll::Ready(Err(Error::OutOfMemory)),
+                Whole::Open(grant, reads, tickets),
+            ),
+            Ok(bytes) => {
+                finish(core, grant, tickets);
+                (Poll::Ready(Ok(BytesMut::from_vec(bytes))), Whole::Ended)
+            }
+        },
         Ok(WindowMove::GivenUp) => unreachable!(),
     }
 }

@@ -11,7 +11,7 @@ use std::marker::Model;
 /// A link that receives from a source and sends to a sink, as a program does over its standard input and output. It
 /// keeps no log, and its faults are those of both.
 ///
-/// Example: `crates/test_client/src/link.rt`.
+/// Example: `crates/sftp_serve/src/main.rt`.
 #[derive(Drop)]
 pub struct Duplex<S, K> {
     source: S,

@@ -12,7 +12,7 @@ ghost use Rattle.sftp_map_server.specs.Serving.{at_once, gives_within as gives_w
 use bitflags::Flags;
 use machine_answers::{Machine, Outbox, gives_within};
 use sftp_model::{Choice, Extensions, FrameError, Reply, Request, ServerConfig};
-use sftp_values::{ByteText, Items};
+use sftp_values::Items;
 use sftp_wire::{read_request, write_reply};
 use ssh_encoding::OutOfMemory;
 use std::alloc::Global;
@@ -229,7 +229,7 @@ impl ServerState {
         }
         let answered = self.machine.answer(request, choice)?;
         let frame = frame_of(self.alloc, answered.reply(), id_of(id))?;
-        outbox.hold(ByteText::new(frame))?;
+        outbox.hold(Items::new(frame))?;
         if self.machine.commit(answered).is_err() {
             outbox.take_back();
             return Err(OutOfMemory);

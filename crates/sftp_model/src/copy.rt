@@ -35,7 +35,7 @@ pub(crate) fn copies_of<T: TryCopy + Drop>(
 
 impl TryCopy for ByteText {
     fn try_copy(&self, alloc: Global) -> Result<ByteText, OutOfMemory> {
-        Ok(ByteText::new(Vec::from_slice(alloc, self.as_slice())?))
+        Ok(self.try_clone(alloc)?)
     }
 }
 

@@ -36,7 +36,8 @@ impl SftpOptions {
         }
     }
 
-    /// Sets for how many microseconds a request may stay unsent if a task flushes in the background.
+    /// Sets for how many microseconds a request may stay unsent. It has no effect in the crates here, which send without
+    /// waiting for more.
     pub fn flush_interval(mut self, micros: u64) -> SftpOptions
         ensures { result ≡ record self { flush_interval = micros } }
     {
