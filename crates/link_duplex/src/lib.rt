@@ -16,6 +16,3 @@ pub use sftp_link::{DeviceError, Link, LinkIn, LinkOut, LinkState};
 pub use standard::{StandardStreams, StdioOutput, StdioWire, over_stdio, release_stdio};
 pub use stream::{StreamWire, UnixWire, over_unix};
 pub use wire::{Readiness, Wire};
-
-#[cfg(test)]
-mod tests;

@@ -13,7 +13,7 @@ use std::marker::Model;
 
 /// A source in memory. Its calls with listed numbers fail.
 ///
-/// Example: `crates/test_client/src/link.rt`.
+/// Example: `crates/test_link/src/link.rt`.
 #[derive(Drop)]
 pub struct MemorySource {
     bytes: Vec<u8>,
@@ -72,7 +72,7 @@ impl Source for MemorySource {
 
 /// A sink in memory. Its calls with listed numbers fail.
 ///
-/// Example: `crates/test_client/src/link.rt`.
+/// Example: `crates/test_link/src/link.rt`.
 #[derive(Drop)]
 pub struct MemorySink {
     bytes: Vec<u8>,

@@ -17,7 +17,7 @@ pub enum Piece {
 
 /// The next item of a scripted link.
 ///
-/// Example: `crates/test_client/src/link.rt`.
+/// Example: `crates/test_link/src/link.rt`.
 #[derive(Debug, Drop, PartialEq, Eq)]
 pub enum Scripted {
     /// These bytes.

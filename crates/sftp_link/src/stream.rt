@@ -7,7 +7,7 @@ use crate::device_error::DeviceError;
 
 /// Bytes that come from the environment.
 ///
-/// Example: `crates/test_client/src/edge.rt`.
+/// Example: `crates/test_link/src/edge.rt`.
 pub trait Source {
     // The bytes that are left, if it reports them, and how often it failed.
     ghost state: { Self → SourceView };
@@ -25,7 +25,7 @@ pub trait Source {
 
 /// A receiver of bytes in the environment.
 ///
-/// Example: `crates/test_client/src/edge.rt`.
+/// Example: `crates/test_link/src/edge.rt`.
 pub trait Sink {
     // The bytes that were written, if it reports them, and how often it failed.
     ghost state: { Self → SinkView };

@@ -1,15 +1,11 @@
-//! Tests of the libraries by their public calls: each call that no program makes, over the server in memory; what a
-//! session offers; and links over streams that fail.
+//! Tests of the libraries by their public calls: each call that no program makes, over the server in memory, and what a
+//! session offers.
 #![tactic(auto)]
 
 #[cfg(test)]
 mod buffered;
 #[cfg(test)]
-mod edge;
-#[cfg(test)]
 mod files;
-#[cfg(test)]
-mod link;
 #[cfg(test)]
 mod names;
 #[cfg(test)]
@@ -24,5 +20,3 @@ mod server;
 mod streams;
 #[cfg(test)]
 mod tour;
-#[cfg(test)]
-mod unix;

@@ -1,7 +1,7 @@
 //! Tests of a link over a peer in memory that writes each answer whole before it reads on, and over a pair of sockets.
 ghost use Rattle.std.specs.Prelude.{◌≡◌};
 
-use crate::{DuplexLink, Readiness, Wire, over_unix};
+use link_duplex::{DuplexLink, Readiness, Wire, over_unix};
 use sftp_link::{DeviceError, LinkIn, LinkOut, recv_exact, send_all};
 use std::alloc::Global;
 use std::os::unix::net::UnixStream;
