@@ -47,6 +47,7 @@ pub(crate) enum Advance<F> {
 /// Used in `crates/transfer_pool/src/jobs.rt`.
 #[must_use]
 pub struct Copier<F> {
+    alloc: Global,
     running: VecDeque<Running<F>>,
 }
 
@@ -64,6 +65,7 @@ impl<F: LocalFile + Drop> Copier<F> {
         ensures { result ≡ record { running = [] } }
     {
         Copier {
+            alloc,
             running: VecDeque::new(alloc),
         }
     }
@@ -81,13 +83,7 @@ impl<F: LocalFile + Drop> Copier<F> {
     /// # Errors
     ///
     /// `OutOfMemory` if an allocation fails; the copies are unchanged, and job and file are dropped.
-    pub fn begin(
-        &mut self,
-        alloc: Global,
-        job: CopyJob,
-        local: F,
-        window: u32,
-    ) -> Result<(), OutOfMemory>
+    pub fn begin(&mut self, job: CopyJob, local: F, window: u32) -> Result<(), OutOfMemory>
         ensures ok { OnOk result (self.new ≡ record self.old { running = self.old.running ++ record { job = job; local = local; state = job_begun job window } ∷ [] }) }
         ensures together { OnOk result ((core : CoreValue) → IsSome (info_of core.phase) → AreTogether core self.old.running → AreTogether core self.new.running) }
         ensures unchanged { OnErr result (self.new ≡ self.old) }
@@ -95,7 +91,7 @@ impl<F: LocalFile + Drop> Copier<F> {
         if self.running.reserve(1).is_err() {
             return Err(OutOfMemory);
         }
-        let state = CopyState::new(alloc, job.way, window, job.begins_at, job.attrs);
+        let state = CopyState::new(self.alloc, job.way, window, job.begins_at, job.attrs);
         self.running
             .push_back_reserved(Running { job, local, state });
         Ok(())
@@ -189,7 +185,7 @@ impl<F: LocalFile + Drop> Copier<F> {
         requires { AreTogether core.old self.running }
         ensures { SparesAll self.running core.old core.new }
     {
-        let Copier { mut running } = self;
+        let Copier { mut running, .. } = self;
         while let Some(copy) = running.pop_front() {
             copy.cancel(core);
         }

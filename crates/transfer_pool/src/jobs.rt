@@ -81,18 +81,13 @@ pub(crate) enum JobTurn {
 }
 
 /// Starts the copy of the next job.
-fn begin_next<J: CopyJobs>(
-    alloc: Global,
-    copier: &mut Copier<J::File>,
-    jobs: &mut J,
-    window: u32,
-) -> Beginning
+fn begin_next<J: CopyJobs>(copier: &mut Copier<J::File>, jobs: &mut J, window: u32) -> Beginning
     ensures { BeginsJob J.noted window copier.old copier.new (J.history jobs.old) (J.history jobs.new) result }
 {
     match jobs.next_job() {
         Some(wanted) => {
             let Wanted { job, local } = wanted;
-            match copier.begin(alloc, job, local, window) {
+            match copier.begin(job, local, window) {
                 Ok(()) => Beginning::Begun,
                 Err(OutOfMemory) => Beginning::Short,
             }
@@ -120,7 +115,7 @@ pub fn copy_all<L: Link, J: CopyJobs>(
     ensures copies { CopiesAll L.LinkState.state J.File.LocalFile.done J.File.LocalFile.history J.noted window (max files 1) sftp.old (J.history jobs.old) (J.history jobs.new) result }
 {
     let mut copier = Copier::new(alloc);
-    let done = run(alloc, &mut copier, sftp, jobs, files, window);
+    let done = run(&mut copier, sftp, jobs, files, window);
     copier.cancel(sftp.core());
     done
 }
@@ -150,7 +145,6 @@ fn tell_next<L: Link, J: CopyJobs>(
 /// Starts copies while there is room for them, and reports the result of each, until all jobs are done. Fails only if
 /// an allocation fails.
 fn run<L: Link, J: CopyJobs>(
-    alloc: Global,
     copier: &mut Copier<J::File>,
     sftp: &mut Sftp<L>,
     jobs: &mut J,
@@ -166,7 +160,7 @@ fn run<L: Link, J: CopyJobs>(
     let most = files.max(1);
     let mut more = true;
     for _ in 0..u64::MAX {
-        match job_turn(alloc, copier, sftp, jobs, more, most, window) {
+        match job_turn(copier, sftp, jobs, more, most, window) {
             JobTurn::On(now) => more = now,
             JobTurn::Over => return Ok(()),
             JobTurn::Stopped(e) => return Err(e),
@@ -178,7 +172,6 @@ fn run<L: Link, J: CopyJobs>(
 /// Starts the copy of the next job if there may be one and fewer copies than `most` are in progress. Otherwise reports
 /// the result of the next copy that ends.
 fn job_turn<L: Link, J: CopyJobs>(
-    alloc: Global,
     copier: &mut Copier<J::File>,
     sftp: &mut Sftp<L>,
     jobs: &mut J,
@@ -198,7 +191,7 @@ fn job_turn<L: Link, J: CopyJobs>(
         };
     }
     if copier.len() < most {
-        return match begin_next(alloc, copier, jobs, window) {
+        return match begin_next(copier, jobs, window) {
             Beginning::Begun => JobTurn::On(true),
             Beginning::NoJob => JobTurn::On(false),
             Beginning::Short => JobTurn::Stopped(CopyError::OutOfMemory),
