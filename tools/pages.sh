@@ -1,12 +1,13 @@
 #!/bin/sh
 # Compares the pages with the repository: crates.txt with what the crates cite, the table of docs/PROVED.md with the
-# definitions, and docs/ARCHITECTURE.md with the crates that exist.
+# definitions, docs/API.md with the public items, and docs/ARCHITECTURE.md with the crates that exist.
 set -u
 cd "$(dirname "$0")/.." || exit 1
 
 failed=0
 python3 tools/deps.py || { echo "pages: crates.txt lists other crates than these cite (python3 tools/deps.py --write)"; failed=1; }
 python3 tools/believe.py --check || failed=1
+python3 tools/apidoc.py --check || failed=1
 for crate in crates/*/; do
     name=$(basename "$crate")
     if ! grep -q "\`$name\`" docs/ARCHITECTURE.md; then
