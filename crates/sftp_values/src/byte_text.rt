@@ -20,7 +20,7 @@ pub(crate) enum Store {
 /// others share them.
 ///
 /// Example: `crates/example_threads/src/receipts.rt`.
-#[derive(Debug, Drop)]
+#[derive(Debug)]
 pub struct ByteText {
     store: Store,
 }
@@ -32,6 +32,13 @@ impl Model for ByteText {
     ghost Value = { List ℕ };
 
     ghost view = { λ t. bytes_in t.store };
+}
+
+impl Drop for ByteText {
+    /// Releases the bytes.
+    fn drop(self) {
+        let ByteText { store: _store } = self;
+    }
 }
 
 impl ByteText {
@@ -85,7 +92,8 @@ impl ByteText {
     pub fn into_vec(self, alloc: Global) -> Result<Vec<u8>, AllocError>
         ensures { IfOk result (λ bytes. bytes.items ≡ self) }
     {
-        match self.store {
+        let ByteText { store } = self;
+        match store {
             Store::Owned(bytes) => Ok(bytes),
             Store::Shared(bytes) => match bytes.try_into_mut() {
                 Ok(bytes) => Ok(bytes.into_vec()?),

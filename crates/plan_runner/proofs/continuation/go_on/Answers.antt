@@ -1,8 +1,8 @@
 use Rattle.std.proofs.Common.{rules}
 use Rattle.plan_runner.proofs.continuation.go_on.Goals as goal
 
-pub returns-in_ok-read_replied-in-Reading : goal.returns-in_ok-read_replied-in-Reading
-returns-in_ok-read_replied-in-Reading c = record {
+pub returns-in-Reading : goal.returns-in_ok-read_replied-in-Reading
+returns-in-Reading c = record {
   goes = search rules;
   left = search rules;
   sound = (c.read_replied.ensures.sound c.args.turn.facts, tt);
