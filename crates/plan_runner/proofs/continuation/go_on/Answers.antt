@@ -1,7 +1,7 @@
 use Rattle.std.proofs.Common.{rules}
 use Rattle.plan_runner.proofs.continuation.go_on.Goals as goal
 
-pub returns-in-Reading : goal.returns-in_ok-read_replied-in-Reading
+pub returns-in-Reading : goal.returns-in-Reading
 returns-in-Reading c = record {
   goes = search rules;
   left = search rules;
