@@ -19,6 +19,7 @@ use Rattle.plan_state.specs.Asked.{SubmitsAsking, request_of}
 use Rattle.plan_state.specs.Calls.{
   AsksAndAwaits,
   CallValue,
+  IfOutOfMemory,
   IsHeldAt,
   IsLeft,
   IsLeftAt,
@@ -181,6 +182,25 @@ over_ready stage (Err error.OutOfMemory) over own = absurd own
 over_ready stage (Err (error.BackgroundTaskFailure fault)) over own = absurd own
 over_ready stage (Err other) over own = over
 
+own_memory : {V : Type 0} (value : Result V Error) (P : Type 0) → IsOwn value → IfOutOfMemory (poll.Ready value) P
+own_memory (Ok value) P own = tt
+own_memory (Err error.OutOfMemory) P own = absurd own
+own_memory (Err other) P own = tt
+
+-- a poll that ran out of memory
+pub short_then : {V : Type 0} (result : Poll (Result V Error)) (P Q : Type 0) → (P → Q) → IfOutOfMemory result P
+    → IfOutOfMemory result Q
+short_then poll.Pending P Q f short = tt
+short_then (poll.Ready (Ok value)) P Q f short = tt
+short_then (poll.Ready (Err error.OutOfMemory)) P Q f short = f short
+short_then (poll.Ready (Err other)) P Q f short = tt
+
+pub short_any : {V : Type 0} (result : Poll (Result V Error)) (P : Type 0) → P → IfOutOfMemory result P
+short_any poll.Pending P h = tt
+short_any (poll.Ready (Ok value)) P h = tt
+short_any (poll.Ready (Err error.OutOfMemory)) P h = h
+short_any (poll.Ready (Err other)) P h = tt
+
 held_ended : {W M V : Type 0} (s : Meaning W M V) (core : Core) (m : M) (stage : Stage) → is_ended stage ≡ true
     → IsHeldAt s core m stage
 held_ended s core m Ended over = tt
@@ -203,4 +223,5 @@ done_leaves s core t q value over own counted gives =
       brings = told_gives s core t q.stage value over gives;
       keeps = keeps_same core;
       others = idle_others core core (Came t) q.stage (keeps_same core) (ended_idle q.stage over);
+      memory = own_memory value (s.again ≡ true) own;
     }

@@ -1,5 +1,5 @@
 -- The grants that come for a call, and those of others.
-use Rattle.std.proofs.Common.{◌≡◌, ◌∙◌, refl, sym, ap, subst, ℕ, true, false, List, Option, Some, None, Result, Ok, Err}
+use Rattle.std.proofs.Common.{◌≡◌, ◌∙◌, refl, sym, ap, subst, ℕ, true, false, List, Option, Some, None, Result, Ok, Err, IsSome}
 use Rattle.sftp_model.specs.Answers.{is_handle}
 use Rattle.sftp_model.specs.declared.error.Error.{Error}
 use Rattle.sftp_model.specs.declared.reply.Reply.{Reply}
@@ -10,6 +10,7 @@ use Rattle.sftp_core.specs.declared.id_record.IdRecord.{IdRecord}
 use Rattle.sftp_core.specs.declared.id_record.IdRecord.TheVariants.{Waiting, Answered, Granted}
 use Rattle.plan_state.specs.Calls.{
   CallValue,
+  CanContinue,
   CountsGrant,
   HoldsReady,
   IsGrantOf,
@@ -215,3 +216,13 @@ brought_handle s core m (Came (told.Reply r)) answers g brings tells = absurd cc
 brought_handle s core m Ended answers g brings tells = absurd cc
 brought_handle s core m Ready answers g brings tells = absurd cc
 brought_handle s core m (Unsent asking) answers g brings tells = absurd cc
+
+-- a grant came by a reply
+pub brought_continues : (core : Core) (stage : Stage) (g : GrantValue) → grant_brought core stage ≡ Some g
+    → CanContinue core stage
+brought_continues core (Asked ticket) g brings =
+    subst IsSome (sym (asked_handle ticket (reply_in (record_at core ticket)) g brings)) refl
+brought_continues core (Unsent asking) g brings = tt
+brought_continues core (Came t) g brings = tt
+brought_continues core Ended g brings = absurd cc
+brought_continues core Ready g brings = absurd cc

@@ -1,6 +1,6 @@
 -- believed, except ticket_of, StartsByPlan, MaySend, MayGoOn, IsUnderWay, BeginsCall, MayPoll, LeavesCall
 -- The state of a call that is running, for any call, and the effect of a start and a poll on it by the call's plan.
-use Rattle.std.specs.Prelude.{◌≡◌, ◌≢◌, ◌⊎◌, ℕ, Bool, true, false, List, [], Option, Some, None, Result, Ok, Err}
+use Rattle.std.specs.Prelude.{◌≡◌, ◌≢◌, ◌⊎◌, ℕ, Bool, true, false, List, [], Option, Some, None, Result, Ok, Err, IsSome}
 use Rattle.sftp_model.specs.Answers.{allows_reply}
 use Rattle.sftp_model.specs.declared.answers.Expected.{Expected}
 use Rattle.sftp_model.specs.declared.error.Error.{Error}
@@ -111,11 +111,12 @@ IsUnfinished (Wait place) = Unit {0}
 IsUnfinished (Done o site) = ⊥
 
 -- The effect of a move of the plan: the request that it asks, or the value with which it ends. After `OutOfMemory` the
--- call may be polled again, and continues with the same move.
+-- call may be polled again, and continues with the same move: it has the reply that came, or the request.
 abbrev pub MovesByPlan : {W M V : Type 0} → Meaning W M V → W → Plan → Answers → Core → Core → CallValue M
     → Poll (Result V Error) → Type 0
 MovesByPlan s w plan answers old new q poll.Pending = AsksAndAwaits s w plan answers old new q
 MovesByPlan s w plan answers old new q (poll.Ready (Err error.OutOfMemory)) = IsLeft s w plan answers q × (new ≡ old)
+    × TellsReply s new q answers
 MovesByPlan s w plan answers old new q (poll.Ready (Err (error.BackgroundTaskFailure fault))) = (old.fault ≡ Some fault)
     × (is_ended q.stage ≡ true) × IsUnfinished (plan [] answers) × (new ≡ old)
 MovesByPlan s w plan answers old new q (poll.Ready value) = (plan [] answers ≡ s.ended w q.runner value)
@@ -225,6 +226,18 @@ IsOver stage poll.Pending = is_ended stage ≡ false
 IsOver stage (poll.Ready (Err error.OutOfMemory)) = is_ended stage ≡ false
 IsOver stage (poll.Ready value) = is_ended stage ≡ true
 
+-- This holds if the poll ran out of memory.
+abbrev pub IfOutOfMemory : {V : Type 0} → Poll (Result V Error) → Type 0 → Type 0
+IfOutOfMemory (poll.Ready (Err error.OutOfMemory)) P = P
+IfOutOfMemory other P = Unit {0}
+
+-- The call has what it continues with: the reply that came, or the request that was not submitted.
+abbrev pub CanContinue : Core → Stage → Type 0
+CanContinue core (Unsent asking) = Unit {0}
+CanContinue core (Asked ticket) = IsSome (reply_in (record_at core ticket))
+CanContinue core (Came t) = Unit {0}
+CanContinue core other = ⊥
+
 -- A call without a result awaits a ticket whose reply is missing.
 abbrev pub AwaitsReply : {V : Type 0} → Core → Stage → Poll (Result V Error) → Type 0
 AwaitsReply core stage poll.Pending = (ticket : ℕ) × ((stage ≡ Asked ticket)
@@ -251,12 +264,14 @@ pub record LeavesCall {W M V : Type 0} (s : Meaning W M V) (old new : Core) (bef
   pub brings : grant_after s new q.stage result ≡ grant_brought old before
   pub keeps : KeepsHeld old new
   pub others : KeepsOtherTickets old new before q.stage
+  pub memory : IfOutOfMemory result (s.again ≡ true)
 
 -- A poll made the next move of each plan whose rest is the call, whatever replies are still to come.
 --
 -- The call may be polled again or cancelled, and it awaits a reply if it has no result. Its runner keeps its
 -- properties. The grant that came by the reply to its ticket belongs to the value, or the call still has it, and the
--- core counts it. Every grant stays, the replies that others await stay, and the session stays open.
+-- core counts it. Every grant stays, the replies that others await stay, and the session stays open. The poll may run
+-- out of memory only if the call may ask a further request and its reply came.
 pub record StepsByPlan {W M V : Type 0} (s : Meaning W M V) (old new : Core) (p q : CallValue M)
     (result : Poll (Result V Error)) : Type 0 where
   pub polled : (w : W) (plan : Plan) (answers : Answers) → IsLeft s w plan answers p → TellsReply s old p answers
@@ -269,6 +284,7 @@ pub record StepsByPlan {W M V : Type 0} (s : Meaning W M V) (old new : Core) (p 
   pub grants : KeepsGrants old new
   pub others : KeepsOtherTickets old new p.stage q.stage
   pub stays : s.stays p.runner q.runner
+  pub memory : IfOutOfMemory result ((s.again ≡ true) × CanContinue old p.stage)
 
 -- ---- A cancel
 

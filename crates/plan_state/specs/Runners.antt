@@ -37,7 +37,7 @@ pub record Meaning (W M V : Type 0) : Type 1 where
   -- The runner needs no reply, and the end of the plan in that case.
   pub ready : M → Type 0
   pub first : W → M → Move
-  -- True if it may ask a further request.
+  -- True if it may ask a further request. Only then may it run out of memory.
   pub again : Bool
   -- The grant that a value has.
   pub grant : V → Option GrantValue
@@ -72,7 +72,7 @@ FollowsPlan s w m next answers (then.Short told) = Unit {0}
 abbrev pub IsStep : {W M V : Type 0} → Meaning W M V → M → M → Then V → Type 0
 IsStep s m next (then.Done value) = s.stays m next × IsOwn value
 IsStep s m next (then.Ask asking) = s.stays m next × MayAsk s asking next × (s.again ≡ true)
-IsStep s m next (then.Short told) = next ≡ m
+IsStep s m next (then.Short told) = (next ≡ m) × (s.again ≡ true)
 
 -- A value that is returned has the grant that came. No other step follows a grant.
 abbrev pub HandsGrantOn : {W M V : Type 0} → Meaning W M V → Told → Then V → Type 0

@@ -30,6 +30,8 @@ use Rattle.std.proofs.Common.{
   None,
   IfNone,
   IfSome,
+  inl,
+  inr,
 }
 use Rattle.std.proofs.lemmas.List.{take-append-le}
 use Rattle.sftp_model.specs.Pieces.{joined_pieces}
@@ -89,6 +91,7 @@ cut_off pieces i piece part left limit h e counts over some is =
       some,
       omega (arith, h),
       sym (ap (take limit) all ∙ (take_two limit a (piece ++ later) ∙ (λ j. whole j ++ front j))),
+      inr (let next = more_long pieces i piece h e in omega (arith, next, counts, over)),
     )
 
 no_length : (l : List ℕ) → length l ≡ 0 → l ≡ []
@@ -106,6 +109,7 @@ cut_all pieces left limit len counts is some =
       append-nil (joined_pieces (take (length pieces) pieces)) ∙
           (ap joined_pieces (take_all_pieces pieces) ∙ sym (take-long len (joined_pieces pieces)
           (omega (arith, same)))),
+      inl refl,
     )
   where
     take_all_pieces : (l : List (List ℕ)) → take (length l) l ≡ l

@@ -1,5 +1,5 @@
 //! Pieces of bytes that are cut out without a copy.
-ghost use Rattle.std.specs.Prelude.{◌≡◌, ◌≤◌, ◌+◌, [], ◌++◌, ℕ, List, length, min, take, drop, IfOk, OnOk};
+ghost use Rattle.std.specs.Prelude.{◌≡◌, ◌≤◌, ◌+◌, [], ◌∷◌, ◌++◌, ℕ, List, length, min, take, drop, IfOk, OnOk};
 ghost use Rattle.sftp_model.specs.Pieces.{joined_pieces};
 ghost use Rattle.sftp_file.specs.Parts.{cut_at, with_filled};
 
@@ -13,7 +13,7 @@ use std::alloc::Global;
 ///
 /// `OutOfMemory` if an allocation fails.
 pub fn one_piece(alloc: Global, bytes: &[u8]) -> Result<Vec<Bytes>, OutOfMemory>
-    ensures { IfOk result (λ pieces. joined_pieces pieces.items ≡ bytes.now) }
+    ensures { IfOk result (λ pieces. (pieces.items ≡ bytes.now ∷ []) × (joined_pieces pieces.items ≡ bytes.now)) }
 {
     let mut pieces = Vec::new(alloc);
     pieces.push(Bytes::copy_from_slice(alloc, bytes)?)?;

@@ -1,5 +1,5 @@
 //! `write_all`: writes all bytes part by part, each after a STATUS of OK to the one before.
-ghost use Rattle.std.specs.Prelude.{false, ◌≡◌, ◌≤◌, ◌<◌, ◌+◌, ◌^◌, [], length, drop, refl, IfOk, OnErr};
+ghost use Rattle.std.specs.Prelude.{false, ◌≡◌, ◌≤◌, ◌<◌, ◌+◌, ◌^◌, [], ◌∷◌, length, drop, refl, IfOk, OnErr};
 ghost use Rattle.sftp_model.specs.Numbers.{MAX_TRANSFER_LEN};
 ghost use Rattle.sftp_model.specs.Pieces.{joined_pieces};
 ghost use Rattle.plan_model.specs.Moves.{Answers, handle_of};
@@ -221,6 +221,7 @@ impl File {
     pub fn start_write_all(&mut self, core: &mut Core, buf: &[u8]) -> Result<WriteAllCall, Error>
         requires { IsReady core.old }
         ensures starts { StartsOnFile writing_all tt (write_all_next 0 buf.now) self.old core.old core.new result }
+        ensures shared { IfOk result (λ call. (call.runner.pieces ≡ buf.now ∷ []) × (call.runner.done ≡ 0)) }
         ensures file { IfOk result (λ call. call.runner.file ≡ file_at self.old) }
         ensures left { self.new ≡ self.old }
     {

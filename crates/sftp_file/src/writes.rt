@@ -1,8 +1,8 @@
 //! `write`: writes the first bytes, up to the limit of one WRITE.
-ghost use Rattle.std.specs.Prelude.{◌≡◌, ℕ, ◌≤◌, refl, length, IfOk, false};
+ghost use Rattle.std.specs.Prelude.{◌≡◌, ◌∷◌, [], ℕ, ◌≤◌, refl, length, IfOk, false};
 ghost use Rattle.sftp_model.specs.Numbers.{MAX_TRANSFER_LEN};
 ghost use Rattle.sftp_model.specs.Pieces.{joined_pieces};
-ghost use Rattle.plan_model.specs.TransferPlans.{write_next};
+ghost use Rattle.plan_model.specs.TransferPlans.{next_part, write_next};
 ghost use Rattle.sftp_core.specs.Core.{queued_parts};
 ghost use Rattle.plan_state.specs.Asked.{IsReady, request_of};
 ghost use Rattle.plan_state.specs.declared.stage.Stage.TheVariants as stage;
@@ -117,6 +117,9 @@ impl File {
     pub fn start_write(&mut self, core: &mut Core, buf: &[u8]) -> Result<WriteCall, Error>
         requires { IsReady core.old }
         ensures starts { StartsOnFile write_meaning tt (write_next 0 buf.now) self.old core.old core.new result }
+        ensures shared { IfOk result (λ call. (ticket : ℕ) → call.stage ≡ stage.Asked ticket → core.new
+            ≡ queued_parts core.old ticket self.old.grant.handle self.old.offset
+            (next_part (facts_of core.old) buf.now ∷ [])) }
         ensures file { IfOk result (λ call. call.runner.file ≡ file_at self.old) }
         ensures left { self.new ≡ self.old }
     {

@@ -33,6 +33,8 @@ use Rattle.sftp_core.specs.Info.{info_of}
 use Rattle.sftp_core.specs.declared.handshake.Handshake.{Handshake}
 use Rattle.sftp_core.specs.declared.id_record.IdRecord.{IdRecord}
 use Rattle.sftp_core.specs.declared.id_record.IdRecord.TheVariants.{Answered, Granted, Waiting}
+use Rattle.plan_state.proofs.Going.{short_any}
+use Rattle.plan_state.proofs.Grants.{brought_continues}
 use Rattle.plan_state.proofs.OthersKept.{still_under_way}
 use Rattle.plan_state.proofs.Sparing.{cancelled_spares, given_spares, spares_also, spares_as, spares_both, spares_same}
 use Rattle.plan_state.specs.declared.told.Told.TheVariants as told
@@ -47,6 +49,7 @@ use Rattle.plan_state.specs.Keeping.{KeepsHeld}
 use Rattle.sftp_file.proofs.Steps.{cancelled_keeps}
 use Rattle.plan_state.specs.Calls.{
   CallValue,
+  CanContinue,
   core_after_cancel,
   CancelsAwaited,
   grant_brought,
@@ -98,7 +101,7 @@ began_opening : (site : Site) (facts : Facts) (plan : Plan) (answers : Answers) 
 began_opening site facts plan answers old late new call content grant q Pending is brings h =
     inr (subst (λ (x : Core). AsksPart site plan answers x new q) is h)
 began_opening site facts plan answers old late new call content grant q (Ready (Err error.OutOfMemory)) is brings h =
-    (h.0, h.1 ∙ is)
+    (h.0, h.1 ∙ is, h.2)
 began_opening site facts plan answers old late new call content grant q
     (Ready (Err (error.BackgroundTaskFailure fault))) is brings h =
     (subst (λ (x : Core). x.fault ≡ Some fault) is h.0, h.1, h.2 ∙ closes_brought old late call grant is brings)
@@ -137,6 +140,8 @@ open_begun facts old mid late new call next content grant q result held h ended 
           (spares_same old mid late (IsNoneOfCall call.stage) (λ id. id ≢ grant.id)
           (left ∙ ended_leaves mid next.stage ended)
           (given_spares grant_meaning old mid call next grant grant refl h)) begun.spares;
+      memory = short_any result (CanContinue old call.stage)
+          (brought_continues old call.stage grant (sym h.brings));
     }
 
 began_opened : (site : Site) (facts : Facts) (plan : Plan) (answers : Answers) (old new : Core) (grant : GrantValue)
@@ -159,6 +164,7 @@ opened_on facts old new grant content q result h =
       held = h.held;
       over = h.over;
       spares = h.spares;
+      memory = short_any result (Unit {0}) tt;
     }
 
 -- ---- a core behind the poll of an OPEN

@@ -42,9 +42,11 @@ use Rattle.plan_state.specs.declared.stage.Stage.TheVariants as stage
 use Rattle.plan_state.specs.Asked.{request_of}
 use Rattle.plan_state.specs.Calls.{
   CallValue,
+  CanContinue,
   core_after_cancel,
   grant_brought,
   is_ended,
+  IfOutOfMemory,
   IsHeldAt,
   IsLeft,
   IsLeftAt,
@@ -237,6 +239,18 @@ open_over s next content (Ready (Err error.OutOfMemory)) on over = refl
 open_over s next content (Ready (Ok grant)) on over = absurd (let clash : true ≡ false = sym over ∙ on in cc)
 open_over s next content (Ready (Err e)) on over = absurd (let clash : true ≡ false = sym over ∙ on in cc)
 
+-- an OPEN takes no memory
+open_short : (told : Poll (Result GrantValue Error)) (P Q : Type 0) → IfOutOfMemory told ((false ≡ true) × P)
+    → IfOutOfMemory (write_answer_of told) Q
+open_short Pending P Q h = tt
+open_short (Ready (Ok grant)) P Q h = tt
+open_short (Ready (Err error.OutOfMemory)) P Q h = absurd (let clash : false ≡ true = h.0 in cc)
+open_short (Ready (Err other)) P Q h = tt
+
+failed_short : (e : Error) (P Q : Type 0) → IfOutOfMemory {V = GrantValue} (Ready (Err e)) ((false ≡ true) × P)
+    → IfOutOfMemory {V = Unit {0}} (Ready (Err e)) Q
+failed_short e P Q h = open_short (Ready (Err e)) P Q h
+
 pub open_on : (facts : Facts) (old new : Core) (call next : CallValue Granting) (content : List ℕ)
     (told : Poll (Result GrantValue Error))
     → IsUnderWay grant_meaning old call → StepsByPlan grant_meaning old new call next told → is_ended next.stage ≡ false
@@ -248,6 +262,7 @@ open_on facts old new call next content told held h on =
       held = record { over = on; held = h.held };
       over = open_over next.stage next content told on h.over;
       spares = stepped_spares grant_meaning old new call next told h;
+      memory = open_short told (CanContinue old call.stage) (CanContinue old call.stage) h.memory;
     }
 
 -- refused by the server or by a fault
@@ -295,4 +310,5 @@ open_end facts old mid new call next content e h ended left =
       spares = spares_same old mid new (IsNoneOfCall call.stage) (λ id. Unit {0}) (sym same)
           (spares_as old mid (IsNoneOfCall call.stage) (IsNoneOfCall next.stage) (λ id. Unit {0}) (λ id x. tt)
           (stepped_spares grant_meaning old mid call next (Ready (Err e)) h));
+      memory = failed_short e (CanContinue old call.stage) (CanContinue old call.stage) h.memory;
     }

@@ -37,6 +37,7 @@ use Rattle.sftp_model.specs.declared.slot.Site.{Site}
 use Rattle.plan_model.specs.Moves.{Answers, Own, Plan, handle_of, overflows}
 use Rattle.plan_model.specs.TransferPlans.{next_part, part_len}
 use Rattle.sftp_core.specs.Core.{Core}
+use Rattle.plan_state.proofs.Going.{short_then}
 use Rattle.plan_state.proofs.OthersKept.{keeps_unchanged}
 use Rattle.plan_state.proofs.Sparing.{closed_spares, spares_also, spares_as, spares_both, spares_kept, stepped_spares, submitted_spares}
 use Rattle.sftp_core.specs.Grant.{GrantValue}
@@ -51,6 +52,7 @@ use Rattle.plan_state.specs.Calls.{
   AsksAndAwaits,
   BeginsCall,
   CallValue,
+  CanContinue,
   core_after_cancel,
   is_ended,
   IsNoneOfCall,
@@ -74,6 +76,7 @@ use Rattle.sftp_fs.specs.WholeWrites.{
   IsWriteHeld,
   IsWriteLeft,
   WriteAnswer,
+  WriteTells,
   PollsWholeWrite,
   WroteOn,
 }
@@ -177,6 +180,8 @@ parts_on facts old new grant call next told owned bears h on =
       held = (h.grants.grants grant.id grant.handle 1 owned, record { over = on; held = h.held }, h.stays ∙ bears);
       over = parts_over next.stage grant next told on h.over;
       spares = parts_spare old new grant call next told h;
+      memory = short_then told ((true ≡ true) × CanContinue old call.stage) (CanContinue old call.stage)
+          (λ both. both.1) h.memory;
     }
 
 parts_finished : (facts : Facts) (old mid new : Core) (grant : GrantValue) (call next : CallValue PartValue)
@@ -232,6 +237,8 @@ parts_end facts old mid late new grant call next told owned h ended left close =
           (λ id. (id ≢ grant.id) × IsNoneOfCall next.stage id)
           (λ id. id ≢ grant.id) (λ id both. both.0) (parts_spare old mid grant call next told h))
           (h.grants.grants grant.id grant.handle 1 owned) same;
+      memory = short_then told ((true ≡ true) × CanContinue old call.stage) (CanContinue old call.stage)
+          (λ both. both.1) h.memory;
     }
 
 -- ---- the first part
@@ -294,11 +301,17 @@ unbegun_by facts old new grant content (error.BackgroundTaskFailure fault) resul
     subst (λ (r : WriteAnswer). BeginsWholeWrite site facts plan answers old new grant result.1 r) (sym h.0)
     (started.0, started.2, h.2)
 unbegun_by facts old new grant content error.OutOfMemory result site plan answers h left started =
-    subst (λ (r : WriteAnswer). BeginsWholeWrite site facts plan answers old new grant result.1 r) (sym h.0)
-    (subst (λ (q : Writing). IsWriteLeft site facts plan answers q) (sym h.1) left, h.2)
+    subst (λ (r : WriteAnswer). BeginsWholeWrite site facts plan answers old new grant result.1 r) (sym h.0) (
+      subst (λ (q : Writing). IsWriteLeft site facts plan answers q) (sym h.1) left,
+      h.2,
+      subst (λ (q : Writing). WriteTells new answers q) (sym h.1) tt,
+    )
 unbegun_by facts old new grant content e result site plan answers h left started =
-    subst (λ (r : WriteAnswer). BeginsWholeWrite site facts plan answers old new grant result.1 r) (sym h.0)
-    (subst (λ (q : Writing). IsWriteLeft site facts plan answers q) (sym h.1) left, h.2)
+    subst (λ (r : WriteAnswer). BeginsWholeWrite site facts plan answers old new grant result.1 r) (sym h.0) (
+      subst (λ (q : Writing). IsWriteLeft site facts plan answers q) (sym h.1) left,
+      h.2,
+      subst (λ (q : Writing). WriteTells new answers q) (sym h.1) tt,
+    )
 
 -- a start that was refused left the core
 refused_same : (site : Site) (plan : Plan) (answers : Answers) (old mid : Core) (e : Error)

@@ -15,6 +15,8 @@ use Rattle.sftp_core.specs.declared.id_record.IdRecord.TheVariants.{Granted}
 use Rattle.plan_state.specs.Asked.{IsReady}
 use Rattle.plan_state.specs.Calls.{
   AsksAndAwaits,
+  CanContinue,
+  IfOutOfMemory,
   IsLeft,
   IsNoneOfCall,
   IsUnderWay,
@@ -161,13 +163,15 @@ abbrev pub WriteAnswer : Type 0
 WriteAnswer = Poll (Result (Unit {0}) Error)
 
 -- A poll made the next move of the plan: it waits, or asks for a part. Or the write is over, with the plan's result, or
--- with a recorded fault if the plan is not at its end. Or an allocation failed, and the write may be polled again.
+-- with a recorded fault if the plan is not at its end. Or an allocation failed, and the write may be polled again: it
+-- has the reply that came.
 abbrev pub PollsWholeWrite : Site → Facts → Plan → Answers → Core → Core → Writing → Writing → WriteAnswer → Type 0
 PollsWholeWrite site facts plan answers old new p q Pending = StillWaits plan answers old new p q
     ⊎ AsksPart site plan answers (heard_core old p) new q
 PollsWholeWrite site facts plan answers old new p q (Ready (Err error.OutOfMemory)) =
     IsWriteLeft site facts plan answers q
     × (new ≡ heard_core old p)
+    × WriteTells new answers q
 PollsWholeWrite site facts plan answers old new p q (Ready (Err (error.BackgroundTaskFailure fault))) =
     ((heard_core old p).fault ≡ Some fault)
     × IsUnfinished (plan [] answers)
@@ -181,14 +185,22 @@ IsOverBy stage Pending = is_over stage ≡ false
 IsOverBy stage (Ready (Err error.OutOfMemory)) = is_over stage ≡ false
 IsOverBy stage (Ready value) = is_over stage ≡ true
 
+-- The write has what it continues with: the reply that it awaits came, or its first part was not asked for.
+abbrev pub CanWriteOn : Core → Writing → Type 0
+CanWriteOn core (writing.Opening call content) = CanContinue core call.stage
+CanWriteOn core (writing.Opened grant content) = Unit {0}
+CanWriteOn core (writing.Parts grant call) = CanContinue core call.stage
+CanWriteOn core writing.Ended = ⊥
+
 -- A poll made the next move of each plan that the write is what is left of, for any replies to come. The write may be
--- polled further or given up. What others have stays theirs.
+-- polled further or given up. What others have stays theirs. A missing reply is never reported as out of memory.
 pub record WroteOn (facts : Facts) (old new : Core) (p q : Writing) (result : WriteAnswer) : Type 0 where
   pub polled : (site : Site) (plan : Plan) (answers : Answers) → IsWriteLeft site facts plan answers p
       → WriteTells old answers p → PollsWholeWrite site facts plan answers old new p q result
   pub held : IsWriteHeld new q
   pub over : IsOverBy q result
   pub spares : SparesOthers old new (IsNoneOfWrite p) (IsNoneOfWrite q)
+  pub memory : IfOutOfMemory result (CanWriteOn old p)
 
 -- The effect of asking for the first part, or for the close of a file without content.
 abbrev pub BeginsWholeWrite : Site → Facts → Plan → Answers → Core → Core → GrantValue → Writing → WriteAnswer → Type 0
@@ -196,6 +208,7 @@ BeginsWholeWrite site facts plan answers old new grant q Pending = AsksPart site
 BeginsWholeWrite site facts plan answers old new grant q (Ready (Err error.OutOfMemory)) =
     IsWriteLeft site facts plan answers q
     × (new ≡ old)
+    × WriteTells new answers q
 BeginsWholeWrite site facts plan answers old new grant q (Ready (Err (error.BackgroundTaskFailure fault))) =
     (old.fault ≡ Some fault)
     × IsUnfinished (plan [] answers)

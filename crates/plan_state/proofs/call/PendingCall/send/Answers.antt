@@ -37,4 +37,5 @@ returns-in-Ok-clause-leaves g c = λ before none.
       keeps = submitted_keeps c.args.core.now c.submit.new.core c.args.asking c.in-Ok.ticket c.in-Ok.ensures.ok;
       others = submitted_others c.args.core.now c.submit.new.core c.args.asking c.in-Ok.ticket before c.put.new.self
           c.in-Ok.ensures.ok stands;
+      memory = tt;
     }

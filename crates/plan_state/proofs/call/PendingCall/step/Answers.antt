@@ -1,11 +1,11 @@
-use Rattle.std.proofs.Common.{rules, ◌≡◌, ap, sym, ◌∙◌, subst, None, IsTrue}
+use Rattle.std.proofs.Common.{rules, ◌≡◌, ap, sym, ◌∙◌, subst, None, refl, true, IsTrue, IsSome}
 use Rattle.sftp_core.specs.Core.{record_at, is_ticket, reply_in}
 use Rattle.plan_state.specs.declared.stage.Stage.{Stage}
 use Rattle.plan_state.specs.declared.stage.Stage.TheVariants.{Asked, Came, Ended, Unsent}
 use Rattle.plan_state.specs.Runners.{GoesBehind}
-use Rattle.plan_state.specs.Calls.{CallValue, LeavesCall, MovesByPlan, grant_brought}
+use Rattle.plan_state.specs.Calls.{CallValue, CanContinue, LeavesCall, MovesByPlan, grant_brought}
 use Rattle.plan_state.specs.Told.{reply_of}
-use Rattle.plan_state.proofs.Going.{GoesOn, asked_polled, came_polled, unsent_polled}
+use Rattle.plan_state.proofs.Going.{GoesOn, asked_polled, came_polled, short_then, unsent_polled}
 use Rattle.plan_state.proofs.Grants.{asked_brings, ended_brings, polled_brings}
 use Rattle.plan_state.proofs.Keeping.{keeps_same}
 use Rattle.plan_state.proofs.OthersKept.{ended_idle, grants_polled, idle_others, polled_others}
@@ -33,6 +33,9 @@ returns-in-Unsent g c =
       grants = left.keeps.grants;
       others = left.others;
       stays = search rules;
+      memory = short_then c.send.result (g.M.PlanRunner.meaning.again ≡ true)
+          ((g.M.PlanRunner.meaning.again ≡ true) × CanContinue c.args.core.now c.args.self.now.stage)
+          (λ again. (again, subst (λ (x : Stage). CanContinue c.args.core.now x) (sym is) tt)) left.memory;
     }
 
 pub returns-in-Came : goal.returns-in-Came
@@ -62,6 +65,9 @@ returns-in-Came g c =
       grants = left.keeps.grants;
       others = left.others;
       stays = search rules;
+      memory = short_then c.go_on.result (g.M.PlanRunner.meaning.again ≡ true)
+          ((g.M.PlanRunner.meaning.again ≡ true) × CanContinue c.args.core.now c.args.self.now.stage)
+          (λ again. (again, subst (λ (x : Stage). CanContinue c.args.core.now x) (sym is) tt)) left.memory;
     }
 
 pub returns-in-Ok : goal.returns-in-Ok
@@ -96,6 +102,13 @@ returns-in-Ok g c =
           (Came c.in-Ok.told) c.go_on-in-Ok.new.self.stage is c.take_told.ensures.core (λ n same. cc)
           c.go_on-in-Ok.ensures.leaves.others;
       stays = search rules;
+      memory = short_then c.go_on-in-Ok.result (g.M.PlanRunner.meaning.again ≡ true)
+          ((g.M.PlanRunner.meaning.again ≡ true) × CanContinue c.args.core.now c.args.self.now.stage)
+          (λ again. (
+            again,
+            subst (λ (x : Stage). CanContinue c.args.core.now x) (sym is)
+                (subst IsSome (sym c.in-Ok.ensures.came.taken) refl),
+          )) c.go_on-in-Ok.ensures.leaves.memory;
     }
 
 pub returns-in-Err-Failed : goal.returns-in-Err-Failed
@@ -119,4 +132,5 @@ returns-in-Err-Failed g c =
           c.take_told.ensures.core (λ n same. cc) (idle_others c.take_told.new.core c.take_told.new.core Ended _
           (keeps_same c.take_told.new.core) (ended_idle _ (search rules)));
       stays = search rules;
+      memory = tt;
     }
