@@ -47,6 +47,7 @@ use Rattle.plan_state.specs.declared.poll.Poll.TheVariants as poll
 use Rattle.sftp_file.specs.Files.{facts_of, file_at}
 use Rattle.sftp_buffered.specs.Buffered.{CompatValue, IsSound, buffer_of, lane_of, place_of}
 use Rattle.sftp_buffered.specs.Reads.{
+  CanReadOn,
   FillsBuffer,
   ReadsTo,
   TookRead,
@@ -59,7 +60,7 @@ use Rattle.sftp_buffered.specs.Reads.{
   without_read,
 }
 use Rattle.sftp_buffered.specs.Steps.{IsRestOf}
-use Rattle.sftp_buffered.proofs.Filling.{content_some, fills_others, fills_sound}
+use Rattle.sftp_buffered.proofs.Filling.{content_some, fills_memory, fills_others, fills_sound, memory_as}
 use Rattle.sftp_buffered.proofs.FillPlans.{
   EndsRefused,
   ReadsBy,
@@ -120,6 +121,7 @@ buffered_reads n k core p q old new m there s h left =
       });
       sound = subst (IsSound core) (sym left) (consumed_sound core p k within s);
       others = others_same core p;
+      memory = tt;
     }
 
 abbrev pub read_go : ℕ → CompatValue → Reply → Move
@@ -229,6 +231,7 @@ filled_reads n k core next p m q old new h empty s f put left =
       sound = subst (IsSound next) (sym left) (consumed_sound next m k within
           (fills_sound len core next p m (poll.Ready (Ok tt)) s f));
       others = fills_others len core next p m (poll.Ready (Ok tt)) s f;
+      memory = tt;
     }
 
 pub pending_reads : (n : ℕ) (core next : Core) (p q : CompatValue) (room : List ℕ) → MayRead n p
@@ -243,6 +246,7 @@ pending_reads n core next p q room h empty s f =
           (read_by n core answers p h (empty_is p.buffered empty) d.brought) d f;
       sound = fills_sound len core next p q poll.Pending s f;
       others = fills_others len core next p q poll.Pending s f;
+      memory = tt;
     }
 
 pub refused_reads : (n : ℕ) (core next : Core) (p q : CompatValue) (room : List ℕ) (e : Error) → MayRead n p
@@ -257,6 +261,7 @@ refused_reads n core next p q room e h empty s f =
           q e (read_by n core answers p h (empty_is p.buffered empty) d.brought) d (read_refused n p) f;
       sound = fills_sound len core next p q (poll.Ready (Err e)) s f;
       others = fills_others len core next p q (poll.Ready (Err e)) s f;
+      memory = memory_as e (CanReadOn core p.reading) (fills_memory len core next p q (poll.Ready (Err e)) f);
     }
 
 -- ---- before the buffer
@@ -274,6 +279,7 @@ unreadable_reads n core c room not_so s =
       };
       sound = s;
       others = others_same core c;
+      memory = tt;
     }
 
 pub empty_reads : (n : ℕ) (core : Core) (c : CompatValue) (room : List ℕ) → c.file.readable ≡ true → (n == 0) ≡ true
@@ -289,4 +295,5 @@ empty_reads n core c room may none s =
       });
       sound = s;
       others = others_same core c;
+      memory = tt;
     }

@@ -17,6 +17,7 @@ use Rattle.std.proofs.Common.{
   false,
   List,
   [],
+  ◌++◌,
   Option,
   Some,
   None,
@@ -27,10 +28,16 @@ use Rattle.std.proofs.Common.{
   inr,
   ◌⊎◌,
   ◌==◌,
+  length,
+  IsSome,
   if◌then◌else◌,
+  length-append,
 }
+use Rattle.std.specs.Prelude.{max}
 use Rattle.std.proofs.lemmas.Bool.Decides.{nat_tests}
+use Rattle.sftp_model.specs.Answers.{allows_reply}
 use Rattle.sftp_model.specs.Numbers.{SSH_FX_EOF}
+use Rattle.sftp_model.specs.declared.answers.Expected.TheVariants as expected
 use Rattle.sftp_model.specs.declared.error.Error.{Error}
 use Rattle.sftp_model.specs.declared.error.Error.TheVariants as error
 use Rattle.sftp_model.specs.declared.error.IoKind.TheVariants as kind
@@ -46,7 +53,7 @@ use Rattle.sftp_core.specs.Core.{Core, record_at, reply_in}
 use Rattle.plan_state.specs.Calls.{IsUnfinished}
 use Rattle.plan_state.specs.declared.poll.Poll.TheVariants as poll
 use Rattle.sftp_buffered.specs.declared.file.ReadUnderWay.{ReadUnderWay}
-use Rattle.sftp_buffered.specs.Buffered.{CompatValue, DefersWrites, IsTold, lane_of}
+use Rattle.sftp_buffered.specs.Buffered.{CompatValue, DefersWrites, IsTold, lane_of, len_of}
 use Rattle.sftp_buffered.specs.Polls.{AnyCut, EndsPoll, PollsPlan, PlanWaits}
 use Rattle.sftp_buffered.specs.Reads.{
   AwaitsFill,
@@ -58,13 +65,12 @@ use Rattle.sftp_buffered.specs.Reads.{
   end_of,
   fill_value,
   read_behind,
-  read_reply,
   without_read,
 }
-use Rattle.sftp_buffered.specs.Steps.{IsLeft, IsRestOf, read_taken}
+use Rattle.sftp_buffered.specs.Steps.{IsLeft, IsRestOf, read_reply, read_taken}
 use Rattle.sftp_buffered.proofs.Resting.{rest_at, rest_same}
 use Rattle.sftp_buffered.proofs.Planning.{missing_waits}
-use Rattle.sftp_buffered.proofs.Filling.{appended_deferred}
+use Rattle.sftp_buffered.proofs.Filling.{appended_deferred, content_fits}
 
 -- a plan looks at the READ under way, or asks for one behind the buffer
 pub record ReadsBy (plan : Plan) (len : ℕ) (go : Reply → Move) (answers : Answers) (p : CompatValue) : Type 0 where
@@ -139,15 +145,37 @@ appended_capacity (reply.Names names) c = omega arith
 appended_capacity (reply.Attrs attrs) c = omega arith
 appended_capacity (reply.Extended content) c = omega arith
 
+content_most : (c : CompatValue) (read : Option ReadUnderWay) (bytes : List ℕ) → length bytes ≤ len_of read
+    → max c.capacity (length (c.buffered ++ bytes)) ≤ max c.capacity (length c.buffered + len_of read)
+content_most c read bytes fits = (let sum : length (c.buffered ++ bytes) ≡ length c.buffered + length bytes =
+    length-append c.buffered bytes in omega (arith, sum, fits))
+
+appended_most : (r : Reply) (c : CompatValue) (read : ReadUnderWay) → c.reading ≡ Some read
+    → allows_reply (expected.Content read.len) r ≡ true
+    → (with_bytes_appended r c).capacity ≤ max c.capacity (length c.buffered + len_of c.reading)
+appended_most (reply.Content bytes) c read is allowed = content_most c c.reading bytes
+    (subst (λ (x : Option ReadUnderWay). length bytes ≤ len_of x) (sym is) (content_fits read.len bytes allowed))
+appended_most (reply.Status code message language) c read is allowed = omega arith
+appended_most (reply.Handle handle) c read is allowed = omega arith
+appended_most (reply.Version version extensions) c read is allowed = omega arith
+appended_most (reply.Names names) c read is allowed = omega arith
+appended_most (reply.Attrs attrs) c read is allowed = omega arith
+appended_most (reply.Extended content) c read is allowed = omega arith
+
 pub took_rest : (old new : Core) (p q : CompatValue) (value : Result (Unit {0}) Error) → TookRead old new p q value
     → IsRestOf old new p q
 took_rest old new p q value t =
     subst (IsRestOf old new p) (sym t.left) (record {
       between = old;
       taken = record { gone = []; deferred = sym (appended_deferred t.reply p); core = refl };
-      reading = inr (refl, inl (t.core ∙ sym (ap (read_taken old) t.under_way)));
+      reading = inr (
+        refl,
+        subst IsSome (sym (ap (read_reply old) t.under_way ∙ t.came)) refl,
+        t.core ∙ sym (ap (read_taken old) t.under_way),
+      );
       place = appended_place t.reply p;
       capacity = appended_capacity t.reply p;
+      most = appended_most t.reply p t.read t.under_way t.allowed;
     })
 
 -- what the reply makes of the plan
@@ -211,7 +239,7 @@ awaits_stop : {V : Type 0} (o : V → Outcome) (plan : Plan) (len : ℕ) (go : R
     → PollsPlan {V = V} (PlanWaits plan answers old (IsLeft old new p q) ⊎ BeganRead plan answers old new p q)
     (IsLeft old new p q)
     AnyCut plan o answers old new p q (poll.Ready (Err e))
-awaits_stop o plan len go answers old new p q error.OutOfMemory r h d ends is a = a
+awaits_stop o plan len go answers old new p q error.OutOfMemory r h d ends is a = a.1
 awaits_stop o plan len go answers old new p q (error.BackgroundTaskFailure fault) r h d ends is a =
     (a.1, unfinished_at (plan [] answers) (Wait r.place) (unread_waits plan len go answers old p r h d is a.0) tt, a.2)
 awaits_stop o plan len go answers old new p q e r h d ends is a =

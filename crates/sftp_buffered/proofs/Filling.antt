@@ -46,10 +46,12 @@ use Rattle.sftp_model.specs.declared.reply.Reply.TheVariants as reply
 use Rattle.sftp_core.specs.Core.{Core, after_poll, record_at}
 use Rattle.sftp_core.proofs.Elsewhere.{poll_elsewhere}
 use Rattle.plan_state.specs.Asked.{HoldsTicket, SubmitsAsking}
+use Rattle.plan_state.specs.Calls.{IfOutOfMemory}
 use Rattle.plan_state.specs.Keeping.{KeepsHeld}
 use Rattle.plan_state.specs.declared.submission.Asking.TheVariants.{Whole}
 use Rattle.plan_state.specs.declared.poll.Poll.{Poll}
 use Rattle.plan_state.specs.declared.poll.Poll.TheVariants as poll
+use Rattle.plan_state.proofs.Going.{short_any}
 use Rattle.plan_state.proofs.Keeping.{submitted_holds}
 use Rattle.plan_state.proofs.OthersKept.{submitted_keeps}
 use Rattle.sftp_buffered.specs.declared.file.DeferredWrite.{DeferredWrite}
@@ -69,6 +71,7 @@ use Rattle.sftp_buffered.specs.Buffered.{
 use Rattle.sftp_buffered.specs.Reads.{
   AwaitsFill,
   BeginsRead,
+  CanReadOn,
   EndsFill,
   FillsBuffer,
   IsAllowedRead,
@@ -78,11 +81,10 @@ use Rattle.sftp_buffered.specs.Reads.{
   end_of,
   fill_value,
   read_behind,
-  read_reply,
   with_read,
   without_read,
 }
-use Rattle.sftp_buffered.specs.Steps.{read_taken}
+use Rattle.sftp_buffered.specs.Steps.{read_reply, read_taken}
 use Rattle.sftp_buffered.proofs.Others.{others_left, others_polled, others_submitted}
 use Rattle.sftp_buffered.proofs.Sound.{apart_read, held_but, sound_left}
 
@@ -199,7 +201,7 @@ begun_sound old new p len ticket s fits submitted =
       };
     }
 
-content_fits : (len : ℕ) (bytes : List ℕ) → (is_content len (reply.Content bytes) || false) ≡ true → length bytes ≤ len
+pub content_fits : (len : ℕ) (bytes : List ℕ) → (is_content len (reply.Content bytes) || false) ≡ true → length bytes ≤ len
 content_fits len bytes fits = grind (arith, nat_tests)
 
 pub content_some : (len : ℕ) (bytes : List ℕ) → (is_content len (reply.Content bytes) || false) ≡ true
@@ -290,7 +292,7 @@ awaits_sound : (old new : Core) (p q : CompatValue) (result : Poll (Result (Unit
     → AwaitsFill old new p q result → IsSound new q
 awaits_sound old new p q poll.Pending s a = sound_left old new p q a.2 s
 awaits_sound old new p q (poll.Ready (Ok u)) s a = took_sound old new p q (Ok u) s a
-awaits_sound old new p q (poll.Ready (Err error.OutOfMemory)) s a = sound_left old new p q a s
+awaits_sound old new p q (poll.Ready (Err error.OutOfMemory)) s a = sound_left old new p q a.1 s
 awaits_sound old new p q (poll.Ready (Err (error.BackgroundTaskFailure fault))) s a = sound_left old new p q a.2 s
 awaits_sound old new p q (poll.Ready (Err e)) s a = took_sound old new p q (Err e) s a
 
@@ -322,7 +324,7 @@ awaits_others : (old new : Core) (p q : CompatValue) (result : Poll (Result (Uni
     → AwaitsFill old new p q result → LeavesOthers old new p
 awaits_others old new p q poll.Pending s a = others_left old new p a.2.core
 awaits_others old new p q (poll.Ready (Ok u)) s a = took_others old new p q (Ok u) s a
-awaits_others old new p q (poll.Ready (Err error.OutOfMemory)) s a = others_left old new p a.core
+awaits_others old new p q (poll.Ready (Err error.OutOfMemory)) s a = others_left old new p a.1.core
 awaits_others old new p q (poll.Ready (Err (error.BackgroundTaskFailure fault))) s a = others_left old new p a.2.core
 awaits_others old new p q (poll.Ready (Err e)) s a = took_others old new p q (Err e) s a
 
@@ -330,3 +332,22 @@ pub fills_others : (len : ℕ) (old new : Core) (p q : CompatValue) (result : Po
     → IsSound old p → FillsBuffer len old new p q result → LeavesOthers old new p
 fills_others len old new p q result s (inl b) = begins_others len old new p q result b.begins
 fills_others len old new p q result s (inr e) = awaits_others old new p q result s e.awaits
+
+-- ---- out of memory
+
+awaits_memory : (old new : Core) (p q : CompatValue) (result : Poll (Result (Unit {0}) Error))
+    → AwaitsFill old new p q result → IfOutOfMemory result (CanReadOn old p.reading)
+awaits_memory old new p q poll.Pending a = tt
+awaits_memory old new p q (poll.Ready (Ok u)) a = tt
+awaits_memory old new p q (poll.Ready (Err error.OutOfMemory)) a = inr a.0
+awaits_memory old new p q (poll.Ready (Err e)) a = tt
+
+pub fills_memory : (len : ℕ) (old new : Core) (p q : CompatValue) (result : Poll (Result (Unit {0}) Error))
+    → FillsBuffer len old new p q result → IfOutOfMemory result (CanReadOn old p.reading)
+fills_memory len old new p q result (inl b) = short_any result (CanReadOn old p.reading) (inl b.none)
+fills_memory len old new p q result (inr e) = awaits_memory old new p q result e.awaits
+
+pub memory_as : (e : Error) (P : Type 0) → IfOutOfMemory {V = Unit {0}} (poll.Ready (Err e)) P
+    → IfOutOfMemory {V = ℕ} (poll.Ready (Err e)) P
+memory_as error.OutOfMemory P h = h
+memory_as other P h = tt

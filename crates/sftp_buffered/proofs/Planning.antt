@@ -95,8 +95,8 @@ use Rattle.sftp_buffered.specs.Buffered.{
 }
 use Rattle.sftp_buffered.specs.Polls.{AsksAndEnds, PollsPlan, PlanWaits}
 use Rattle.sftp_buffered.specs.Steps.{
+  AreTakenAlone,
   IsLeft,
-  IsRestOf,
   WasRefused,
   after_written,
   with_deferred_write,
@@ -111,7 +111,7 @@ use Rattle.sftp_buffered.specs.Steps.{
   status_value,
   without_oldest,
 }
-use Rattle.sftp_buffered.proofs.Resting.{rest_at, rest_freed}
+use Rattle.sftp_buffered.proofs.Resting.{alone_freed, rest_at, rest_freed}
 use Rattle.sftp_buffered.specs.Writes.{SendsWrites, SendsNoWrite}
 
 -- ---- the plan before its request
@@ -341,7 +341,7 @@ sent_asks : (Cut : Asking → Type 0) (plan : Plan) (facts : Facts) (bytes : Lis
     (old middle between new : Core) (p c q : CompatValue)
     (parts : List (List ℕ)) (n ticket : ℕ) → GoesAs plan facts bytes answers c
     → IsPartOf facts bytes c parts n → c.file.offset + n < 2 ^ 64 → SubmitsAsking old (parts_of c parts) ticket middle
-    → Cut (parts_of c parts) → IsRestOf middle between p c → q ≡ after_written (with_deferred_write c n ticket) n → new
+    → Cut (parts_of c parts) → AreTakenAlone middle between p c → q ≡ after_written (with_deferred_write c n ticket) n → new
     ≡ read_dropped between c.reading
     → AsksAndEnds plan (outcome.Count n) Cut answers old new p q
 sent_asks Cut plan facts bytes answers old middle between new p c q parts n ticket g h fits submitted cut stays left
@@ -355,7 +355,7 @@ sent_asks Cut plan facts bytes answers old middle between new p c q parts n tick
       asks = part_asks plan facts bytes answers c parts n false g h
           (within_is c.file.offset n fits (length (take n bytes)) (part_long facts bytes c parts n h));
       submitted = submitted;
-      ends = ap (λ (k : ℕ). plan ((k, asked) ∷ []) answers) (sym stays.place)
+      ends = ap (λ (k : ℕ). plan ((k, asked) ∷ []) answers) (sym (ap (λ (x : CompatValue). x.place) stays.same))
           ∙ (g.goes ((c.place, asked) ∷ []) ∙ (lane_behind c n ticket facts bytes asked answers
           (len_is c facts bytes g.counted ∙ sym h.len)
           ∙ ap (λ (x : CompatValue). Done (outcome.Count n) (lane_of x)) (sym left)));
@@ -416,12 +416,12 @@ polls_sent : (Cut : Asking → Type 0) (full : Bool) (plan : Plan) (facts : Fact
 polls_sent Cut true plan facts bytes answers old new p q parts n g h good cut s =
     sent_asks Cut plan facts bytes answers old s.middle (oldest_polled s.middle p.deferred) new p (without_oldest p) q
     parts n s.ticket g h s.fits s.submitted cut
-    (rest_freed true s.middle p) (s.left ∙ ap (λ (x : CompatValue). after_written x n)
+    (alone_freed true s.middle p) (s.left ∙ ap (λ (x : CompatValue). after_written x n)
     (freed_deferring true old p n s.ticket good))
     (s.core ∙ ap (λ (x : Core). read_dropped x p.reading) (freed_core_deferring true old s.middle p n s.ticket good))
 polls_sent Cut false plan facts bytes answers old new p q parts n g h good cut s =
     sent_asks Cut plan facts bytes answers old s.middle s.middle new p p q parts n s.ticket g h s.fits s.submitted cut
-    (rest_freed false s.middle p) s.left s.core
+    (alone_freed false s.middle p) s.left s.core
 
 unfinished_ask : (plan : Plan) (answers : Answers) (asked : Request) → plan [] answers ≡ Ask asked
     → IsUnfinished (plan [] answers)

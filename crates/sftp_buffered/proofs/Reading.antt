@@ -73,7 +73,7 @@ use Rattle.sftp_buffered.specs.Reads.{
   without_read,
 }
 use Rattle.sftp_buffered.specs.Steps.{IsLeft, IsRestOf}
-use Rattle.sftp_buffered.proofs.Filling.{fills_others, fills_sound}
+use Rattle.sftp_buffered.proofs.Filling.{fills_memory, fills_others, fills_sound}
 use Rattle.sftp_buffered.proofs.FillPlans.{
   EndsRefused,
   ReadsBy,
@@ -155,6 +155,7 @@ fills_to plan len old new p q result by s f =
       polled = λ answers d. fills_by plan len old new p q result answers (by answers d) d f;
       sound = fills_sound len old new p q result s f;
       others = fills_others len old new p q result s f;
+      memory = fills_memory len old new p q result f;
     }
 
 pub fill_reads : (amt : ℕ) (old new : Core) (p q : CompatValue) (result : Poll (Result (Unit {0}) Error))
@@ -204,6 +205,7 @@ ready_stays core c some s =
       });
       sound = s;
       others = others_same core c;
+      memory = tt;
     }
 
 unreadable_fill : (amt : ℕ) (core : Core) (c : CompatValue) (answers : Answers) → c.file.readable ≡ false
@@ -220,6 +222,7 @@ unreadable_fills amt core c not_so s =
       polled = λ answers d. record { ends = unreadable_fill amt core c answers not_so; rest = rest_same core c };
       sound = s;
       others = others_same core c;
+      memory = tt;
     }
 
 pub unreadable_ready : (core : Core) (c : CompatValue) → c.file.readable ≡ false → (length c.buffered == 0) ≡ true
@@ -235,6 +238,7 @@ unreadable_ready core c not_so none s =
       };
       sound = s;
       others = others_same core c;
+      memory = tt;
     }
 
 -- ---- out of the buffer
@@ -270,6 +274,7 @@ consumed_rest old new p m n r =
       reading = r.reading;
       place = r.place;
       capacity = r.capacity;
+      most = r.most;
     }
 
 -- the bytes that are given

@@ -1,11 +1,12 @@
 -- What is left of what is under way.
-use Rattle.std.proofs.Common.{◌≡◌, ◌≤◌, ◌∙◌, refl, sym, ap, subst, arith, ℕ, Bool, true, false, List, [], ◌∷◌, ◌++◌, Option, inl, inr, take, drop}
+use Rattle.std.proofs.Common.{◌≡◌, ◌≤◌, ◌∙◌, refl, sym, ap, subst, arith, ℕ, Bool, true, false, List, [], ◌∷◌, ◌++◌, Option, inl, inr, take, drop, length}
+use Rattle.std.specs.Prelude.{◌+◌, max}
 use Rattle.std.proofs.lemmas.List.{append_assoc}
 use Rattle.sftp_core.specs.Core.{Core, after_poll}
 use Rattle.sftp_buffered.specs.declared.file.DeferredWrite.{DeferredWrite}
 use Rattle.sftp_buffered.specs.declared.file.ReadUnderWay.{ReadUnderWay}
-use Rattle.sftp_buffered.specs.Buffered.{AreApart, CompatValue, IsApart, IsOther, LeavesOthers}
-use Rattle.sftp_buffered.specs.Steps.{AreTaken, IsReadLeft, IsRestOf, all_polled, with_oldest_settled, freed_core, oldest_polled, without_oldest}
+use Rattle.sftp_buffered.specs.Buffered.{AreApart, CompatValue, IsApart, IsOther, LeavesOthers, len_of}
+use Rattle.sftp_buffered.specs.Steps.{AreTaken, AreTakenAlone, IsReadLeft, IsRestOf, all_polled, with_oldest_settled, freed_core, oldest_polled, without_oldest}
 
 -- ---- the oldest writes
 
@@ -61,6 +62,7 @@ rest_by old mid p q t read place capacity =
       place = place;
       capacity =
           subst (λ (n : ℕ). p.capacity ≤ n) (sym capacity) (omega arith);
+      most = subst (λ (n : ℕ). n ≤ max p.capacity (length p.buffered + len_of p.reading)) (sym capacity) (omega arith);
     }
 
 pub rest_same : (core : Core) (c : CompatValue) → IsRestOf core core c c
@@ -70,6 +72,7 @@ rest_same core c = record {
   reading = inl (refl, refl);
   place = refl;
   capacity = omega arith;
+  most = omega arith;
 }
 
 -- the oldest status made way in a full window
@@ -82,8 +85,14 @@ rest_freed true core c =
       reading = inl (refl, refl);
       place = refl;
       capacity = omega arith;
+      most = omega arith;
     }
 rest_freed false core c = rest_same core c
+
+pub alone_freed : (full : Bool) (core : Core) (c : CompatValue)
+    → AreTakenAlone core (freed_core full core c) c (with_oldest_settled full c)
+alone_freed true core c = record { taken = taken_more core core c c (taken_none core c); same = refl }
+alone_freed false core c = record { taken = taken_none core c; same = refl }
 
 -- ---- what is left to others
 

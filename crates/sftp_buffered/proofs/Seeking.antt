@@ -20,6 +20,7 @@ use Rattle.std.proofs.Common.{
   List,
   [],
   Ok,
+  inl,
   inr,
   ◌==◌,
   length,
@@ -47,7 +48,6 @@ use Rattle.sftp_file.specs.Files.{file_at}
 use Rattle.sftp_buffered.specs.Buffered.{CompatValue, IsSound, buffer_of, lane_of, len_of}
 use Rattle.sftp_buffered.specs.Seeks.{SeeksTo, stood}
 use Rattle.sftp_buffered.specs.Steps.{read_dropped}
-use Rattle.sftp_buffered.proofs.Resting.{rest_same}
 use Rattle.sftp_buffered.proofs.Others.{others_dropped, others_same}
 use Rattle.sftp_buffered.proofs.Sound.{held_dropped}
 
@@ -79,7 +79,7 @@ seek_same position core c to leads same s =
           (if same_test to c.file.offset same i then Buffered (file_at c.file) (buffer_of c)
           else Buffered (record (file_at c.file) { offset = to }) (sought_buffer c.file.offset to (buffer_of c)))))
           ∙ ap (λ (k : ℕ). Done (outcome.Count k) (lane_of c)) same);
-      rest = rest_same core c;
+      moves = inl (record { core = refl; same = refl });
       err = tt;
       sound = s;
       others = others_same core c;
@@ -122,13 +122,7 @@ seek_moved position old new p q to leads other below s left core =
           ∙ (λ i. Done (outcome.Count to) (with_slot (lane_of p) 0
           (if other_test to p.file.offset other i then Buffered (file_at p.file) (buffer_of p)
           else Buffered (record (file_at p.file) { offset = to }) (sought_buffer p.file.offset to (buffer_of p)))));
-      rest = record {
-        between = old;
-        taken = record { gone = []; deferred = refl; core = refl };
-        reading = inr (refl, inr refl);
-        place = refl;
-        capacity = omega arith;
-      };
+      moves = inr (record { left = refl; core = refl });
       err = tt;
       sound = stood_sound old p to below s;
       others = others_dropped old p.reading p (λ ticket apart. apart.read) s.held.read;
@@ -146,7 +140,7 @@ pub seek_refused : (position : SeekFrom) (core : Core) (c : CompatValue) (why : 
 seek_refused position core c why leads s =
     record {
       seeks = λ facts answers. leads (lane_of c) (λ k. Done (outcome.Count k) (sought_site c k));
-      rest = rest_same core c;
+      moves = inl (record { core = refl; same = refl });
       err = record { core = refl; same = refl };
       sound = s;
       others = others_same core c;

@@ -1,5 +1,5 @@
 -- A ticket of another is none of a file's after a poll of the file.
-use Rattle.std.proofs.Common.{◌≡◌, sym, subst, ℕ, List, [], ◌∷◌, ◌++◌, Result, Ok, Err, inl, inr, ◌⊎◌}
+use Rattle.std.proofs.Common.{◌≡◌, ap, sym, subst, ℕ, List, [], ◌∷◌, ◌++◌, Result, Ok, Err, inl, inr, ◌⊎◌}
 use Rattle.std.specs.declared.io.traits.SeekFrom.{SeekFrom}
 use Rattle.sftp_model.specs.declared.answers.Expected.{Expected}
 use Rattle.sftp_model.specs.declared.error.Error.{Error}
@@ -16,12 +16,12 @@ use Rattle.sftp_buffered.specs.Buffered.{AreApart, CompatValue, DefersWrites, Is
 use Rattle.sftp_buffered.specs.Flushes.{FlushesTo, flush_plan}
 use Rattle.sftp_buffered.specs.Polls.{AnyCut, AsksAndEnds, PollsPlan, PlanWaits}
 use Rattle.sftp_buffered.specs.Reads.{BeganRead, ReadsTo}
-use Rattle.sftp_buffered.specs.Seeks.{SeeksTo}
+use Rattle.sftp_buffered.specs.Seeks.{SeeksTo, StandsElsewhere}
 use Rattle.sftp_buffered.specs.Steps.{IsLeft}
 use Rattle.sftp_buffered.specs.Writes.{WritesBuffered, write_plan}
 use Rattle.sftp_buffered.proofs.Holding.{not_free}
 use Rattle.sftp_buffered.proofs.Keeping.{replies_told}
-use Rattle.sftp_buffered.proofs.Resting.{apart_rest}
+use Rattle.sftp_buffered.proofs.Resting.{apart_rest, apart_taken}
 
 apart_last : (ticket : ℕ) (ds : List DeferredWrite) (last : DeferredWrite) → AreApart ticket ds
     → (ticket ≡ last.ticket → ⊥) → AreApart ticket (ds ++ last ∷ [])
@@ -37,7 +37,8 @@ apart_asks : (ticket : ℕ) (kind : Expected) (plan : Plan) (o : Outcome) (Cut :
     (old new : Core) (p q : CompatValue)
     → HoldsTicket old ticket kind → IsApart ticket p → AsksAndEnds plan o Cut answers old new p q → IsApart ticket q
 apart_asks ticket kind plan o Cut answers old new p q held apart a =
-    let rest : IsApart ticket a.rest = apart_rest ticket a.middle a.between p a.rest a.stays apart in
+    let rest : IsApart ticket a.rest = apart_taken ticket a.middle a.between p a.rest a.stays.taken
+    (ap (λ (c : CompatValue). c.reading) a.stays.same) apart in
     subst (IsApart ticket) (sym a.left) (record {
       writes = apart_last ticket a.rest.deferred (record { place = a.rest.place; len = a.len; ticket = a.ticket })
           rest.writes (not_free old ticket a.ticket kind held a.submitted.free);
@@ -107,4 +108,8 @@ reads_apart plan o old new p q result ticket kind s held apart r =
 
 pub seeks_apart : (position : SeekFrom) (old new : Core) (p q : CompatValue) (result : Result (Unit {0}) Error)
     (ticket : ℕ) → IsApart ticket p → SeeksTo position old new p q result → IsApart ticket q
-seeks_apart position old new p q result ticket apart s = apart_rest ticket old new p q s.rest apart
+seeks_apart position old new p q result ticket apart s = by_move s.moves
+  where
+    by_move : IsLeft old new p q ⊎ StandsElsewhere old new p q → IsApart ticket q
+    by_move (inl l) = apart_left ticket old new p q l apart
+    by_move (inr m) = subst (IsApart ticket) (sym m.left) (record { writes = apart.writes; read = tt })

@@ -32,7 +32,8 @@ use Rattle.sftp_model.specs.declared.slot.Move.TheVariants.{Wait, Done}
 use Rattle.plan_model.specs.Moves.{Answers, refuse_locally}
 use Rattle.plan_model.specs.BufferPlans.{send_next, with_capacity}
 use Rattle.sftp_core.specs.Core.{Core}
-use Rattle.plan_state.specs.Calls.{IsUnfinished}
+use Rattle.plan_state.proofs.Going.{short_any}
+use Rattle.plan_state.specs.Calls.{IfOutOfMemory, IsUnfinished}
 use Rattle.plan_state.specs.declared.submission.Asking.{Asking}
 use Rattle.plan_state.specs.declared.poll.Poll.TheVariants as poll
 use Rattle.sftp_file.specs.Files.{facts_of, file_at}
@@ -51,7 +52,7 @@ use Rattle.sftp_buffered.specs.Steps.{
   without_oldest,
 }
 use Rattle.sftp_buffered.proofs.Resting.{rest_at, rest_freed}
-use Rattle.sftp_buffered.specs.Writes.{HasRoom, IsWindow, SendsWrites, SendsNoWrite, WritesBuffered, write_plan}
+use Rattle.sftp_buffered.specs.Writes.{HasRoom, IsWindowOpen, IsWindow, SendsWrites, SendsNoWrite, WritesBuffered, write_plan}
 use Rattle.sftp_buffered.proofs.Sound.{sound_left, sound_looked, sound_send}
 use Rattle.sftp_buffered.proofs.Windows.{window_left, window_looked, window_same, window_send}
 use Rattle.sftp_buffered.proofs.Others.{others_left, others_looked, others_same, others_send}
@@ -104,6 +105,7 @@ pending_writes Cut bytes old new p q m s w = record {
       sound_left old new p q w.1.2 s;
   window = window_left (facts_of old).write_limit old new p q w.1.2;
   others = others_left old new p w.1.2.core;
+  memory = tt;
 }
 
 refused_polls : (Cut : Asking → Type 0) (bytes : List ℕ) (old new : Core) (p q : CompatValue) (e : Error)
@@ -128,6 +130,14 @@ refused_polls Cut bytes old new p q e m s full w answers d =
           w.left;
     }
 
+looked_memory : (old new : Core) (p q : CompatValue) (e : Error) (P : Type 0)
+    → LooksAtOldest old new p q (poll.Ready (Err e)) → IfOutOfMemory {V = ℕ} (poll.Ready (Err e)) P
+looked_memory old new p q error.OutOfMemory P w = absurd (status_memory w.reply w.refuses)
+looked_memory old new p q other P w = tt
+
+open_by : (core : Core) (c : CompatValue) (w : Window) → HasRoom (facts_of core) core c w → IsWindowOpen core c
+open_by core c w room full = room.good (room.full ∙ full)
+
 pub refused_writes : (Cut : Asking → Type 0) (bytes : List ℕ) (old new : Core) (p q : CompatValue) (e : Error)
     → MayWrite bytes p
     → IsSound old p → IsWindow old new p q (poll.Ready (Err e))
@@ -138,6 +148,7 @@ refused_writes Cut bytes old new p q e m s w = record {
       sound_looked old new p q e w.1 s;
   window = window_looked (facts_of old).write_limit old new p q e w.1;
   others = others_looked old new p q e w.1 s;
+  memory = looked_memory old new p q e (IsWindowOpen old p) w.1;
 }
 
 -- the window has room, and a part was handed to a send
@@ -166,6 +177,7 @@ sent_writes_here Cut bytes old new p q w parts n result m s h ok err =
       window = window_send w.is_full (facts_of old) parts (length bytes) n old new p q result part.len h.room.good ok
           err;
       others = others_send w.is_full parts n old new p q result s h.room.good ok err;
+      memory = short_any (poll.Ready result) (IsWindowOpen old p) (open_by old p w h.room);
     }
 
 pub sent_writes : (Cut : Asking → Type 0) (bytes : List ℕ) (old now new : Core) (p r q : CompatValue) (w : Window)
@@ -183,15 +195,16 @@ sent_writes Cut bytes old now new p r q w parts n result m s l h ok err =
     (subst (λ (x : Core). IfErr result (SendsNoWrite w.is_full n x new r q)) l.core err))
 
 -- want of memory behind the window
-pub short_writes : (Cut : Asking → Type 0) (bytes : List ℕ) (old new : Core) (p q : CompatValue) → IsSound old p
-    → IsLeft old new p q
+pub short_writes : (Cut : Asking → Type 0) (bytes : List ℕ) (old new : Core) (p q : CompatValue) (w : Window)
+    → IsSound old p → HasRoom (facts_of old) old p w → IsLeft old new p q
     → WritesBuffered Cut bytes old new p q (poll.Ready (Err error.OutOfMemory))
-short_writes Cut bytes old new p q s l = record {
+short_writes Cut bytes old new p q w s room l = record {
   polled = λ answers d. l;
   sound = sound_left old new p q l s;
   window =
       window_left (facts_of old).write_limit old new p q l;
   others = others_left old new p l.core;
+  memory = open_by old p w room;
 }
 
 -- ---- before the window
@@ -211,6 +224,7 @@ unwritable_writes Cut bytes core c not_so s =
       sound = s;
       window = window_same (facts_of core).write_limit c;
       others = others_same core c;
+      memory = tt;
     }
 
 pub empty_writes : (Cut : Asking → Type 0) (bytes : List ℕ) (core : Core) (c : CompatValue) → c.file.writable ≡ true
@@ -228,4 +242,5 @@ empty_writes Cut bytes core c may none s =
       sound = s;
       window = window_same (facts_of core).write_limit c;
       others = others_same core c;
+      memory = tt;
     }

@@ -13,7 +13,7 @@ use Rattle.plan_state.specs.declared.submission.Asking.{Asking}
 use Rattle.plan_state.specs.declared.poll.Poll.{Poll}
 use Rattle.plan_state.specs.declared.poll.Poll.TheVariants as poll
 use Rattle.sftp_buffered.specs.Buffered.{CompatValue, lane_of}
-use Rattle.sftp_buffered.specs.Steps.{IsRestOf, after_written, with_deferred_write, read_dropped}
+use Rattle.sftp_buffered.specs.Steps.{AreTakenAlone, IsRestOf, after_written, with_deferred_write, read_dropped}
 
 -- The plan waits for a reply, the core has recorded no fault, and this is what is left.
 pub record PlanWaits (plan : Plan) (answers : Answers) (old : Core) (Left : Type 0) : Type 0 where
@@ -45,7 +45,7 @@ pub record AsksAndEnds (plan : Plan) (o : Outcome) (Cut : Asking → Type 0) (an
   pub ends : plan ((p.place, request_of asking) ∷ []) answers ≡ Done o (lane_of q)
   pub rest : CompatValue
   pub between : Core
-  pub stays : IsRestOf middle between p rest
+  pub stays : AreTakenAlone middle between p rest
   pub len : ℕ
   pub left : q ≡ after_written (with_deferred_write rest len ticket) len
   pub core : new ≡ read_dropped between rest.reading

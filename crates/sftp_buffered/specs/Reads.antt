@@ -26,6 +26,7 @@ use Rattle.std.specs.Prelude.{
   Result,
   Ok,
   Err,
+  IsSome,
   if◌then◌else◌,
 }
 use Rattle.sftp_model.specs.Answers.{allows_reply}
@@ -63,6 +64,7 @@ use Rattle.plan_model.specs.Moves.{
 }
 use Rattle.sftp_core.specs.Core.{Core, after_poll, record_at, reply_in}
 use Rattle.plan_state.specs.Asked.{SubmitsAsking}
+use Rattle.plan_state.specs.Calls.{IfOutOfMemory}
 use Rattle.plan_state.specs.declared.submission.Asking.TheVariants.{Whole}
 use Rattle.plan_state.specs.declared.poll.Poll.{Poll}
 use Rattle.plan_state.specs.declared.poll.Poll.TheVariants as poll
@@ -70,7 +72,7 @@ use Rattle.sftp_file.specs.Files.{facts_of}
 use Rattle.sftp_buffered.specs.declared.file.ReadUnderWay.{ReadUnderWay}
 use Rattle.sftp_buffered.specs.Buffered.{CompatValue, DefersWrites, IsSound, LeavesOthers, lane_of}
 use Rattle.sftp_buffered.specs.Polls.{AnyCut, PollsPlan, PlanWaits}
-use Rattle.sftp_buffered.specs.Steps.{IsLeft}
+use Rattle.sftp_buffered.specs.Steps.{IsLeft, read_reply}
 
 -- ---- The plan of a read into the buffer
 
@@ -124,11 +126,6 @@ end_of c = c.file.offset + length c.buffered
 abbrev pub read_behind : CompatValue → ℕ → Request
 read_behind c len = request.Read c.file.grant.handle (end_of c) len
 
--- The reply that the core has for the READ.
-abbrev pub read_reply : Core → Option ReadUnderWay → Option Reply
-read_reply core None = None
-read_reply core (Some r) = reply_in (record_at core r.ticket)
-
 -- That reply is one that the READ allows.
 abbrev pub IsAllowedRead : Core → Option ReadUnderWay → Type 0
 IsAllowedRead core None = Unit {0}
@@ -165,7 +162,7 @@ abbrev pub LooksAtRead : Core → CompatValue → CompatValue → Poll (Result (
 LooksAtRead core p q poll.Pending = (read_reply core p.reading ≡ None) × (core.fault ≡ None) × (q ≡ p)
 LooksAtRead core p q (poll.Ready (Ok u)) = (r : Reply) × (read_reply core p.reading ≡ Some r)
     × (q ≡ with_bytes_appended r p)
-LooksAtRead core p q (poll.Ready (Err error.OutOfMemory)) = q ≡ p
+LooksAtRead core p q (poll.Ready (Err error.OutOfMemory)) = IsSome (read_reply core p.reading) × (q ≡ p)
 LooksAtRead core p q (poll.Ready (Err (error.BackgroundTaskFailure fault))) = (read_reply core p.reading ≡ None)
     × (core.fault ≡ Some fault) × (q ≡ p)
 LooksAtRead core p q (poll.Ready (Err other)) = ⊥
@@ -190,7 +187,7 @@ pub record BeginsFill (len : ℕ) (old new : Core) (p q : CompatValue) (result :
 -- If a READ is under way, its reply is looked at, and taken.
 abbrev pub AwaitsFill : Core → Core → CompatValue → CompatValue → Poll (Result (Unit {0}) Error) → Type 0
 AwaitsFill old new p q poll.Pending = (read_reply old p.reading ≡ None) × (old.fault ≡ None) × IsLeft old new p q
-AwaitsFill old new p q (poll.Ready (Err error.OutOfMemory)) = IsLeft old new p q
+AwaitsFill old new p q (poll.Ready (Err error.OutOfMemory)) = IsSome (read_reply old p.reading) × IsLeft old new p q
 AwaitsFill old new p q (poll.Ready (Err (error.BackgroundTaskFailure fault))) = (read_reply old p.reading ≡ None)
     × (old.fault ≡ Some fault) × IsLeft old new p q
 AwaitsFill old new p q (poll.Ready value) = TookRead old new p q value
@@ -214,9 +211,13 @@ pub record BeganRead (plan : Plan) (answers : Answers) (old new : Core) (p q : C
   pub left : q ≡ with_read p len ticket
   pub lane : lane_of q ≡ cancelled_buf_read 0 (lane_of p) (facts_of old) ((p.place, read_behind p len) ∷ []) answers
 
+-- No READ is under way, or its reply came.
+abbrev pub CanReadOn : Core → Option ReadUnderWay → Type 0
+CanReadOn core read = (read ≡ None) ⊎ IsSome (read_reply core read)
+
 -- The poll made the next move of this plan, for any replies to come. The file may be polled further, and others find
 -- the core as it was. `Pending` comes if the plan waits and nothing changed, and if its READ was submitted. Running out
--- of memory and a recorded fault leave core and file as they were.
+-- of memory and a recorded fault leave core and file as they were. A missing reply is never reported as out of memory.
 pub record ReadsTo {V : Type 0} (plan : Plan) (o : V → Outcome) (old new : Core) (p q : CompatValue)
     (result : Poll (Result V Error)) : Type 0 where
   pub polled : (answers : Answers) → DefersWrites old p answers
@@ -225,6 +226,7 @@ pub record ReadsTo {V : Type 0} (plan : Plan) (o : V → Outcome) (old new : Cor
       plan o answers old new p q result
   pub sound : IsSound new q
   pub others : LeavesOthers old new p
+  pub memory : IfOutOfMemory result (CanReadOn old p.reading)
 
 -- The plan of a read into the buffer.
 abbrev pub fill_plan : ℕ → Core → CompatValue → Plan

@@ -1,5 +1,5 @@
 -- Seeks of a buffered file.
-use Rattle.std.specs.Prelude.{◌≡◌, ◌-◌, ℕ, [], drop, nat_lt, None, Result, Ok, Err, if◌then◌else◌}
+use Rattle.std.specs.Prelude.{◌≡◌, ◌⊎◌, ◌-◌, ℕ, [], drop, nat_lt, None, Result, Ok, Err, if◌then◌else◌}
 use Rattle.std.specs.declared.io.traits.SeekFrom.{SeekFrom}
 use Rattle.sftp_model.specs.declared.error.Error.{Error}
 use Rattle.sftp_model.specs.declared.outcome.Outcome.TheVariants as outcome
@@ -10,7 +10,7 @@ use Rattle.plan_model.specs.BufferPlans.{buf_seek_next}
 use Rattle.plan_model.specs.Moves.{Answers}
 use Rattle.sftp_core.specs.Core.{Core}
 use Rattle.sftp_buffered.specs.Buffered.{CompatValue, IsSound, LeavesOthers, lane_of}
-use Rattle.sftp_buffered.specs.Steps.{IsLeft, IsRestOf}
+use Rattle.sftp_buffered.specs.Steps.{IsLeft, read_dropped}
 
 -- The file at another offset: a move forward keeps the bytes from there on, and the READ is given up.
 abbrev pub stood : CompatValue → ℕ → CompatValue
@@ -20,6 +20,11 @@ stood c to =
       buffered = if nat_lt c.file.offset to then drop (to - c.file.offset) c.buffered else [];
       reading = None;
     }
+
+-- The offset was set, and the READ under way was abandoned.
+pub record StandsElsewhere (old new : Core) (p q : CompatValue) : Type 0 where
+  pub left : q ≡ stood p q.file.offset
+  pub core : new ≡ read_dropped old p.reading
 
 -- The move that ends a seek: with the new offset, or refused.
 abbrev pub seek_ended : Result (Unit {0}) Error → CompatValue → Move
@@ -37,7 +42,7 @@ pub record SeeksTo (position : SeekFrom) (old new : Core) (p q : CompatValue) (r
   where
     pub seeks : (facts : Facts) (answers : Answers)
         → buf_seek_next 0 position (lane_of p) facts [] answers ≡ seek_ended result q
-    pub rest : IsRestOf old new p q
+    pub moves : IsLeft old new p q ⊎ StandsElsewhere old new p q
     pub err : IsLeftByErr old new p q result
     pub sound : IsSound new q
     pub others : LeavesOthers old new p

@@ -7,6 +7,8 @@ use Rattle.std.specs.Prelude.{
   ◌-◌,
   ◌==◌,
   ◌&&◌,
+  length,
+  max,
   ℕ,
   Bool,
   true,
@@ -43,7 +45,7 @@ use Rattle.plan_state.specs.declared.poll.Poll.{Poll}
 use Rattle.plan_state.specs.declared.poll.Poll.TheVariants as poll
 use Rattle.sftp_buffered.specs.declared.file.DeferredWrite.{DeferredWrite}
 use Rattle.sftp_buffered.specs.declared.file.ReadUnderWay.{ReadUnderWay}
-use Rattle.sftp_buffered.specs.Buffered.{CompatValue}
+use Rattle.sftp_buffered.specs.Buffered.{CompatValue, len_of}
 
 -- Nothing changed.
 pub record IsLeft (old new : Core) (p q : CompatValue) : Type 0 where
@@ -167,21 +169,32 @@ pub record AreTaken (old new : Core) (p q : CompatValue) : Type 0 where
   pub deferred : p.deferred ≡ gone ++ q.deferred
   pub core : new ≡ all_polled old gone
 
+-- The same, and nothing else changed.
+pub record AreTakenAlone (old new : Core) (p q : CompatValue) : Type 0 where
+  pub taken : AreTaken old new p q
+  pub same : q ≡ record p { deferred = q.deferred; pending = q.pending }
+
+-- The reply that the core has for the READ.
+abbrev pub read_reply : Core → Option ReadUnderWay → Option Reply
+read_reply core None = None
+read_reply core (Some r) = reply_in (record_at core r.ticket)
+
 -- The core after the reply to the READ was polled.
 abbrev pub read_taken : Core → Option ReadUnderWay → Core
 read_taken core None = core
 read_taken core (Some r) = after_poll core r.ticket
 
--- The READ stays under way, or it is gone: its reply was polled, or it was given up.
+-- The READ stays under way, or its reply came and was polled.
 abbrev pub IsReadLeft : Core → Core → Option ReadUnderWay → Option ReadUnderWay → Type 0
 IsReadLeft old new read left = ((left ≡ read) × (new ≡ old))
-    ⊎ ((left ≡ None) × ((new ≡ read_taken old read) ⊎ (new ≡ read_dropped old read)))
+    ⊎ ((left ≡ None) × IsSome (read_reply old read) × (new ≡ read_taken old read))
 
--- Of the requests under way the oldest writes may be gone, and the READ. Nothing was submitted, and the core is
--- otherwise as it was.
+-- Of the requests under way the oldest writes may be gone, and the READ after its reply. Nothing was submitted, and the
+-- core is otherwise as it was. The capacity rises at most to cover the bytes that the READ may bring.
 pub record IsRestOf (old new : Core) (p q : CompatValue) : Type 0 where
   pub between : Core
   pub taken : AreTaken old between p q
   pub reading : IsReadLeft between new p.reading q.reading
   pub place : q.place ≡ p.place
   pub capacity : p.capacity ≤ q.capacity
+  pub most : q.capacity ≤ max p.capacity (length p.buffered + len_of p.reading)

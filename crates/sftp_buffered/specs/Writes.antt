@@ -1,5 +1,5 @@
 -- Writes whose statuses are taken later.
-use Rattle.std.specs.Prelude.{◌≡◌, ◌≤◌, ◌<◌, ◌+◌, ◌^◌, ℕ, Bool, true, List, Some, Result, Ok, Err, max}
+use Rattle.std.specs.Prelude.{◌≡◌, ◌≤◌, ◌<◌, ◌+◌, ◌^◌, ℕ, Bool, true, List, [], ◌∷◌, take, Some, Result, Ok, Err, max}
 use Rattle.sftp_model.specs.Numbers.{MAX_TRANSFER_LEN}
 use Rattle.sftp_model.specs.declared.error.Error.{Error}
 use Rattle.sftp_model.specs.declared.error.Error.TheVariants as error
@@ -10,6 +10,7 @@ use Rattle.plan_model.specs.BufferPlans.{buf_write_next, is_good}
 use Rattle.plan_model.specs.Moves.{Answers, Plan}
 use Rattle.sftp_core.specs.Core.{Core}
 use Rattle.plan_state.specs.Asked.{SubmitsAsking}
+use Rattle.plan_state.specs.Calls.{IfOutOfMemory}
 use Rattle.plan_state.specs.declared.submission.Asking.{Asking}
 use Rattle.plan_state.specs.declared.submission.Asking.TheVariants.{Parts}
 use Rattle.plan_state.specs.declared.poll.Poll.{Poll}
@@ -82,13 +83,21 @@ SendsNoWrite full n old new p q other = ⊥
 abbrev pub write_plan : List ℕ → Core → CompatValue → Plan
 write_plan bytes core c = buf_write_next 0 bytes (lane_of c) (facts_of core)
 
+-- The WRITE has one part: the first of these bytes.
+abbrev pub IsOnePart : List ℕ → CompatValue → Asking → Type 0
+IsOnePart bytes c asking = (n : ℕ) × (asking ≡ Parts c.file.grant.handle c.file.offset (take n bytes ∷ []))
+
 -- The WRITE is cut out of these pieces.
 abbrev pub IsCutOut : List (List ℕ) → CompatValue → Asking → Type 0
 IsCutOut pieces c asking = (n : ℕ) × (asking ≡ Parts c.file.grant.handle c.file.offset (cut_at 0 n pieces))
 
+-- The next WRITE need not wait for the oldest status: the window has room, or that status is good.
+abbrev pub IsWindowOpen : Core → CompatValue → Type 0
+IsWindowOpen core c = must_wait (facts_of core) c ≡ true → is_good (oldest_reply core c.deferred) ≡ true
+
 -- The poll made the next move of the write of these bytes, for any replies to come. The file may be polled further, and
 -- others find the core as it was. `Pending`, running out of memory and a recorded fault leave core and file as they
--- were.
+-- were. A missing status is never reported as out of memory.
 pub record WritesBuffered (Cut : Asking → Type 0) (bytes : List ℕ) (old new : Core) (p q : CompatValue)
     (result : Poll (Result ℕ Error)) : Type 0 where
   pub polled : (answers : Answers) → DefersWrites old p answers
@@ -97,3 +106,4 @@ pub record WritesBuffered (Cut : Asking → Type 0) (bytes : List ℕ) (old new 
   pub window : q.pending ≤ max p.pending (facts_of old).write_limit
   pub sound : IsSound new q
   pub others : LeavesOthers old new p
+  pub memory : IfOutOfMemory result (IsWindowOpen old p)

@@ -9,10 +9,9 @@ ghost use Rattle.sftp_model.specs.declared.outcome.Outcome.{Outcome};
 ghost use Rattle.plan_state.specs.Asked.{HoldsTicket};
 ghost use Rattle.plan_state.specs.declared.poll.Poll.{Poll};
 ghost use Rattle.sftp_buffered.specs.Flushes.{FlushesTo};
-ghost use Rattle.sftp_buffered.specs.Polls.{AnyCut};
 ghost use Rattle.sftp_buffered.specs.Reads.{ReadsTo};
 ghost use Rattle.sftp_buffered.specs.Seeks.{SeeksTo};
-ghost use Rattle.sftp_buffered.specs.Writes.{IsCutOut, WritesBuffered};
+ghost use Rattle.sftp_buffered.specs.Writes.{IsCutOut, IsOnePart, WritesBuffered};
 ghost use Rattle.plan_state.specs.Keeping.{KeepsHeld};
 ghost use Rattle.plan_model.specs.Moves.{Answers, Plan};
 ghost use Rattle.sftp_buffered.specs.Buffered.{CompatValue, DefersWrites, IsApart, IsSound, LeavesOthers, ShareNoTicket};
@@ -43,7 +42,7 @@ pub fn replies_can_be_told()
 pub fn tickets_stay_apart()
     ensures writes { (bytes : List ℕ) (old new : Core) (p q : CompatValue) (result : Poll (Result ℕ Error)) (ticket : ℕ)
         (kind : Expected) → IsSound old p → HoldsTicket old ticket kind → IsApart ticket p
-        → WritesBuffered AnyCut bytes old new p q result → IsApart ticket q }
+        → WritesBuffered (IsOnePart bytes p) bytes old new p q result → IsApart ticket q }
     ensures vectored { (pieces : List (List ℕ)) (bytes : List ℕ) (old new : Core) (p q : CompatValue)
         (result : Poll (Result ℕ Error)) (ticket : ℕ) (kind : Expected) → IsSound old p → HoldsTicket old ticket kind
         → IsApart ticket p → WritesBuffered (IsCutOut pieces p) bytes old new p q result → IsApart ticket q }

@@ -1,19 +1,20 @@
 //! Reads: the buffer, and the READ that fills it.
 ghost use Rattle.std.specs.Prelude.{◌≡◌, ◌≤◌, ◌<◌, ◌+◌, ◌^◌, ◌++◌, length, take, drop, min, IfOk, OnErr, None, Some};
-ghost use Rattle.std.specs.Prelude.{IsSome, IfErr, max, OnOk};
+ghost use Rattle.std.specs.Prelude.{IsSome, IfErr, max, OnOk, []};
 ghost use Rattle.sftp_model.specs.declared.outcome.Outcome.TheVariants as outcome;
 ghost use Rattle.plan_state.specs.Asked.{IsReady, SubmitsAsking};
+ghost use Rattle.plan_state.specs.Calls.{IfOutOfMemory};
 ghost use Rattle.sftp_core.specs.Core.{Core as CoreValue};
 ghost use Rattle.sftp_buffered.specs.Buffered.{IsCounted, IsSound, IsHeldRead};
 ghost use Rattle.sftp_buffered.specs.Reads.{IsGiven, ReadsTo, after_consuming, fill_plan, read_plan, ready_plan};
 ghost use Rattle.sftp_buffered.specs.Reads.{room_outcome, BeginsRead, FillsBuffer, IsAllowedRead, LooksAtRead};
-ghost use Rattle.sftp_buffered.specs.Reads.{end_of, fill_value, read_reply, without_read};
+ghost use Rattle.sftp_buffered.specs.Reads.{end_of, fill_value, without_read};
 ghost use Rattle.std.specs.Option.{option_copied};
 ghost use Rattle.sftp_model.specs.declared.reply.Reply.{Reply as ReplyValue};
 ghost use Rattle.sftp_model.specs.declared.request.Request.TheVariants as request;
 ghost use Rattle.plan_state.specs.declared.submission.Asking.TheVariants as asking;
 ghost use Rattle.sftp_file.specs.Files.{facts_of};
-ghost use Rattle.sftp_buffered.specs.Steps.{IsStopped, read_taken, read_dropped, without_first_bytes};
+ghost use Rattle.sftp_buffered.specs.Steps.{IsStopped, read_reply, read_taken, read_dropped, without_first_bytes};
 ghost use Rattle.sftp_buffered.specs.Whole.{ShrinksCapacity};
 
 use crate::file::{ReadUnderWay, TokioCompatFile};
@@ -121,12 +122,13 @@ impl TokioCompatFile {
     ///
     /// # Errors
     ///
-    /// Those of `poll_read_into_buffer`.
+    /// Those of `poll_read_into_buffer`; none if bytes are buffered.
     pub fn poll_fill_buf(&mut self, core: &mut Core) -> Poll<Result<(), Error>>
         requires ready { IsReady core.old }
         requires sound { IsSound core.old self.old }
-        ensures { ReadsTo (ready_plan core.old self.old) (λ u. outcome.Done) core.old core.new self.old self.new
+        ensures reads { ReadsTo (ready_plan core.old self.old) (λ u. outcome.Done) core.old core.new self.old self.new
             result }
+        ensures memory { IfOutOfMemory result (self.old.buffered ≡ []) }
     {
         if !self.buffered.is_empty() {
             return Poll::Ready(Ok(()));
@@ -196,6 +198,7 @@ impl TokioCompatFile {
         ensures reads { ReadsTo (read_plan (length room.old) core.old self.old)
             (room_outcome (length room.old) room.new) core.old core.new self.old self.new result }
         ensures room { IsGiven room.old room.new result }
+        ensures memory { IfOutOfMemory result (self.old.buffered ≡ []) }
     {
         if !self.file.is_readable() {
             return Poll::Ready(Err(Error::IOError(IoKind::NotReadable)));

@@ -8,11 +8,10 @@ ghost use Rattle.plan_model.specs.BufferPlans.{is_good};
 ghost use Rattle.plan_state.specs.Asked.{IsReady, SubmitsAsking};
 ghost use Rattle.plan_state.specs.declared.submission.Asking.TheVariants as asking;
 ghost use Rattle.sftp_buffered.specs.Buffered.{IsCounted, IsHeld, IsSound, AreHeld, IsHeldRead};
-ghost use Rattle.sftp_buffered.specs.Polls.{AnyCut};
 ghost use Rattle.sftp_buffered.specs.Steps.{IsLeft, IsStopped, with_oldest_settled, oldest_reply, after_written};
 ghost use Rattle.sftp_buffered.specs.Steps.{freed_core, must_wait, oldest_len, read_dropped, room_of, LooksAtOldest};
 ghost use Rattle.sftp_buffered.specs.Steps.{oldest_polled, status_value, without_oldest};
-ghost use Rattle.sftp_buffered.specs.Writes.{IsCutOut, IsDeferred, SendsWrites, SendsNoWrite, WritesBuffered};
+ghost use Rattle.sftp_buffered.specs.Writes.{IsCutOut, IsDeferred, IsOnePart, SendsWrites, SendsNoWrite, WritesBuffered};
 ghost use Rattle.sftp_buffered.specs.Writes.{IsWindow};
 ghost use Rattle.sftp_file.specs.Files.{facts_of};
 ghost use Rattle.sftp_core.specs.Info.{info_of};
@@ -136,7 +135,7 @@ impl TokioCompatFile {
     pub fn poll_write(&mut self, core: &mut Core, buf: &[u8]) -> Poll<Result<usize, Error>>
         requires ready { IsReady core.old }
         requires sound { IsSound core.old self.old }
-        ensures { WritesBuffered AnyCut buf.now core.old core.new self.old self.new result }
+        ensures { WritesBuffered (IsOnePart buf.now self.old) buf.now core.old core.new self.old self.new result }
     {
         if !self.file.is_writable() {
             return Poll::Ready(Err(Error::IOError(IoKind::NotWritable)));

@@ -1,5 +1,5 @@
 -- A READ more under way.
-use Rattle.std.proofs.Common.{◌≡◌, ◌<◌, inl, inr, ℕ, zero, suc, ◌-◌, [], length, refl, sym, ap, ◌∙◌, subst, arith, None, IsSome}
+use Rattle.std.proofs.Common.{◌≡◌, ◌<◌, ◌≤◌, ◌^◌, inl, inr, ℕ, zero, suc, ◌-◌, [], length, refl, sym, ap, ◌∙◌, subst, arith, None, IsSome}
 use Rattle.sftp_core.specs.Core.{Core}
 use Rattle.sftp_core.specs.Info.{info_of}
 use Rattle.plan_state.proofs.Keeping.{submitted_holds}
@@ -7,7 +7,7 @@ use Rattle.plan_state.proofs.OthersKept.{submitted_keeps}
 use Rattle.sftp_streams.specs.declared.parts.Unasked.{Unasked}
 use Rattle.sftp_streams.specs.declared.parts.Unasked.TheVariants as unasked
 use Rattle.sftp_streams.specs.Parts.{IsUnasked, KeepsOthersHeld}
-use Rattle.sftp_streams.specs.Downloads.{AsksFirst, AsksLast, AsksMany, AsksMore, DownloadValue, FillsWindow, IsFilled, MayRead, content_kind}
+use Rattle.sftp_streams.specs.Downloads.{AsksFirst, AsksLast, AsksMany, AsksMore, DownloadValue, FillsWindow, IsFilled, IsSameStream, MayRead, StopsAsking, content_kind}
 use Rattle.sftp_streams.proofs.PartLaws.{apart_from, fault_queued, keeps_parts, last_awaited, last_count, last_len, others_same, others_submitted, others_then}
 
 opened_still : (core after : Core) → KeepsOthersHeld [] core after → IsSome (info_of core.phase)
@@ -117,7 +117,78 @@ pub unasked_then : (first core : Core) (e : Unasked) → core.fault ≡ first.fa
 unasked_then first core unasked.Short same u = tt
 unasked_then first core (unasked.Failed fault) same u = sym same ∙ u
 
+-- a full window asks for no part
+unfilled : (n : ℕ) (core after : Core) (old d : DownloadValue) → AsksMany n core old after d
+    → length d.parts < d.window → (d.next ≡ 2 ^ 64 - 1 → ⊥) → IsFilled old → ⊥
+unfilled zero core after old d (same, is) less below (none, inl full) =
+    (let here : length old.parts < old.window = subst (λ (x : DownloadValue). length x.parts < x.window) is less in
+    omega (arith, here, full))
+unfilled zero core after old d (same, is) less below (none, inr end) =
+    below (ap (λ (x : DownloadValue). x.next) is ∙ end)
+unfilled (suc n) core after old d (c, x, first, more) less below (none, inr end) =
+    (let some = first.some in let small = first.small in omega (arith, some, small, end))
+unfilled (suc n) core after old d (c, x, first, more) less below (none, inl full) =
+    unfilled n c after x d more less below (
+      ap (λ (y : DownloadValue). y.rest) first.now ∙ none,
+      inl (subst (λ (y : DownloadValue). y.window ≤ length y.parts) (sym first.now)
+          (let many = last_count first.ticket first.len old.parts in omega (arith, many, full))),
+    )
+
+pub stops_filling : (first core : Core) (old d : DownloadValue) (e : Unasked) → Filling first old core d
+    → length d.parts < d.window → (d.next ≡ 2 ^ 64 - 1 → ⊥) → IsUnasked core e → StopsAsking first old e
+stops_filling first core old d e f less below u =
+    record {
+      why = unasked_then first core e f.fault u;
+      more = unfilled f.asks.0 first core old d f.asks.1 less below;
+    }
+
+-- a rest is to be asked for
+pub stops_first : (core : Core) (d : DownloadValue) (e : Unasked) → 0 < d.rest → IsUnasked core e
+    → StopsAsking core d e
+stops_first core d e some u = record { why = u; more = λ full. (let none = full.0 in omega (arith, some, none)) }
+
+pub stops_behind : (core mid : Core) (d x : DownloadValue) (e : Unasked) → 0 < d.rest → AsksFirst core d mid x
+    → StopsAsking mid x e → StopsAsking core d e
+stops_behind core mid d x e some asks s =
+    stops_first core d e some
+    (unasked_then core mid e (fault_queued core mid _ asks.ticket asks.submitted) s.why)
+
 -- ---- what asking leaves
+
+pub same_as : (d new : DownloadValue) → new ≡ d → IsSameStream d new
+same_as d new is = (
+  ap (λ (y : DownloadValue). y.handle) is,
+  ap (λ (y : DownloadValue). y.read_len) is,
+  ap (λ (y : DownloadValue). y.window) is,
+)
+
+pub same_both : (d x new : DownloadValue) → IsSameStream d x → IsSameStream x new → IsSameStream d new
+same_both d x new a b = (b.0 ∙ a.0, b.1 ∙ a.1, b.2 ∙ a.2)
+
+same_last : (core after : Core) (d x : DownloadValue) → AsksLast core d after x → IsSameStream d x
+same_last core after d x asks = (
+  ap (λ (y : DownloadValue). y.handle) asks.now,
+  ap (λ (y : DownloadValue). y.read_len) asks.now,
+  ap (λ (y : DownloadValue). y.window) asks.now,
+)
+
+same_first : (core after : Core) (d x : DownloadValue) → AsksFirst core d after x → IsSameStream d x
+same_first core after d x asks = (
+  ap (λ (y : DownloadValue). y.handle) asks.now,
+  ap (λ (y : DownloadValue). y.read_len) asks.now,
+  ap (λ (y : DownloadValue). y.window) asks.now,
+)
+
+many_same : (n : ℕ) (core after : Core) (d new : DownloadValue) → AsksMany n core d after new → IsSameStream d new
+many_same zero core after d new (same, is) = same_as d new is
+many_same (suc n) core after d new (c, x, first, more) =
+    same_both d x new (same_last core c d x first) (many_same n c after x new more)
+
+pub same_stream : (core after : Core) (d new : DownloadValue) → FillsWindow core d after new → IsSameStream d new
+same_stream core after d new (inl (none, more)) = many_same more.0 core after d new more.1
+same_stream core after d new (inr (inl (same, is))) = same_as d new is
+same_stream core after d new (inr (inr (c, x, first, more))) =
+    same_both d x new (same_first core c d x first) (many_same more.0 c after x new more.1)
 
 many_stands : (n : ℕ) (core after : Core) (d new : DownloadValue) → AsksMany n core d after new
     → (new.offset ≡ d.offset) × (new.ended ≡ d.ended)

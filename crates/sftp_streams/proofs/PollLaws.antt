@@ -1,5 +1,5 @@
 -- What the reply to the first READ gives.
-use Rattle.std.proofs.Common.{◌≡◌, ◌≤◌, ◌<◌, inl, inr, ◌==◌, ℕ, zero, suc, ◌+◌, ◌-◌, ◌^◌, Bool, true, false, List, [], ◌∷◌, length, refl, sym, ap, ◌∙◌, subst, arith, Option, Some, None, if◌then◌else◌}
+use Rattle.std.proofs.Common.{◌≡◌, ◌≤◌, ◌<◌, inl, inr, ◌==◌, ℕ, zero, suc, ◌+◌, ◌-◌, ◌^◌, Bool, true, false, List, [], ◌∷◌, length, drop, refl, sym, ap, ◌∙◌, subst, arith, Option, Some, None, if◌then◌else◌}
 use Rattle.std.specs.Prelude.{Result, Ok, Err}
 use Rattle.std.proofs.lemmas.Bool.Decides.{nat_tests}
 use Rattle.sftp_model.specs.Answers.{allows_reply}
@@ -24,12 +24,16 @@ use Rattle.sftp_streams.specs.Downloads.{
   IsHandedOut,
   IsMissing,
   IsReading,
+  IsSameStream,
   MayRead,
   PollsDownload,
+  after_bytes,
+  after_status,
   content_kind,
+  first_len,
   first_reply,
 }
-use Rattle.sftp_streams.proofs.AskLaws.{others_filled, stands, unfailed}
+use Rattle.sftp_streams.proofs.AskLaws.{others_filled, same_as, same_both, same_stream, stands, unfailed}
 use Rattle.sftp_streams.proofs.PartLaws.{others_all, others_awaited, others_polled}
 
 -- the core awaits the DATA of the first part
@@ -72,6 +76,24 @@ few_bytes : (len : ℕ) (bytes : List ℕ) → allows_reply (expected.Content le
     → length bytes ≤ len
 few_bytes len bytes e = grind (arith, nat_tests, e)
 
+-- the download after the first part's bytes, and after its status
+bytes_left : (d now new : DownloadValue) (part : Part) (later : List Part) (bytes : List ℕ) → d.parts ≡ part ∷ later
+    → now ≡ record d { parts = later }
+    → new ≡ record now { offset = now.offset + length bytes; rest = part.len - length bytes } → new ≡ after_bytes d bytes
+bytes_left d now new part later bytes is now_is to =
+    to ∙ (ap (λ (x : DownloadValue). record x { offset = x.offset + length bytes; rest = part.len - length bytes })
+    now_is ∙ (λ i. record d {
+      offset = d.offset + length bytes;
+      rest = first_len (sym is i) - length bytes;
+      parts = drop 1 (sym is i);
+    }))
+
+status_left : (d now new : DownloadValue) (part : Part) (later : List Part) → d.parts ≡ part ∷ later
+    → now ≡ record d { parts = later } → new ≡ record now { ended = true } → new ≡ after_status d
+status_left d now new part later is now_is to =
+    to ∙ (ap (λ (x : DownloadValue). record x { ended = true }) now_is
+    ∙ (λ i. record d { parts = drop 1 (sym is i); ended = true }))
+
 pub gives : (core after : Core) (d now new : DownloadValue) (part : Part) (later : List Part) (r : Reply)
     (result : Result (Option (List ℕ)) Error)
     → d.ended ≡ false → first_reply core d ≡ Some r → d.parts ≡ part ∷ later → after ≡ after_poll core part.ticket
@@ -85,6 +107,7 @@ gives core after d now new part later (reply.Content bytes) result over told is 
       ap (λ (x : DownloadValue). x.offset) to ∙ ap (λ (x : DownloadValue). x.offset + length bytes) now_is,
       ap (λ (x : DownloadValue). x.ended) to ∙ ap (λ (x : DownloadValue). x.ended) now_is ∙ over,
       core_is ∙ ap (after_first core) (sym is),
+      bytes_left d now new part later bytes is now_is to,
     )
 gives core after d now new part later (reply.Status code message language) result over told is core_is allowed now_is
     (gave, to) =
@@ -97,12 +120,14 @@ gives core after d now new part later (reply.Status code message language) resul
       ap (λ (x : DownloadValue). x.offset) to ∙ ap (λ (x : DownloadValue). x.offset) now_is,
       ap (λ (x : DownloadValue). x.ended) to,
       core_is ∙ ap (after_first core) (sym is),
+      status_left d now new part later is now_is to,
     )
     by_code false e = (
       told,
       ap (λ (x : DownloadValue). x.offset) to ∙ ap (λ (x : DownloadValue). x.offset) now_is,
       ap (λ (x : DownloadValue). x.ended) to,
       core_is ∙ ap (after_first core) (sym is),
+      status_left d now new part later is now_is to,
     )
 gives core after d now new part later other result over told is core_is allowed now_is never = absurd never
 
@@ -147,6 +172,16 @@ left_parts core now new len (reply.Status code message language) result (gave, t
     ap (λ (x : DownloadValue). x.parts) to
 left_parts core now new len other result never = absurd never
 
+same_handed : (d now new : DownloadValue) (later : List Part) (len : ℕ) (r : Reply)
+    (result : Result (Option (List ℕ)) Error)
+    → now ≡ record d { parts = later } → IsHandedOut now len r new result → IsSameStream d new
+same_handed d now new later len (reply.Content bytes) result now_is (gave, to) =
+    same_both d now new (same_as (record d { parts = later }) now now_is)
+    (same_as (record now { offset = now.offset + length bytes; rest = len - length bytes }) new to)
+same_handed d now new later len (reply.Status code message language) result now_is (gave, to) =
+    same_both d now new (same_as (record d { parts = later }) now now_is) (same_as (record now { ended = true }) new to)
+same_handed d now new later len other result now_is never = absurd never
+
 -- ---- all that a poll of the first part did
 
 pub reads_reply : (core after : Core) (d now new : DownloadValue) (part : Part) (later : List Part) (r : Reply)
@@ -170,6 +205,7 @@ reads_reply core after d now new part later r result may rest is now_is came to 
       others = subst (λ (x : Core). KeepsOthersHeld d.parts core x) (sym to)
           (subst (λ x. KeepsOthersHeld x core (after_poll core part.ticket)) (sym is)
           (others_polled content_kind core part later h));
+      fixed = same_handed d now new later part.len r result now_is out;
     }
 
 pub reads_fault : (core after : Core) (d new : DownloadValue) (part : Part) (later : List Part) (fault : Fault)
@@ -190,6 +226,7 @@ reads_fault core after d new part later fault may rest is now missing kept to =
       others = subst (λ (x : Core). KeepsOthersHeld d.parts core x) (sym to)
           (subst (λ x. KeepsOthersHeld x core (after_poll core part.ticket)) (sym is)
           (others_polled content_kind core part later h));
+      fixed = same_as (record d { parts = later; ended = true }) new now;
     }
 
 -- ---- where the first reply is missing
@@ -231,17 +268,20 @@ reads_pending core after d new may missed left fills full some =
       held = λ going. left.held;
       parts = left.held.parts;
       others = others_all d.parts core after (others_filled core after d new fills);
+      fixed = same_stream core after d new fills;
     }
 
 pub reads_short : (core after : Core) (d new : DownloadValue) → MayRead core d → IsMissing core d → MayRead after new
-    → FillsWindow core d after new → PollsDownload core after d new (poll.Ready (Err error.OutOfMemory))
-reads_short core after d new may missed left fills =
+    → FillsWindow core d after new → (IsFilled d → ⊥)
+    → PollsDownload core after d new (poll.Ready (Err error.OutOfMemory))
+reads_short core after d new may missed left fills more =
     let s = stands core after d new fills in
     record {
-      gives = (missed.reply, s.0, s.1 ∙ may.over, fills);
+      gives = (missed.reply, s.0, s.1 ∙ may.over, fills, more);
       held = λ going. left.held;
       parts = left.held.parts;
       others = others_all d.parts core after (others_filled core after d new fills);
+      fixed = same_stream core after d new fills;
     }
 
 pub reads_failed : (core after : Core) (d mid new : DownloadValue) (fault : Fault) → IsMissing core d
@@ -256,6 +296,7 @@ reads_failed core after d mid new fault missed left fills now kept =
       parts = subst (λ x. AreAwaited content_kind after x) (sym (ap (λ (x : DownloadValue). x.parts) now))
           left.held.parts;
       others = others_all d.parts core after (others_filled core after d mid fills);
+      fixed = same_both d mid new (same_stream core after d mid fills) (same_as (record mid { ended = true }) new now);
     }
 
 -- nothing is under way, and nothing can be asked for
@@ -278,6 +319,7 @@ reads_overflow core after d mid new missed left fills full none now =
       parts = subst (λ x. AreAwaited content_kind after x) (sym (ap (λ (x : DownloadValue). x.parts) now))
           left.held.parts;
       others = others_all d.parts core after (others_filled core after d mid fills);
+      fixed = same_both d mid new (same_stream core after d mid fills) (same_as (record mid { ended = true }) new now);
     }
   where
     greatest : (m : DownloadValue) → IsReading after m → IsFilled m → m.parts ≡ [] → m.offset ≡ 2 ^ 64 - 1

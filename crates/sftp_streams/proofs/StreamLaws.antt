@@ -56,7 +56,7 @@ pub poll_grows : (n : ℕ) (replies : ℕ → Option Reply) (first : ℕ) (given
     (d new : DownloadValue) → ReachesOffset n (data_at replies) first given d.offset
     → replies d.offset ≡ first_reply core d → GivesFirst core after d new (Ready (Ok (Some bytes)))
     → ReachesOffset (suc n) (data_at replies) first (given ++ bytes) new.offset
-poll_grows n replies first given bytes core after d new reached tells (came, some, moved, going, core_is) =
+poll_grows n replies first given bytes core after d new reached tells (came, some, moved, going, core_is, is) =
     subst (λ p. ReachesOffset (suc n) (data_at replies) first (given ++ bytes) p) (sym moved)
     (grows n (data_at replies) first d.offset given bytes reached (ap data_of (tells ∙ came)))
 
@@ -74,6 +74,6 @@ pub poll_ends : (n most : ℕ) (replies : ℕ → Option Reply) (first : ℕ) (g
     (d new : DownloadValue) → n < most → ReachesOffset n (data_at replies) first given d.offset
     → replies d.offset ≡ first_reply core d → GivesFirst core after d new (Ready (Ok None))
     → unbroken_run most (data_at replies) first ≡ given
-poll_ends n most replies first given core after d new less reached tells (ended, stays, over, core_is) =
+poll_ends n most replies first given core after d new less reached tells (ended, stays, over, core_is, is) =
     whole n most (data_at replies) first d.offset given less reached
     (ap data_of tells ∙ no_data (first_reply core d) ended)

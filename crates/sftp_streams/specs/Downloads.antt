@@ -17,6 +17,8 @@ use Rattle.std.specs.Prelude.{
   ◌∷◌,
   ◌++◌,
   length,
+  drop,
+  min,
   suc,
   Option,
   Some,
@@ -43,7 +45,8 @@ use Rattle.plan_state.specs.declared.poll.Poll.TheVariants as poll
 use Rattle.sftp_file.specs.Files.{FileValue, facts_of}
 use Rattle.sftp_file.specs.Outcomes.{read_answer}
 use Rattle.sftp_streams.specs.declared.parts.Part.{Part}
-use Rattle.sftp_streams.specs.Parts.{AreAwaited, KeepsOthersHeld, KindOf, after_first, parts_len}
+use Rattle.sftp_streams.specs.declared.parts.Unasked.{Unasked}
+use Rattle.sftp_streams.specs.Parts.{AreAwaited, IsUnasked, KeepsOthersHeld, KindOf, after_first, parts_len}
 
 -- A download: the file's handle, the most bytes of one READ and the most READs under way. Then the offset of the first
 -- byte that was not returned, how many bytes from there are to be asked for again, the offset at which the next new
@@ -119,12 +122,12 @@ pub record AsksFirst (core : Core) (old : DownloadValue) (after : Core) (new : D
   pub submitted : SubmitsAsking core (asking.Whole (request.Read old.handle old.offset old.rest)) ticket after
   pub now : new ≡ record old { rest = 0; parts = record { ticket = ticket; len = old.rest } ∷ old.parts }
 
--- Another part is asked for after the others.
+-- Another part is asked for after the others: as many bytes as one READ asks for, up to the greatest offset.
 pub record AsksLast (core : Core) (old : DownloadValue) (after : Core) (new : DownloadValue) : Type 0 where
   pub ticket : ℕ
   pub len : ℕ
   pub some : 0 < len
-  pub most : len ≤ old.read_len
+  pub is : len ≡ min old.read_len (2 ^ 64 - 1 - old.next)
   pub submitted : SubmitsAsking core (asking.Whole (request.Read old.handle old.next len)) ticket after
   pub now : new ≡ record old { next = old.next + len; parts = old.parts ++ record { ticket = ticket; len = len } ∷ [] }
   pub small : old.next + len < 2 ^ 64
@@ -148,6 +151,11 @@ FillsWindow core old after new = ((old.rest ≡ 0) × AsksMore core old after ne
 abbrev pub IsFilled : DownloadValue → Type 0
 IsFilled d = (d.rest ≡ 0) × ((d.window ≤ length d.parts) ⊎ (d.next ≡ 2 ^ 64 - 1))
 
+-- Nothing was asked although more may be, for this reason.
+pub record StopsAsking (core : Core) (d : DownloadValue) (e : Unasked) : Type 0 where
+  pub why : IsUnasked core e
+  pub more : IsFilled d → ⊥
+
 -- ---- Polls
 
 -- The reply to the READ at the first byte that was not returned.
@@ -167,22 +175,43 @@ abbrev pub IsEnd : Option Reply → Type 0
 IsEnd None = ⊥
 IsEnd (Some r) = is_end_of_file r ≡ true
 
+-- The number of bytes that the first part asked for.
+abbrev pub first_len : List Part → ℕ
+first_len [] = 0
+first_len (part ∷ later) = part.len
+
+-- The download after these bytes of its first part: the missing rest is to be asked for again.
+abbrev pub after_bytes : DownloadValue → List ℕ → DownloadValue
+after_bytes d bytes =
+    record d {
+      offset = d.offset + length bytes;
+      rest = first_len d.parts - length bytes;
+      parts = drop 1 d.parts;
+    }
+
+-- The download that the status of its first part ended.
+abbrev pub after_status : DownloadValue → DownloadValue
+after_status d = record d { parts = drop 1 d.parts; ended = true }
+
 -- The result of a poll, by that reply: its bytes are returned, an EOF ends the download, and another status refuses it.
--- If it is missing, READs were asked for. After running out of memory the poll may be repeated.
+-- If it is missing, READs were asked for. Only then may memory run out; the poll may be repeated.
 abbrev pub GivesFirst : Core → Core → DownloadValue → DownloadValue → Poll (Result (Option (List ℕ)) Error) → Type 0
 GivesFirst core after old new (poll.Ready (Ok (Some bytes))) = (first_reply core old ≡ Some (reply.Content bytes))
     × (0 < length bytes)
     × (new.offset ≡ old.offset + length bytes)
     × (new.ended ≡ false)
     × (after ≡ after_first core old.parts)
+    × (new ≡ after_bytes old bytes)
 GivesFirst core after old new (poll.Ready (Ok None)) = IsEnd (first_reply core old)
     × (new.offset ≡ old.offset)
     × (new.ended ≡ true)
     × (after ≡ after_first core old.parts)
+    × (new ≡ after_status old)
 GivesFirst core after old new (poll.Ready (Err error.OutOfMemory)) = (first_reply core old ≡ None)
     × (new.offset ≡ old.offset)
     × (new.ended ≡ false)
     × FillsWindow core old after new
+    × (IsFilled old → ⊥)
 GivesFirst core after old new (poll.Ready (Err (error.BackgroundTaskFailure fault))) = (first_reply core old ≡ None)
     × (core.fault ≡ Some fault)
     × (new.offset ≡ old.offset)
@@ -197,6 +226,7 @@ GivesFirst core after old new (poll.Ready (Err (error.SftpError code message lan
     × (new.offset ≡ old.offset)
     × (new.ended ≡ true)
     × (after ≡ after_first core old.parts)
+    × (new ≡ after_status old)
 GivesFirst core after old new (poll.Ready (Err other)) = ⊥
 GivesFirst core after old new poll.Pending = (first_reply core old ≡ None)
     × (core.fault ≡ None)
@@ -205,6 +235,10 @@ GivesFirst core after old new poll.Pending = (first_reply core old ≡ None)
     × FillsWindow core old after new
     × IsFilled new
     × (0 < length new.parts)
+
+-- The same file, by as many READs of the same length.
+abbrev pub IsSameStream : DownloadValue → DownloadValue → Type 0
+IsSameStream old new = (new.handle ≡ old.handle) × (new.read_len ≡ old.read_len) × (new.window ≡ old.window)
 
 -- The effect of a poll: the download may be polled further if it has not ended, and given up in any case. What others
 -- hold of the core stays.
@@ -215,3 +249,4 @@ pub record PollsDownload (core after : Core) (old new : DownloadValue) (result :
     pub held : new.ended ≡ false → IsReading after new
     pub parts : AreAwaited content_kind after new.parts
     pub others : KeepsOthersHeld old.parts core after
+    pub fixed : IsSameStream old new

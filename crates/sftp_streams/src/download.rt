@@ -10,7 +10,7 @@ ghost use Rattle.plan_state.specs.declared.submission.Asking.TheVariants as aski
 ghost use Rattle.plan_state.specs.declared.poll.Poll.TheVariants.{Ready};
 ghost use Rattle.sftp_file.specs.Outcomes.{read_answer};
 ghost use Rattle.sftp_streams.specs.Parts.{AreAwaited, IsUnasked, KeepsOthersHeld, without_parts};
-ghost use Rattle.sftp_streams.specs.Downloads.{AsksFirst, AsksLast, AsksMore, BeginsDownload, FillsWindow, GivesFirst, IsFilled, IsHandedOut, IsMissing, IsReading, MayRead, PollsDownload, content_kind};
+ghost use Rattle.sftp_streams.specs.Downloads.{AsksFirst, AsksLast, AsksMore, BeginsDownload, FillsWindow, GivesFirst, IsFilled, IsHandedOut, IsMissing, IsReading, MayRead, PollsDownload, StopsAsking, content_kind};
 
 use crate::parts::{Answer, Part, Unasked, abandon_parts, take_reply};
 use bytes::Bytes;
@@ -184,13 +184,13 @@ impl Download {
     }
 
     /// Asks for parts after the others until the window is full, or the greatest offset is reached.
-    #[tactic(auto, using(crate::proofs::AskLaws::begins, crate::proofs::AskLaws::fills, crate::proofs::AskLaws::nearer, crate::proofs::AskLaws::unasked_then))]
+    #[tactic(auto, using(crate::proofs::AskLaws::begins, crate::proofs::AskLaws::fills, crate::proofs::AskLaws::nearer, crate::proofs::AskLaws::stops_filling))]
     fn ask_more(&mut self, core: &mut Core) -> Result<(), Unasked>
         requires rest { self.old.rest ≡ 0 }
         requires may { MayRead core.old self.old }
         ensures may { MayRead core.new self.new }
         ensures asks { AsksMore core.old self.old core.new self.new }
-        ensures err { IfErr result (IsUnasked core.old) }
+        ensures err { IfErr result (StopsAsking core.old self.old) }
         ensures full { OnOk result (IsFilled self.new) }
     {
         while self.parts.len() < self.window {
@@ -203,12 +203,12 @@ impl Download {
     }
 
     /// Asks for the rest of a short reply, and for parts after the others until the window is full.
-    #[tactic(auto, using(crate::proofs::AskLaws::asked_first, crate::proofs::AskLaws::unasked_then))]
+    #[tactic(auto, using(crate::proofs::AskLaws::asked_first, crate::proofs::AskLaws::stops_first, crate::proofs::AskLaws::stops_behind))]
     fn fill(&mut self, core: &mut Core) -> Result<(), Unasked>
         requires may { MayRead core.old self.old }
         ensures may { MayRead core.new self.new }
         ensures fills { FillsWindow core.old self.old core.new self.new }
-        ensures err { IfErr result (IsUnasked core.old) }
+        ensures err { IfErr result (StopsAsking core.old self.old) }
         ensures full { OnOk result (IsFilled self.new) }
     {
         if self.rest == 0 {
@@ -225,7 +225,8 @@ impl Download {
     ///
     /// # Errors
     ///
-    /// `OutOfMemory` if an allocation fails or no id is free: the poll may be repeated. Any other error ends the
+    /// `OutOfMemory` if an allocation fails or no id is free, and another READ is due: the poll may be repeated. Any
+    /// other error ends the
     /// download, as `None` does: `SftpError` if the server refused the READ at the next byte; `BackgroundTaskFailure`
     /// if its reply was not taken and the core has recorded a fault; `IOError(OffsetOverflow)` if all bytes below the
     /// offset 18446744073709551615 were returned, so that no READ can ask for more.

@@ -1,9 +1,10 @@
-use Rattle.std.proofs.Common.{rules, ◌≡◌, ◌==◌, refl, true, false, length, Ok, Err}
+use Rattle.std.proofs.Common.{rules, ◌≡◌, ◌==◌, refl, ℕ, true, false, length, [], Ok, Err}
 use Rattle.std.specs.Prelude.{min, max}
+use Rattle.plan_state.proofs.Going.{short_any}
 use Rattle.plan_state.specs.declared.poll.Poll.TheVariants as poll
 use Rattle.sftp_file.specs.Files.{facts_of}
 use Rattle.sftp_buffered.specs.Reads.{FillsBuffer}
-use Rattle.sftp_buffered.proofs.Reading.{IsPut}
+use Rattle.sftp_buffered.proofs.Reading.{IsPut, empty_is}
 use Rattle.sftp_buffered.proofs.BufferReads.{
   MayRead,
   buffered_reads,
@@ -72,3 +73,9 @@ returns-then-is_empty-clause-reads c =
     let may : c.args.self.now.file.readable ≡ true = search rules in
     let none : (length c.args.room.now == 0) ≡ true = search rules in
     empty_reads (length c.args.room.now) c.args.core.now c.args.self.now c.args.room.now may none c.requires.sound
+
+pub returns-in-Ready-Err-clause-memory : goal.returns-in-Ready-Err-clause-memory
+returns-in-Ready-Err-clause-memory c =
+    let none : (length c.args.self.now.buffered == 0) ≡ true = search rules in
+    short_any {V = ℕ} (poll.Ready (Err c.in-Ready-Err.e)) (c.args.self.now.buffered ≡ [])
+    (empty_is c.args.self.now.buffered none)

@@ -12,6 +12,7 @@ use Rattle.sftp_buffered.proofs.WritePolls.{
   pending_writes,
   refused_writes,
   sent_writes,
+  short_writes,
   unwritable_writes,
 }
 use Rattle.sftp_buffered.proofs.file.TokioCompatFile.poll_write_vectored.Goals as goal
@@ -73,3 +74,10 @@ returns-then-not-is_writable c =
     let not_so : c.args.self.now.file.writable ≡ false = search rules in
     unwritable_writes (IsCutOut c.args.bufs.now c.args.self.now) (joined_pieces c.args.bufs.now) c.args.core.now
     c.args.self.now not_so c.requires.sound
+
+pub returns-in-Err : goal.returns-in-Err
+returns-in-Err c =
+    let w : IsWindow c.args.core.now c.poll_window.new.core c.args.self.now c.poll_window.new.self
+    (poll.Ready (Ok c.in-Ready-Ok.window)) = search rules in
+    short_writes (IsCutOut c.args.bufs.now c.args.self.now) (joined_pieces c.args.bufs.now) c.args.core.now
+    c.poll_window.new.core c.args.self.now c.poll_window.new.self c.in-Ready-Ok.window c.requires.sound w.0 w.1

@@ -21,7 +21,7 @@ returns-else-is_empty c =
 
 pub returns-in-Err-Short : goal.returns-in-Err-Short
 returns-in-Err-Short c = reads_short c.args.core.now c.fill.new.core c.args.self.now c.fill.new.self c.requires.may
-    c.requires.missing c.fill.ensures.may c.fill.ensures.fills
+    c.requires.missing c.fill.ensures.may c.fill.ensures.fills c.in-Err-Short.ensures.err.more
 
 pub returns-in-Err-Failed : goal.returns-in-Err-Failed
 returns-in-Err-Failed c =
