@@ -14,6 +14,7 @@ use Rattle.std.proofs.Common.{
   map,
   length,
   drop,
+  take,
   reverse,
   get_or,
   Bool,
@@ -62,6 +63,8 @@ use Rattle.session_seats.specs.Holds.{
   fits_lane,
   is_of,
 }
+use Rattle.session_seats.specs.declared.wakes.Tide.{Tide}
+use Rattle.session_seats.specs.Wakes.{concerns}
 use Rattle.session_seats.proofs.Lists.{length-entries, name_more, name_there, later_on, own-mine}
 use Rattle.session_seats.proofs.Steps.{acquires, releases, newer-is, later_now}
 
@@ -278,6 +281,29 @@ newest journal more old is =
   where
     whole : journal ≡ reverse old ++ reverse more
     whole = sym (reverse-reverse journal) ∙ ap reverse is ∙ reverse-append more old
+
+take_front : {A : Type 0} (xs ys : List A) → take (length xs) (xs ++ ys) ≡ xs
+take_front [] ys = refl
+take_front (x ∷ xs) ys = ap (λ (l : List _). x ∷ l) (take_front xs ys)
+
+oldest : (journal more old : List Entry) → reverse journal ≡ more ++ old → take (length old) journal ≡ reverse old
+oldest journal more old is =
+    (λ i. take (sym (length-reverse old) i) (whole i)) ∙ take_front (reverse old) (reverse more)
+  where
+    whole : journal ≡ reverse old ++ reverse more
+    whole = sym (reverse-reverse journal) ∙ ap reverse is ∙ reverse-append more old
+
+-- the threads that what was added concerns
+pub concerned_on : (journal more old : List Entry) (from : ℕ) (before before' after after' : Tide) → reverse journal
+    ≡ more ++ old → from ≡ length old → before ≡ before' → after ≡ after'
+    → concerns before after (reverse (drop from journal)) (reverse (take from journal))
+    ≡ concerns before' after' more old
+concerned_on journal more old from before before' after after' is at was then =
+    let added : reverse (drop from journal) ≡ more = (λ i. reverse (drop (at i) journal))
+    ∙ ap reverse (newest journal more old is) ∙ reverse-reverse more in
+    let there : reverse (take from journal) ≡ old = (λ i. reverse (take (at i) journal))
+    ∙ ap reverse (oldest journal more old is) ∙ reverse-reverse old in
+    λ i. concerns (was i) (then i) (added i) (there i)
 
 -- the receipts of what was added
 pub receipts_on : (journal more old : List Entry) (from : ℕ) → reverse journal ≡ more ++ old → from ≡ length old

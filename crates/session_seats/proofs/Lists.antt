@@ -94,7 +94,13 @@ module _ {A : Type 0} where
   at_new (x ∷ xs) a b (suc j) e = ⊎_elim (λ h. inl h) (λ h. inr (ap suc h.0, h.1)) (at_new xs a b j e)
 
 pub rises_none : (a : Counts) → CountsRise a a
-rises_none a = record { handed = omega arith; written = omega arith; taken = omega arith; stage = omega arith }
+rises_none a = record {
+  handed = omega arith;
+  written = omega arith;
+  taken = omega arith;
+  stage = omega arith;
+  phase = omega arith;
+}
 
 pub rises_on : (a b c : Counts) → CountsRise a b → CountsRise b c → CountsRise a c
 rises_on a b c p q = record {
@@ -102,6 +108,7 @@ rises_on a b c p q = record {
   written = (let x = p.written in let y = q.written in omega arith);
   taken = (let x = p.taken in let y = q.taken in omega arith);
   stage = (let x = p.stage in let y = q.stage in omega arith);
+  phase = (let x = p.phase in let y = q.phase in omega arith);
 }
 
 pub later_same : (s : Sight) → IsLaterSight s s

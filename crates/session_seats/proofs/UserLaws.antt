@@ -21,7 +21,13 @@ later_stage now k up = let same = later_same now in record {
   lanes = refl;
   options = refl;
   version = same.version;
-  counts = record { handed = omega arith; written = omega arith; taken = omega arith; stage = up };
+  counts = record {
+    handed = omega arith;
+    written = omega arith;
+    taken = omega arith;
+    stage = up;
+    phase = omega arith;
+  };
 }
 
 module _ {S : Type 0} (shown : S → Shown) (m p : Me S View) (h : HasTaken shown m p) (z : S) (u k : ℕ)
@@ -53,6 +59,8 @@ module _ {S : Type 0} (shown : S → Shown) (m p : Me S View) (h : HasTaken show
         let handed' : (shown z).counts.handed ≡ y.counts.handed = ap (λ (x : Shown). x.counts.handed) is in
         let wrote' : (shown z).counts.written ≡ y.counts.written = ap (λ (x : Shown). x.counts.written) is in
         let took' : (shown z).counts.taken ≡ y.counts.taken = ap (λ (x : Shown). x.counts.taken) is in
+        let phase : h.now.counts.phase ≡ y.counts.phase = ap (λ (s : Sight). s.counts.phase) told in
+        let phase' : (shown z).counts.phase ≡ y.counts.phase = ap (λ (x : Shown). x.counts.phase) is in
         let stage = stage_now in
         let stage' = stage_is in
         let users = users_are in record {
@@ -62,7 +70,13 @@ module _ {S : Type 0} (shown : S → Shown) (m p : Me S View) (h : HasTaken show
           options = ap (λ (x : Shown). x.options) is ∙ sym (ap (λ (s : Sight). s.options) told);
           version = subst (λ (s : Sight). StaysThere s.version (shown z).version) (sym told)
               (subst (StaysThere y.version) (sym (ap (λ (x : Shown). x.version) is)) (stays_same y.version));
-          rises = record { handed = omega arith; written = omega arith; taken = omega arith; stage = omega arith };
+          rises = record {
+            handed = omega arith;
+            written = omega arith;
+            taken = omega arith;
+            stage = omega arith;
+            phase = omega arith;
+          };
           written = omega arith;
           users_are = omega arith;
           ends = ((let low = ends.0 in omega arith), λ rose. users ∙ ends.1 (omega arith));

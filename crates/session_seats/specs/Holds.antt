@@ -44,6 +44,8 @@ use Rattle.session_seats.specs.Sights.{
   CountsRise,
   StaysThere,
 }
+use Rattle.session_seats.specs.declared.wakes.WakeSet.{WakeSet}
+use Rattle.session_seats.specs.Wakes.{concerns, tide_of}
 use Rattle.session_seats.specs.Rules.{view, no_counts, first, sees, claim_with_entries, ShowsSightOf, MayRelease}
 
 -- The view of a value that nobody has used yet.
@@ -136,12 +138,6 @@ lane_in (Some g) = Some g.lane
 abbrev pub NamesLane : Claim → Option ℕ → Type 0
 NamesLane c lane = lane_in (name_at c.sight.seats c.number) ≡ Some lane
 
--- A seat that has nothing, names this lane or none, and has this share.
-pub record IsSeatOf {S : Type 0} (lane : Option ℕ) (share : ℕ) (m : Me S View) : Type 0 where
-  pub free : IsSeat m
-  pub named : NamesLane (claim_of m) lane
-  pub shares : share ≡ (claim_of m).share
-
 module _ {S : Type 0} (shown : S → Shown) where
   -- The seat has the value, and has seen its view.
   pub record HasTaken (m n : Me S View) : Type 0 where
@@ -175,6 +171,12 @@ module _ {S : Type 0} (shown : S → Shown) where
     pub seats : (sight_by n).seats ≡ now.seats
     pub later : IsLaterSight now (sight_by n)
     pub did : Did before after more
+
+  -- The effect of a hold that concerns these threads, by the entries that it added and what the value shows before and
+  -- after it.
+  abbrev pub Concerning : (S → S → List Entry → Type 0) → WakeSet → S → S → List Entry → Type 0
+  Concerning Did set y z more = Did y z more
+      × (set ≡ concerns (tide_of (shown y).counts) (tide_of (shown z).counts) more (shown y).past)
 
   -- The effect of an event in one hold: the entries pass its test, and if allocation succeeded the seat has a receipt
   -- of each.

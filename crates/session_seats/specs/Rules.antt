@@ -62,7 +62,7 @@ abbrev pub nobody : View
 nobody = view false 0 []
 
 abbrev pub no_counts : Counts
-no_counts = record { handed = 0; written = 0; taken = 0; stage = 0 }
+no_counts = record { handed = 0; written = 0; taken = 0; stage = 0; phase = 0 }
 
 -- The sight at the start: the home seat's number is 0, it names no lane, and it is the one user.
 abbrev pub start : SessionInputs → Sight

@@ -3,10 +3,13 @@ use Rattle.std.specs.Prelude.{◌≡◌, ℕ, List, [], ◌∷◌, Option, Some,
 use Rattle.std.proofs.Common.{refl, ap, ◌∙◌, subst, arith}
 use Rattle.session_model.specs.declared.entry.Entry.TheVariants as entry
 use Rattle.session_model.specs.declared.event.Event.TheVariants.{Send}
+use Rattle.session_seats.specs.declared.view.Counts.{Counts}
 use Rattle.session_seats.specs.declared.view.SeatName.{SeatName}
 use Rattle.session_seats.specs.declared.view.Stamp.{Stamp}
+use Rattle.session_seats.specs.Rules.{no_counts}
 use Rattle.session_seats.specs.Sights.{
   AllNamed,
+  CountsRise,
   FitsStage,
   AreSeatedInOrder,
   seats_given_by,
@@ -118,3 +121,22 @@ not_with_users h = let none = h.1 (omega arith) in absurd (omega arith)
 
 pub no_third_stage : FitsStage 3 0 → ⊥
 no_third_stage h = let low = h.0 in absurd (omega arith)
+
+-- ---- Phases
+
+-- The counts of a session in this phase that has done nothing else.
+abbrev pub in_phase : ℕ → Counts
+in_phase phase = record no_counts { phase = phase }
+
+-- An open session fails, and one that has failed stays so.
+pub fails : CountsRise (in_phase 4) (in_phase 5)
+fails = record {
+  handed = omega arith;
+  written = omega arith;
+  taken = omega arith;
+  stage = omega arith;
+  phase = omega arith;
+}
+
+pub stays_failed : CountsRise (in_phase 5) (in_phase 4) → ⊥
+stays_failed h = let phase = h.phase in absurd (omega arith)

@@ -184,6 +184,7 @@ pub record CountsRise (before now : Counts) : Type 0 where
   pub written : before.written ≤ now.written
   pub taken : before.taken ≤ now.taken
   pub stage : before.stage ≤ now.stage
+  pub phase : before.phase ≤ now.phase
 
 -- The second sight is later.
 pub record IsLaterSight (before now : Sight) : Type 0 where

@@ -11,6 +11,7 @@ use Rattle.session_model.specs.declared.event.Owner.TheVariants as owner
 use Rattle.session_seats.specs.declared.wakes.LaneSet.TheVariants as lane_set
 use Rattle.session_seats.specs.declared.wakes.Tide.{Tide}
 use Rattle.session_seats.specs.declared.wakes.Waiter.TheVariants as waiter
+use Rattle.session_seats.specs.SeatRows.{in_phase}
 use Rattle.session_seats.specs.Wakes.{
   ChangeCounts,
   change_counts,
@@ -20,6 +21,7 @@ use Rattle.session_seats.specs.Wakes.{
   everybody,
   nobody,
   submitter,
+  tide_of,
 }
 
 abbrev pub tide : ℕ → ℕ → ℕ → Tide
@@ -82,6 +84,10 @@ stage_for_workers = refl
 
 pub phase_for_everybody : concerns (tide 2 0 4) (tide 2 0 5) [] [] ≡ everybody
 phase_for_everybody = refl
+
+-- A session that opens concerns everybody, by what it shows before and after.
+pub opens_for_everybody : concerns (tide_of (in_phase 3)) (tide_of (in_phase 4)) [] [] ≡ everybody
+opens_for_everybody = refl
 
 -- ---- Counts
 

@@ -29,6 +29,7 @@ use Rattle.session_model.specs.declared.entry.Entry.TheVariants as entry
 use Rattle.session_model.specs.declared.event.Event.TheVariants.{Submit, Send, Take, Cancel, End}
 use Rattle.session_model.specs.declared.event.Owner.{Owner}
 use Rattle.session_model.specs.declared.event.Owner.TheVariants as owner
+use Rattle.session_seats.specs.declared.view.Counts.{Counts}
 use Rattle.session_seats.specs.declared.wakes.LaneSet.{LaneSet}
 use Rattle.session_seats.specs.declared.wakes.LaneSet.TheVariants as lane_set
 use Rattle.session_seats.specs.declared.wakes.Tide.{Tide}
@@ -97,6 +98,10 @@ entries_concern [] past = nobody
 entries_concern (e ∷ more) past = with_entry e (more ++ past) (entries_concern more past)
 
 -- ---- A hold
+
+-- The numbers among the counts by which a change may concern threads that wait.
+abbrev pub tide_of : Counts → Tide
+tide_of counts = record { written = counts.written; stage = counts.stage; phase = counts.phase }
 
 -- The set with those whom the numbers concern: everybody if the phase changed, the sender and the reader if the stage
 -- did, and the reader if frames were written.

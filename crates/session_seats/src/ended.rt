@@ -44,6 +44,15 @@ pub trait Ending<S: Held, T, E> {
         ensures refused { IfErr result (refuses self.now value.now) };
 }
 
+/// How a shared value is taken out: the check of whether it may be, and the value that is dropped in its place.
+///
+/// Used in `crates/sftp_tasks/src/report.rt`.
+#[derive(Drop)]
+pub struct TakeOut<S: Drop, X: Drop> {
+    pub ending: X,
+    pub empty: S,
+}
+
 /// A shared value was not taken out. Its seats come back with all their receipts.
 ///
 /// Used in `crates/sftp_tasks/src/report.rt`.
@@ -57,26 +66,25 @@ pub struct NotEnded<S: Held + Drop, E: Drop> {
 }
 
 impl<S: Held + Drop> Shared<S> {
-    /// Takes the seats in, and the value out, if it may be taken out; the value `empty` is dropped in its place. With
-    /// `Ok` it returns the receipts of each seat in the order of the seats, and what was made of the value before.
+    /// Takes the seats in, and the value out, if it may be taken out. With `Ok` it returns the receipts of each seat in
+    /// the order of the seats, and what was made of the value before.
     ///
     /// # Errors
     ///
     /// `NotEnded` if the value may not be taken out, or an allocation failed now or earlier for a receipt. No seat was
     /// taken in then, and each comes back with its receipts.
-    pub fn close<T: Drop, E: Drop, X: Ending<S, T, E>, R: Wait>(
+    pub fn close<T: Drop, E: Drop, X: Ending<S, T, E> + Drop, R: Wait>(
         self,
         rt: &R,
         alloc: Global,
         seat: Seat<S>,
         others: Vec<Seat<S>>,
-        empty: S,
-        ending: &X,
+        out: TakeOut<S, X>,
     ) -> Result<(Ended<S>, T), NotEnded<S, E>>
         requires own { AllOf self.table.shared.table_id (seat ∷ others.items) }
-        ensures closes { IfOk result (λ r. Closes S.shown (seat ∷ others.items) r.0 × X.allows ending.now r.0.value r.1) }
+        ensures closes { IfOk result (λ r. Closes S.shown (seat ∷ others.items) r.0 × X.allows out.ending r.0.value r.1) }
         ensures covers { IfOk result (λ r. HasAllSeats (claims_of (seat ∷ others.items)) → CoversEntries S.shown r.0) }
-        ensures kept { IfErr result (λ n. HandsBack S.shown (X.refuses ending.now) seat others.items n.error n.seat n.others.items) }
+        ensures kept { IfErr result (λ n. HandsBack S.shown (X.refuses out.ending) seat others.items n.error n.seat n.others.items) }
     {
         let mut lists = Vec::new(alloc);
         if lists.reserve(others.len().saturating_add(1)).is_err() {
@@ -93,7 +101,7 @@ impl<S: Held + Drop> Shared<S> {
                 others,
             });
         }
-        let (mut inner, receipts, made) = match self.take_out(rt, seat, ending) {
+        let (mut inner, receipts, made) = match self.take_out(rt, seat, &out.ending) {
             Ok(taken) => taken,
             Err((e, seat)) => {
                 return Err(NotEnded {
@@ -107,7 +115,7 @@ impl<S: Held + Drop> Shared<S> {
         self.join_all(&mut inner, &mut lists, others);
         self.table.shared.load::<Check>(&mut inner, 0);
         let held = inner.slot_mut(&self.table.shared, 0);
-        let value = mem::replace(held, empty);
+        let value = mem::replace(held, out.empty);
         let ended = Ended {
             value,
             receipts: lists,

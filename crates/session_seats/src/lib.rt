@@ -16,7 +16,7 @@ mod view;
 mod waits;
 mod wakes;
 
-pub use ended::{Ended, Ending, NotEnded};
+pub use ended::{Ended, Ending, NotEnded, TakeOut};
 pub use event::Event;
 pub use laws::{changes_are_counted, others_have_no_news, quiet_holds_change_nothing};
 pub use origin::Origin;

@@ -15,6 +15,7 @@ pub trait Held {
     ghost use Rattle.session_seats.specs.Sights.{Shown, one_if};
     ghost use Rattle.session_seats.specs.NewSeats.{with_seat};
     ghost use Rattle.session_seats.specs.Users.{with_users};
+    ghost use Rattle.session_seats.specs.Wakes.{tide_of};
 
     // The view of the value.
     ghost shown: { Self → Shown };
@@ -23,10 +24,9 @@ pub trait Held {
     fn entries(&self) -> &[Entry]
         ensures { reverse result.now ≡ (shown self.now).past };
 
-    /// Returns the numbers by which a change may concern threads that wait. The phase is another number in each phase
-    /// of the session; no contract says anything of it.
+    /// Returns the numbers by which a change may concern threads that wait.
     fn tide(&self) -> Tide
-        ensures { (result.written ≡ (shown self.now).counts.written) × (result.stage ≡ (shown self.now).counts.stage) };
+        ensures { result ≡ tide_of (shown self.now).counts };
 
     /// Returns how many users there are.
     fn users(&self) -> u64

@@ -1,7 +1,7 @@
 //! Seats at a shared value.
-ghost use Rattle.std.specs.Prelude.{◌≡◌, ◌<◌, ◌==◌, [], None, Some, false, true, IfNone, IfSome};
-ghost use Rattle.session_seats.specs.Sights.{SessionInputs, own};
-ghost use Rattle.session_seats.specs.Holds.{Applied, Hold, IsFresh, IsSeat, NamesLane, MayHold, claim_of, passes};
+ghost use Rattle.std.specs.Prelude.{◌≡◌, ◌<◌, ◌==◌, ◌++◌, [], None, Some, Ok, drop, false, true, IfNone, IfSome, OnOk};
+ghost use Rattle.session_seats.specs.Sights.{SessionInputs, made_from, own};
+ghost use Rattle.session_seats.specs.Holds.{Applied, Concerning, Hold, IsFresh, IsSeat, NamesLane, MayHold, claim_of, passes};
 ghost use Rattle.session_seats.specs.NewSeats.{Gives, GivesLane, HasNone};
 ghost use Rattle.session_seats.specs.Rules.{home};
 
@@ -9,7 +9,10 @@ use crate::event::Event;
 use crate::rule::Held;
 use crate::shared::Shared;
 use crate::view::{Receipt, View};
+use crate::wakes::{WakeSet, concerned};
 use atomic_table::Seat as Inner;
+use session_model::Entry;
+use sftp_model::TryCopy;
 use ssh_encoding::OutOfMemory;
 use std::alloc::Global;
 use std::sync::Wait;
@@ -136,23 +139,80 @@ impl<S: Held + Drop> Seat<S> {
             self.old.inner.me self.new.inner.me }
     {
         let mut gate = shared.gate.lock(rt);
-        let (did, copied, concerned) = shared.hold(
-            rt,
-            alloc,
-            &mut self.inner,
-            &mut self.receipts,
-            &mut self.share,
-            self.lane,
-            event,
-        );
+        let (did, copied, concerned) = self.hold(rt, alloc, shared, event);
         gate.note(concerned);
         drop(gate);
         shared.condvars.notify(concerned);
-        if copied.is_err() {
-            self.whole = false;
-        }
         (did, copied)
     }
+
+    /// Does the event in one hold of the lock, and keeps a receipt of each entry that it adds. The seat's share follows
+    /// the users. Returns also the waiting threads that the hold concerns.
+    fn hold<A, E: Event<S, A>, R: Wait>(
+        &mut self,
+        rt: &R,
+        alloc: Global,
+        shared: &Shared<S>,
+        event: E,
+    ) -> (A, Result<(), OutOfMemory>, WakeSet)
+        requires own { self.old.inner.table_id ≡ shared.now.table.shared.table_id }
+        requires may { MayHold (claim_of self.old.inner.me) (E.needs event) }
+        ensures own { self.new.inner.table_id ≡ self.old.inner.table_id }
+        ensures lane { self.new.lane ≡ self.old.lane }
+        ensures held { Hold S.shown (Concerning S.shown (Applied S.shown (passes (E.only event) self.old.lane) (E.needs event)
+            (λ y z. E.does event self.old.lane y z result.0) result.1 self.old.receipts.items self.new.receipts.items) result.2)
+            self.old.inner.me self.new.inner.me }
+    {
+        shared.acquire(rt, &mut self.inner);
+        let held = self.inner.slot_mut(&shared.table.shared, 0);
+        let from = held.entries().len();
+        let before = held.tide();
+        let others = held.users() - self.share;
+        let did = event.act(held, self.lane);
+        self.share = held.users() - others;
+        let after = held.tide();
+        let journal = held.entries();
+        let concerned = concerned(before, after, journal, from);
+        let copied = copy_from(alloc, journal, from, &mut self.receipts);
+        shared.release(&mut self.inner);
+        self.whole = has_kept(self.whole, &copied);
+        (did, copied, concerned)
+    }
+}
+
+/// Returns true if no allocation for a receipt failed so far, nor in this copy.
+fn has_kept(whole: bool, copied: &Result<(), OutOfMemory>) -> bool
+    ensures whole { result ≡ true → whole ≡ true }
+    ensures copied { result ≡ true → copied.now ≡ Ok tt }
+{
+    match copied {
+        Ok(()) => whole,
+        Err(OutOfMemory) => false,
+    }
+}
+
+/// Adds receipts for the entries from the place on. Fails if an allocation fails; some may have been added then.
+fn copy_from(
+    alloc: Global,
+    journal: &[Entry],
+    from: usize,
+    receipts: &mut Vec<Receipt>,
+) -> Result<(), OutOfMemory>
+    ensures { OnOk result (receipts.new.items ≡ receipts.old.items ++ made_from from (drop from journal.now)) }
+{
+    if from > journal.len() {
+        return Err(OutOfMemory);
+    }
+    let mut place = from as u64;
+    for entry in &journal[from..] {
+        if receipts.reserve(1).is_err() {
+            return Err(OutOfMemory);
+        }
+        let entry = entry.try_copy(alloc)?;
+        receipts.push_reserved(Receipt { place, entry });
+        place += 1;
+    }
+    Ok(())
 }
 
 impl<S: Held + Drop> Seat<S> {

@@ -1,19 +1,14 @@
-//! The shared value, protected by its lock, and one hold of it.
-ghost use Rattle.std.specs.Prelude.{◌≡◌, ◌++◌, [], None, drop, IfOk, OnOk};
-ghost use Rattle.session_seats.specs.Sights.{made_from};
+//! The shared value, protected by its lock.
+ghost use Rattle.std.specs.Prelude.{◌≡◌, [], None, IfOk};
 ghost use Rattle.session_seats.specs.Rules.{home};
-ghost use Rattle.session_seats.specs.Holds.{Applied, CanRelease, HasTaken, Hold, IsSeat, IsSeatOf, Releases, MayHold, at_first, claim_of, passes};
+ghost use Rattle.session_seats.specs.Holds.{CanRelease, HasTaken, IsSeat, Releases, at_first};
 
-use crate::event::Event;
 use crate::origin::Origin;
 use crate::rule::{Acquire, Held, Release, SeatRule};
 use crate::seat::Seat;
-use crate::view::{Receipt, View};
+use crate::view::View;
 use crate::waits::{Condvars, Gate};
-use crate::wakes::{WakeSet, concerned};
 use atomic_table::{Seat as Inner, Table};
-use session_model::Entry;
-use sftp_model::TryCopy;
 use ssh_encoding::OutOfMemory;
 use std::alloc::Global;
 use std::sync::{Mutex, Wait};
@@ -93,63 +88,4 @@ impl<S: Held + Drop> Shared<S> {
     {
         self.table.shared.store::<Release>(seat, 0, 0);
     }
-
-    /// Does one hold: an event, and receipts for the entries that it added. The seat's share follows the users. Returns
-    /// also the waiting threads that the hold concerns.
-    pub(crate) fn hold<A, E: Event<S, A>, R: Wait>(
-        &self,
-        rt: &R,
-        alloc: Global,
-        seat: &mut Inner<S, View>,
-        receipts: &mut Vec<Receipt>,
-        share: &mut u64,
-        lane: Option<u32>,
-        event: E,
-    ) -> (A, Result<(), OutOfMemory>, WakeSet)
-        requires own { seat.old.table_id ≡ self.now.table.shared.table_id }
-        requires is { IsSeatOf lane share.old seat.old.me }
-        requires may { MayHold (claim_of seat.old.me) (E.needs event) }
-        ensures own { seat.new.table_id ≡ seat.old.table_id }
-        ensures share { share.new ≡ (claim_of seat.new.me).share }
-        ensures held { Hold S.shown (Applied S.shown (passes (E.only event) lane) (E.needs event)
-            (λ y z. E.does event lane y z result.0) result.1 receipts.old.items receipts.new.items) seat.old.me seat.new.me }
-    {
-        self.acquire(rt, seat);
-        let held = seat.slot_mut(&self.table.shared, 0);
-        let from = held.entries().len();
-        let before = held.tide();
-        let others = held.users() - *share;
-        let did = event.act(held, lane);
-        *share = held.users() - others;
-        let after = held.tide();
-        let journal = held.entries();
-        let concerned = concerned(before, after, journal, from);
-        let copied = copy_from(alloc, journal, from, receipts);
-        self.release(seat);
-        (did, copied, concerned)
-    }
-}
-
-/// Adds receipts for the entries from the place on. Fails if an allocation fails; some may have been added then.
-fn copy_from(
-    alloc: Global,
-    journal: &[Entry],
-    from: usize,
-    receipts: &mut Vec<Receipt>,
-) -> Result<(), OutOfMemory>
-    ensures { OnOk result (receipts.new.items ≡ receipts.old.items ++ made_from from (drop from journal.now)) }
-{
-    if from > journal.len() {
-        return Err(OutOfMemory);
-    }
-    let mut place = from as u64;
-    for entry in &journal[from..] {
-        if receipts.reserve(1).is_err() {
-            return Err(OutOfMemory);
-        }
-        let entry = entry.try_copy(alloc)?;
-        receipts.push_reserved(Receipt { place, entry });
-        place += 1;
-    }
-    Ok(())
 }

@@ -1,5 +1,5 @@
-//! A seat's knowledge of the shared session. Except for `Receipt` and `Counts` no values of the types are made: they
-//! occur in contracts.
+//! A seat's knowledge of the shared session. Except for `Receipt` no values of the types are made: they occur in
+//! contracts.
 use session_model::{Entry, Lane};
 use sftp_model::{Reply, SftpOptions};
 use std::collections::LinkedList;
@@ -14,16 +14,17 @@ pub struct Receipt {
 }
 
 /// Numbers of a shared session that never fall, the hello and VERSION included: the frames that were handed out, those
-/// of them that were written whole, the frames that were taken, and the stage of the end. The stage is 0 while there
-/// are users, 1 once the last one has left, and 2 once that is settled.
+/// of them that were written whole, the frames that were taken, the stage of the end, and the number of the session's
+/// phase. The stage is 0 while there are users, 1 once the last one has left, and 2 once that is settled. The phase is
+/// 0 at first, and another number in each phase.
 ///
-/// Used in `crates/sftp_tasks/src/locked.rt`.
-#[derive(Clone, Copy)]
+/// Used by the functions of this module.
 pub struct Counts {
     pub handed: u64,
     pub written: u64,
     pub taken: u64,
     pub stage: u64,
+    pub phase: u64,
 }
 
 /// An entry, and the number of the seat that made it.

@@ -26,7 +26,7 @@ pub struct Tide {
     pub written: u64,
     /// The stage of the end.
     pub stage: u64,
-    /// A number that is another one in each phase of the session.
+    /// The number of the session's phase.
     pub phase: u64,
 }
 

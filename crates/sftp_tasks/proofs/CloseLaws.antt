@@ -1,5 +1,5 @@
 -- What is reported once the session was taken out.
-use Rattle.std.proofs.Common.{◌≡◌, ◌≢◌, ◌<◌, ℕ, List, length, map, sym, ap, ◌∙◌, subst, reverse, None, Some, inl, inr, true, Ok, Err, IfOk, IfSome, Global}
+use Rattle.std.proofs.Common.{◌≡◌, ◌≢◌, ◌<◌, ℕ, ◌==◌, List, length, map, sym, ap, ◌∙◌, subst, reverse, None, Some, inl, inr, true, Ok, Err, IfOk, IfSome, Global}
 use Rattle.std.specs.Prelude.{Option, Result}
 use Rattle.sftp_model.specs.declared.error.Error.{Error}
 use Rattle.sftp_model.specs.declared.error.Error.TheVariants as error
@@ -14,6 +14,7 @@ use Rattle.session_seats.specs.declared.view.Receipt.{Receipt}
 use Rattle.session_seats.specs.Closes.{Closes, HandsBack, Returns, items_of, part}
 use Rattle.session_seats.specs.Holds.{sight_by}
 use Rattle.session_seats.specs.NewSeats.{Looks}
+use Rattle.session_driver.specs.declared.session.Phase.TheVariants.{Open}
 use Rattle.session_driver.specs.Session.{IsFixed}
 use Rattle.session_model.specs.Grants.{next_due}
 use Rattle.session_model.specs.Journals.{IsJournal}
@@ -30,7 +31,6 @@ use Rattle.sftp_tasks.specs.Reported.{
   HaveLanes,
   IsRefusedFor,
   ListsJournal,
-  MayTakeCalls,
   Refused,
   Reported,
   TellsFault,
@@ -38,16 +38,20 @@ use Rattle.sftp_tasks.specs.Reported.{
   reason_of,
 }
 use Rattle.sftp_tasks.specs.Rounds.{Token}
+use Rattle.sftp_tasks.specs.SessionEvents.{MayTakeCalls}
+use Rattle.sftp_tasks.specs.Phases.{is_open_in, phase_number}
 use Rattle.sftp_tasks.specs.Shows.{shown_of}
+use Rattle.sftp_tasks.proofs.PhaseLaws.{open_by_number}
 use Rattle.sftp_tasks.proofs.LaneLaws.{have_lanes}
 
 pub reported : {G : Ghosts Locked} (seats : List (Seat Locked G)) (e : Ended Locked) (r : SharedReport)
     → Closes shown_of seats e
     → MayTakeCalls e.value.session → ReportsSession e.value.session r.report
     → ListsJournal e.value.session r.journal.items
+    → r.is_open ≡ is_open_in e.value.session.phase
     → (r.is_open ≡ true → next_due (setting_at e.value.session) (past_of e.value.session.work) ≡ None) → r.receipts
     ≡ e.receipts → Reported seats r
-reported seats e r closes goes reports lists settled same =
+reported seats e r closes goes reports lists opened settled same =
     let s = e.value.session in
     let now = closes.now in
     let past : past_of s.work ≡ entries now.log = closes.shows.past in
@@ -67,6 +71,8 @@ reported seats e r closes goes reports lists settled same =
           (setting_by x.0.lanes x.0.options x.0.version s.info))
           (λ i. (sym told i, past i)) lists.fixed;
       unkept = ap kept_in (sym past) ∙ goes.0;
+      opened = opened ∙ open_by_number s.phase
+          ∙ ap (λ (x : Sight). x.counts.phase == phase_number Open) (sym told);
       settled = subst (λ (x : Sight × List Entry). r.is_open ≡ true
           → next_due (setting_by x.0.lanes x.0.options x.0.version s.info) x.1 ≡ None) (λ i. (sym told i, past i))
           settled;

@@ -2,6 +2,7 @@
 use Rattle.std.proofs.Common.{
   ◌≡◌,
   ◌⊎◌,
+  ◌≤◌,
   ℕ,
   ◌==◌,
   List,
@@ -70,11 +71,13 @@ use Rattle.sftp_lanes.specs.Seen.{SessionValue, given_of, seen_of, setting_at}
 use Rattle.session_work.specs.Working.{LanesValue, past_of, progress_of}
 use Rattle.session_work.specs.SoFar.{refused_past}
 use Rattle.session_work.specs.declared.lanes.Lanes.{Lanes}
-use Rattle.session_seats.specs.Sights.{FitsStage, CountsRise, StaysThere}
+use Rattle.session_seats.specs.Sights.{FitsStage, StaysThere}
 use Rattle.session_seats.specs.Holds.{GoesBy, no_allowance, passes}
-use Rattle.session_seats.proofs.Lists.{stays_same, rises_none}
+use Rattle.session_seats.proofs.Lists.{stays_same}
 use Rattle.sftp_tasks.specs.declared.locked.Locked.{Locked}
+use Rattle.sftp_tasks.specs.Phases.{phase_number}
 use Rattle.sftp_tasks.specs.Shows.{shown_of}
+use Rattle.sftp_tasks.proofs.PhaseLaws.{number_fails, number_rises, number_stays}
 use Rattle.sftp_tasks.specs.SessionEvents.{
   IsKept,
   IsRefusedBy,
@@ -142,10 +145,16 @@ pub record Extended (test : Entry → Bool) (old new : SessionValue) : Type 0 wh
   pub lanes : new.lanes ≡ old.lanes
   pub options : new.options ≡ old.options
   pub version : StaysThere old.version new.version
+  pub phase : phase_number old.phase ≤ phase_number new.phase
 
 pub same_extended : (test : Entry → Bool) (old new : SessionValue) → new ≡ old → Extended test old new
-same_extended test old new is = subst (Extended test old) (sym is) record
-    { past = extends_none test (past_of old.work); lanes = refl; options = refl; version = stays_same old.version }
+same_extended test old new is = subst (Extended test old) (sym is) record {
+  past = extends_none test (past_of old.work);
+  lanes = refl;
+  options = refl;
+  version = stays_same old.version;
+  phase = number_stays old.phase old.phase refl;
+}
 
 pub failed_extended : (test : Entry → Bool) (old new : SessionValue) → HasFailed old new → Extended test old new
 failed_extended test old new h = record {
@@ -153,6 +162,7 @@ failed_extended test old new h = record {
   lanes = ap (λ (s : SessionValue). s.lanes) h.rest;
   options = ap (λ (s : SessionValue). s.options) h.rest;
   version = subst (StaysThere old.version) (sym (ap (λ (s : SessionValue). s.version) h.rest)) (stays_same old.version);
+  phase = number_fails old.phase new.phase (ap (λ (s : SessionValue). s.phase) h.rest);
 }
 
 pub unmoved_extended : (test : Entry → Bool) (old new : SessionValue) → IsUnmoved old new → Extended test old new
@@ -173,17 +183,18 @@ goes_on_extended test Did old new h past = record {
   lanes = ap (λ (s : SessionValue). s.lanes) h.rest;
   options = ap (λ (s : SessionValue). s.options) h.rest;
   version = subst (StaysThere old.version) (sym (ap (λ (s : SessionValue). s.version) h.rest)) (stays_same old.version);
+  phase = number_stays old.phase new.phase (ap (λ (s : SessionValue). s.phase) h.rest);
 }
 
 -- where nothing but the session has changed
 pub session_goes : (test : Entry → Bool) (y z : Locked) → z ≡ record y { session = z.session }
     → Extended test y.session z.session → GoesBy test no_allowance (shown_of y) (shown_of z)
 session_goes test y z rest e =
-    let counts : z.counts ≡ y.counts = ap (λ (x : Locked). x.counts) rest in
     let users : z.users ≡ y.users = ap (λ (x : Locked). x.users) rest in
-    let stage : z.counts.stage ≡ y.counts.stage = ap (λ x. x.stage) counts in
-    let handed : z.counts.handed ≡ y.counts.handed = ap (λ x. x.handed) counts in
-    let written : z.counts.written ≡ y.counts.written = ap (λ x. x.written) counts in (
+    let stage : z.counts.stage ≡ y.counts.stage = ap (λ (x : Locked). x.counts.stage) rest in
+    let handed : z.counts.handed ≡ y.counts.handed = ap (λ (x : Locked). x.counts.handed) rest in
+    let written : z.counts.written ≡ y.counts.written = ap (λ (x : Locked). x.counts.written) rest in
+    let taken : z.counts.taken ≡ y.counts.taken = ap (λ (x : Locked). x.counts.taken) rest in (
       e.past.0,
       record {
         past = e.past.1;
@@ -192,7 +203,13 @@ session_goes test y z rest e =
         lanes = e.lanes;
         options = e.options;
         version = e.version;
-        rises = subst (CountsRise y.counts) (sym counts) (rises_none y.counts);
+        rises = record {
+          handed = omega arith;
+          written = omega arith;
+          taken = omega arith;
+          stage = omega arith;
+          phase = e.phase;
+        };
         written = omega arith;
         users = omega arith;
         ends = subst (λ (k : ℕ × ℕ). FitsStage y.counts.stage y.users → FitsStage k.0 k.1)
@@ -291,6 +308,7 @@ lets_idle_go_extended lane old new h = record {
   lanes = ap (λ (s : SessionValue). s.lanes) h.rest;
   options = ap (λ (s : SessionValue). s.options) h.rest;
   version = subst (StaysThere old.version) (sym (ap (λ (s : SessionValue). s.version) h.rest)) (stays_same old.version);
+  phase = number_stays old.phase new.phase (ap (λ (s : SessionValue). s.phase) h.rest);
 }
 
 lets_idle : (lane : ℕ) (old new : SessionValue) (there : Bool) → MatchBool there (LetsIdleGo lane old new) (new ≡ old)
@@ -327,27 +345,32 @@ hands_extend s a b (Some bytes) lane h = subst (λ (y : RunProgress). Extends (p
 
 -- what is seen of a session
 seen_extended : (test : Entry → Bool) (old new : SessionValue) (now : SessionView) → seen_of new ≡ now → now.given
-    ≡ given_of old → now.version ≡ old.version → Extends test (past_of old.work) now.progress.past
+    ≡ given_of old → now.version ≡ old.version → phase_number old.phase ≤ phase_number now.phase
+    → Extends test (past_of old.work) now.progress.past
     → Extended test old new
-seen_extended test old new now is given version past = record {
+seen_extended test old new now is given version phase past = record {
   past = subst (λ (s : SessionView). Extends test (past_of old.work) s.progress.past) (sym is) past;
   lanes = ap (λ (s : SessionView). s.given.lanes) is ∙ ap (λ (g : SessionInputs). g.lanes) given;
   options = ap (λ (s : SessionView). s.given.options) is ∙ ap (λ (g : SessionInputs). g.options) given;
   version = subst (StaysThere old.version) (sym (ap (λ (s : SessionView). s.version) is ∙ version))
       (stays_same old.version);
+  phase = subst (λ (p : Phase). phase_number old.phase ≤ phase_number p)
+      (sym (ap (λ (s : SessionView). s.phase) is)) phase;
 }
 
-pub hands_extended : (p : Phase) (lane : Option ℕ) (old new : SessionValue) (bytes : Option (List ℕ))
+pub hands_extended : (p : Phase) (lane : Option ℕ) (old new : SessionValue) (bytes : Option (List ℕ)) → p ≡ old.phase
     → HandsOutIn p old new bytes → Extended (passes by_flush lane) old new
-hands_extended Fresh lane old new bytes h = seen_extended _ old new _ h.1.greeted refl refl
+hands_extended Fresh lane old new bytes was h = seen_extended _ old new _ h.1.greeted refl refl
+    (number_rises old.phase Greeted Fresh Greeted was refl (omega arith))
     (extends_none _ (past_of old.work))
-hands_extended Greeted lane old new bytes h = same_extended _ old new h.1
-hands_extended Asking lane old new bytes h = seen_extended _ old new _ h.1.queried refl refl
+hands_extended Greeted lane old new bytes was h = same_extended _ old new h.1
+hands_extended Asking lane old new bytes was h = seen_extended _ old new _ h.1.queried refl refl
+    (number_rises old.phase Queried Asking Queried was refl (omega arith))
     (extends_one _ (entry.Event Send) (past_of old.work) refl)
-hands_extended Queried lane old new bytes h = same_extended _ old new h.1
-hands_extended Open lane old new bytes h = goes_on_extended _ _ old new h
+hands_extended Queried lane old new bytes was h = same_extended _ old new h.1
+hands_extended Open lane old new bytes was h = goes_on_extended _ _ old new h
     (hands_extend (setting_at old) (progress_of old.work) (progress_of new.work) bytes lane h.did.hands)
-hands_extended Failed lane old new bytes h = absurd h
+hands_extended Failed lane old new bytes was h = absurd h
 
 -- ---- what is taken
 
@@ -363,26 +386,34 @@ begins_extend false p before now lane h = subst (Extends (passes by_read lane) b
 begins_extend true p before now lane h = subst (Extends (passes by_read lane) before) (sym h.1.1.1)
     (extends_one _ _ before refl)
 
+-- the phase after VERSION
+pub begins_later : (old : Phase) (asks : Bool) (new : Phase) (before now : List Entry) → Greeted ≡ old
+    → BeginsBy asks new before now → phase_number old ≤ phase_number new
+begins_later old false new before now was h = number_rises old new Greeted Open was h.0 (omega arith)
+begins_later old true new before now was h = number_rises old new Greeted Asking was h.0 (omega arith)
+
 pub takes_extended : (p : Phase) (body_reads : Result (Option ℕ × Reply) FrameError) (lane : Option ℕ)
-    (old new : SessionValue) → TakesIn p body_reads old new → Extended (passes by_read lane) old new
-takes_extended Greeted body_reads lane old new h = record {
+    (old new : SessionValue) → p ≡ old.phase → TakesIn p body_reads old new → Extended (passes by_read lane) old new
+takes_extended Greeted body_reads lane old new was h = record {
   past = begins_extend h.0 new.phase (past_of old.work) (past_of new.work) lane h.1.begins;
   lanes = ap (λ (s : SessionValue). s.lanes) h.1.rest;
   options = ap (λ (s : SessionValue). s.options) h.1.rest;
   version = subst (λ (v : Option Reply). StaysThere v new.version) (sym h.1.untold) tt;
+  phase = begins_later old.phase h.0 new.phase _ _ was h.1.begins;
 }
-takes_extended Queried body_reads lane old new h = record {
+takes_extended Queried body_reads lane old new was h = record {
   past = let t = h.limited.tells in subst (Extends (passes by_read lane) (past_of old.work)) (sym t.1.1.2)
       (extends_one _ (entry.Event (Take t.0 t.1.0)) (past_of old.work) refl);
   lanes = ap (λ (s : SessionValue). s.lanes) h.rest;
   options = ap (λ (s : SessionValue). s.options) h.rest;
   version = subst (StaysThere old.version) (sym (ap (λ (s : SessionValue). s.version) h.rest)) (stays_same old.version);
+  phase = number_rises old.phase new.phase Queried Open was (ap (λ (s : SessionValue). s.phase) h.rest) (omega arith);
 }
-takes_extended Open body_reads lane old new h = goes_on_extended _ _ old new h
+takes_extended Open body_reads lane old new was h = goes_on_extended _ _ old new h
     (takes_extend (setting_at old) body_reads (progress_of old.work) (progress_of new.work) lane h.did.takes)
-takes_extended Fresh body_reads lane old new h = absurd h
-takes_extended Asking body_reads lane old new h = absurd h
-takes_extended Failed body_reads lane old new h = absurd h
+takes_extended Fresh body_reads lane old new was h = absurd h
+takes_extended Asking body_reads lane old new was h = absurd h
+takes_extended Failed body_reads lane old new was h = absurd h
 
 -- ---- faults
 
@@ -398,6 +429,7 @@ kept_extended test lets f old new h = record {
   lanes = h.lanes;
   options = h.options;
   version = subst (StaysThere old.version) (sym h.version) (stays_same old.version);
+  phase = number_fails old.phase new.phase h.failed;
 }
 
 refused_extend : (test : Entry → Bool) → LetsKeep test → (fault : Option Fault) (past now : List Entry) → now
@@ -413,6 +445,7 @@ refused_extended test lets e old new h = record {
   lanes = ap (λ (s : SessionValue). s.lanes) h.rest;
   options = ap (λ (s : SessionValue). s.options) h.rest;
   version = subst (StaysThere old.version) (sym (ap (λ (s : SessionValue). s.version) h.rest)) (stays_same old.version);
+  phase = number_fails old.phase new.phase (ap (λ (s : SessionValue). s.phase) h.rest);
 }
 
 stops_either : (test : Entry → Bool) → LetsKeep test → (body_reads : Result (Option ℕ × Reply) FrameError) (e : Error)

@@ -54,7 +54,8 @@ use Rattle.session_seats.specs.declared.view.View.{View}
 use Rattle.session_seats.specs.Holds.{Allowance, GoesBy, Hold, claim_of, no_allowance, passes}
 use Rattle.session_seats.proofs.Lists.{stays_on, stays_same}
 use Rattle.sftp_tasks.specs.declared.locked.Locked.{Locked}
-use Rattle.sftp_tasks.specs.Shows.{shown_of}
+use Rattle.sftp_tasks.specs.Shows.{counts_of, shown_of}
+use Rattle.sftp_tasks.proofs.PhaseLaws.{number_fails, number_stays}
 use Rattle.sftp_core.specs.Pieces.{chunk_bytes}
 use Rattle.sftp_model.specs.ReplyReadings.{reply_at}
 use Rattle.std.specs.Option.{option_map}
@@ -95,7 +96,7 @@ use Rattle.sftp_tasks.proofs.EntryLaws.{
 }
 
 pub counts_goes : (test : Entry → Bool) (may : Allowance) (y z : Locked) → z.users ≡ y.users → z.seated ≡ y.seated
-    → z.counts.stage ≡ y.counts.stage → CountsRise y.counts z.counts
+    → z.counts.stage ≡ y.counts.stage → CountsRise (counts_of y) (counts_of z)
     → y.counts.handed + z.counts.written ≤ may.tells + z.counts.handed + y.counts.written
     → Extended test y.session z.session → GoesBy test may (shown_of y) (shown_of z)
 counts_goes test may y z users seated stage rises written e = (
@@ -124,7 +125,8 @@ handed_goes test y z rest more e =
     let written : z.counts.written ≡ y.counts.written = ap (λ (x : Locked). x.counts.written) rest in
     let taken : z.counts.taken ≡ y.counts.taken = ap (λ (x : Locked). x.counts.taken) rest in
     counts_goes test no_allowance y z (ap (λ (x : Locked). x.users) rest) (ap (λ (x : Locked). x.seated) rest) stage
-    record { handed = more; written = omega arith; taken = omega arith; stage = omega arith } (omega arith) e
+    record { handed = more; written = omega arith; taken = omega arith; stage = omega arith; phase = e.phase }
+    (omega arith) e
 
 pub taken_goes : (test : Entry → Bool) (y z : Locked) → z ≡ record y
     { session = z.session; counts = record y.counts { taken = z.counts.taken } } → y.counts.taken ≤ z.counts.taken
@@ -134,15 +136,16 @@ taken_goes test y z rest more e =
     let written : z.counts.written ≡ y.counts.written = ap (λ (x : Locked). x.counts.written) rest in
     let handed : z.counts.handed ≡ y.counts.handed = ap (λ (x : Locked). x.counts.handed) rest in
     counts_goes test no_allowance y z (ap (λ (x : Locked). x.users) rest) (ap (λ (x : Locked). x.seated) rest) stage
-    record { handed = omega arith; written = omega arith; taken = more; stage = omega arith } (omega arith) e
+    record { handed = omega arith; written = omega arith; taken = more; stage = omega arith; phase = e.phase }
+    (omega arith) e
 
 pub handing_goes : (lane : Option ℕ) (y z : Locked) (r : Result (Option Handed) Error) → z
     ≡ record y { session = z.session; counts = record y.counts { handed = z.counts.handed } }
     → HandingOut y z r → GoesBy (passes by_flush lane) no_allowance (shown_of y) (shown_of z)
 handing_goes lane y z (Ok None) rest h = handed_goes _ y z rest (let same = h.1.0 in omega arith)
-    (hands_extended y.session.phase lane y.session z.session None h.0)
+    (hands_extended y.session.phase lane y.session z.session None refl h.0)
 handing_goes lane y z (Ok (Some x)) rest h = handed_goes _ y z rest (let more = h.1.0.0.counts in omega arith)
-    (hands_extended y.session.phase lane y.session z.session _ h.0)
+    (hands_extended y.session.phase lane y.session z.session _ refl h.0)
 handing_goes lane y z (Err e) rest h = handed_goes _ y z rest (let same = h.1 in omega arith)
     (refuses_extended _ e y.session z.session h.0)
 
@@ -156,16 +159,22 @@ writing_goes lane frames y z is small =
     ap (λ (x : Locked). x.counts.written) is in
     let handed : z.counts.handed ≡ y.counts.handed = ap (λ (x : Locked). x.counts.handed) is in
     let taken : z.counts.taken ≡ y.counts.taken = ap (λ (x : Locked). x.counts.taken) is in
+    let same = same_extended _ y.session z.session (ap (λ (x : Locked). x.session) is) in
     counts_goes _ (tells_written frames) y z (ap (λ (x : Locked). x.users) is) (ap (λ (x : Locked). x.seated) is) stage
-    record { handed = omega arith; written = omega arith; taken = omega arith; stage = omega arith } (omega arith)
-    (same_extended _ y.session z.session (ap (λ (x : Locked). x.session) is))
+    record {
+      handed = omega arith;
+      written = omega arith;
+      taken = omega arith;
+      stage = omega arith;
+      phase = same.phase;
+    } (omega arith) same
 
 pub taking_goes : (lane : Option ℕ) (body : List ℕ) (y z : Locked) (r : Result (Unit {0}) Error) → z
     ≡ record y { session = z.session; counts = record y.counts { taken = z.counts.taken } }
     → y.counts.taken ≤ z.counts.taken
     → CountsTakenFrame body y z r → GoesBy (passes by_read lane) no_allowance (shown_of y) (shown_of z)
 taking_goes lane body y z (Ok u) rest more h = taken_goes _ y z rest more
-    (takes_extended y.session.phase _ lane y.session z.session h.0)
+    (takes_extended y.session.phase _ lane y.session z.session refl h.0)
 taking_goes lane body y z (Err e) rest more h = taken_goes _ y z rest more
     (stops_extended _ (λ f. refl) _ e y.session z.session h.0)
 
@@ -209,6 +218,7 @@ gives_up_goes lane y z rest h = session_goes _ y z rest record {
   options = ap (λ (s : SessionValue). s.options) h;
   version = subst (StaysThere y.session.version) (sym (ap (λ (s : SessionValue). s.version) h))
       (stays_same y.session.version);
+  phase = number_fails y.session.phase z.session.phase (ap (λ (s : SessionValue). s.phase) h);
 }
 
 -- the end is settled
@@ -238,6 +248,7 @@ ends_at lane y true most begun =
           taken = omega arith;
           stage =
               omega (arith, most);
+          phase = number_stays y.session.phase y.session.phase refl;
         };
         written = omega arith;
         users = omega arith;
@@ -276,6 +287,7 @@ refused_add_extended test error.OutOfMemory old new h =
       options = ap (λ (x : SessionValue). x.options) s.rest;
       version = subst (StaysThere old.version) (sym (ap (λ (x : SessionValue). x.version) s.rest))
           (stays_same old.version);
+      phase = number_stays old.phase new.phase (ap (λ (x : SessionValue). x.phase) s.rest);
     })
     h
 refused_add_extended test (error.BackgroundTaskFailure fault) old new h = same_extended test old new h.1
@@ -290,6 +302,7 @@ adds_call_extended lane call old new h = record {
   lanes = ap (λ (x : SessionValue). x.lanes) h.rest;
   options = ap (λ (x : SessionValue). x.options) h.rest;
   version = subst (StaysThere old.version) (sym (ap (λ (x : SessionValue). x.version) h.rest)) (stays_same old.version);
+  phase = number_stays old.phase new.phase (ap (λ (x : SessionValue). x.phase) h.rest);
 }
 
 step_is_submit : (lane : Option ℕ) (e : Entry) → passes by_step lane e ≡ true → passes by_submit lane e ≡ true
@@ -311,6 +324,7 @@ extended_as P Q f old new h = record {
   lanes = h.lanes;
   options = h.options;
   version = h.version;
+  phase = h.phase;
 }
 
 extended_on : (test : Entry → Bool) (a b c : SessionValue) → Extended test a b → Extended test b c → Extended test a c
@@ -319,6 +333,7 @@ extended_on test a b c p q = record {
   lanes = q.lanes ∙ p.lanes;
   options = q.options ∙ p.options;
   version = stays_on a.version b.version c.version p.version q.version;
+  phase = (let first = p.phase in let then = q.phase in omega arith);
 }
 
 pub submits_extended : (lane : ℕ) (call : Call) (old new : SessionValue) (r : Result Bool Error)

@@ -1,3 +1,4 @@
+mod PhaseLaws
 mod EntryLaws
 mod HoldLaws
 mod CallLaws
@@ -10,6 +11,7 @@ mod SameLocked
 mod EndedLaws
 mod PollLaws
 mod WorkLaws
+mod FailedLaws
 pub mod Sends
 pub mod SentLists
 pub mod SentEvents

@@ -38,11 +38,12 @@ use Rattle.sftp_tasks.specs.Entries.{by_failing, by_nothing}
 use Rattle.sftp_tasks.specs.LockedEvents.{HandingOut, IsFrame, CountsTakenFrame, UnlessFault, tells_written}
 use Rattle.sftp_tasks.specs.Opening.{FindsHello, GetsSomeVersion, HandingHello, HandsOutHello, IsUnasked, TakingVersion, TakingVersionFrame, VersionStops, by_opening}
 use Rattle.sftp_tasks.specs.Rounds.{RefusesRound, Token}
-use Rattle.sftp_tasks.specs.SessionEvents.{HasNoFault, RefusesCall, TakeStops}
+use Rattle.sftp_tasks.specs.SessionEvents.{MayTakeCalls, RefusesCall, TakeStops}
 use Rattle.sftp_tasks.specs.Shows.{shown_of}
 use Rattle.sftp_tasks.proofs.EntryLaws.{
   Extended,
   Extends,
+  begins_later,
   extends_none,
   extends_one,
   kept_extended,
@@ -52,17 +53,21 @@ use Rattle.sftp_tasks.proofs.EntryLaws.{
   stops_extended,
 }
 use Rattle.sftp_tasks.proofs.HoldLaws.{handed_goes, taken_goes}
+use Rattle.sftp_tasks.proofs.PhaseLaws.{number_rises}
 use Rattle.sftp_tasks.proofs.SentEvents.{whole_body}
 
 -- ---- the hello
 
-hello_extended : (test : Entry → Bool) (old new : SessionValue) → HandsHello old new → Extended test old new
-hello_extended test old new h = record {
+hello_extended : (test : Entry → Bool) (old new : SessionValue) → old.phase ≡ Fresh → HandsHello old new
+    → Extended test old new
+hello_extended test old new fresh h = record {
   past = ([], ap (λ (s : SessionView). s.progress.past) h.greeted, refl);
   lanes = ap (λ (s : SessionView). s.given.lanes) h.greeted;
   options = ap (λ (s : SessionView). s.given.options) h.greeted;
   version = subst (StaysThere old.version) (sym (ap (λ (s : SessionView). s.version) h.greeted))
       (stays_same old.version);
+  phase = number_rises old.phase new.phase Fresh Greeted (sym fresh) (ap (λ (s : SessionValue). s.phase) h.rest)
+      (omega arith);
 }
 
 pub hello_goes : (lane : Option ℕ) (y z : Locked) (r : Result (Option Handed) Error) → z
@@ -72,7 +77,7 @@ hello_goes lane y z (Ok None) rest h = subst (λ (x : Locked). GoesBy (passes by
     (shown_of x)) (sym h.1)
     (session_goes _ y y refl (same_extended _ y.session y.session refl))
 hello_goes lane y z (Ok (Some x)) rest h = handed_goes _ y z rest (let more = h.counts.counts in omega arith)
-    (hello_extended _ y.session z.session h.hands)
+    (hello_extended _ y.session z.session h.fresh h.hands)
 hello_goes lane y z (Err e) rest h = handed_goes _ y z rest (let same = h.1 in omega arith)
     (refuses_extended _ e y.session z.session h.0)
 
@@ -89,7 +94,13 @@ hello_first y z (Ok None) fresh h =
     absurd (none-some hello_frame (subst (λ (p : Phase). HandsOutIn p y.session z.session None) fresh h.0).0)
 hello_first y z (Ok (Some x)) fresh h =
     let s = subst (λ (p : Phase). HandsOutIn p y.session z.session (Some (chunk_bytes x.chunk))) fresh h.0 in
-    record { hello = some-same (chunk_bytes x.chunk) hello_frame s.0; hands = s.1; counts = h.1.0.0; written = h.1.1 }
+    record {
+      hello = some-same (chunk_bytes x.chunk) hello_frame s.0;
+      fresh = fresh;
+      hands = s.1;
+      counts = h.1.0.0;
+      written = h.1.1;
+    }
 hello_first y z (Err e) fresh h = h
 
 -- what a seat handed out it may tell as written
@@ -128,12 +139,13 @@ begins_extend true p before now lane h = subst (Extends (passes by_opening lane)
 
 version_extended : (body_reads : Result (Option ℕ × Reply) FrameError) (asks : Bool) (lane : Option ℕ)
     (old new : SessionValue)
-    → TakesVersion body_reads asks old new → Extended (passes by_opening lane) old new
-version_extended body_reads asks lane old new h = record {
+    → TakesVersion body_reads asks old new → Greeted ≡ old.phase → Extended (passes by_opening lane) old new
+version_extended body_reads asks lane old new h was = record {
   past = begins_extend asks new.phase (past_of old.work) (past_of new.work) lane h.begins;
   lanes = ap (λ (s : SessionValue). s.lanes) h.rest;
   options = ap (λ (s : SessionValue). s.options) h.rest;
   version = subst (λ (v : Option Reply). StaysThere v new.version) (sym h.untold) tt;
+  phase = begins_later old.phase asks new.phase _ _ was h.begins;
 }
 
 -- a frame that is not taken as VERSION adds at most a fault
@@ -149,7 +161,7 @@ pub version_goes : (lane : Option ℕ) (body : List ℕ) (y z : Locked) (r : Res
     → y.counts.taken ≤ z.counts.taken → TakingVersion body y z r
     → GoesBy (passes by_opening lane) no_allowance (shown_of y) (shown_of z)
 version_goes lane body y z (Ok u) rest more h = taken_goes _ y z rest more
-    (version_extended _ h.0.0 lane y.session z.session h.0.1)
+    (version_extended _ h.0.0 lane y.session z.session h.0.1 (sym h.2))
 version_goes lane body y z (Err e) rest more h = taken_goes _ y z rest more
     (untaken_extended lane body e y.session z.session h.0)
 
@@ -159,6 +171,7 @@ version_awaited body y z (Ok u) greeted h = (
   subst (λ (p : Phase). TakesIn p (reply_at body) y.session z.session)
       greeted h.0,
   h.1,
+  greeted,
 )
 version_awaited body y z (Err e) greeted h = (inr (inl h.0), h.1)
 
@@ -265,7 +278,7 @@ module _ {X Y : Type 0} {test : Entry → Bool} {needs : Allowance} {old new : L
 
   pub hello_handed : (did : Result (Option Handed) Error) (handed : Handed) → did ≡ Ok (Some handed)
       → (h : Hold shown_of (Applied shown_of test needs (λ y z. UnlessFault HandingHello y z did) copied old new) m n)
-      → HandsOutHello h.before h.after handed × HasNoFault h.before.session
+      → HandsOutHello h.before h.after handed × MayTakeCalls h.before.session
   hello_handed did handed is h =
       let r = subst (λ (x : Result (Option Handed) Error). UnlessFault HandingHello h.before h.after x) is h.did.does in
       (r.0, r.1)

@@ -18,7 +18,8 @@ use Rattle.sftp_tasks.specs.declared.workers.Shift.TheVariants.{Worked, Idle, Ov
 use Rattle.sftp_tasks.specs.Calls.{InOneHold}
 use Rattle.sftp_tasks.specs.LockedEvents.{SettlesEnd, TellsStage, at_end, is_answered}
 use Rattle.sftp_tasks.specs.Rounds.{Token}
-use Rattle.sftp_tasks.specs.Shows.{shown_of}
+use Rattle.sftp_tasks.specs.Phases.{phase_number}
+use Rattle.sftp_tasks.specs.Shows.{counts_of, shown_of}
 use Rattle.sftp_tasks.specs.Workers.{FlushShift, WorkerState, ReadShift, SeesAnswered, is_over, over_if}
 
 pub over_as : (s : Shift) → is_over s ≡ true → s ≡ Over
@@ -49,7 +50,7 @@ flush_faults s a b (inr h) = ap (λ v. v.faults) h.1.1.none.1
 stage_two : (stage : ℕ) (m n : Token) → InOneHold TellsStage (Ok stage) m n → nat_le 2 stage ≡ true
     → (sight_by n).counts.stage ≡ 2
 stage_two stage m n h least =
-    let counts : (sight_by n).counts ≡ h.after.counts = sees_counts shown_of m n h in
+    let counts : (sight_by n).counts ≡ counts_of h.after = sees_counts shown_of m n h in
     let seen : (sight_by n).counts.stage ≡ h.after.counts.stage = ap (λ (c : Counts). c.stage) counts in
     let same : h.after.counts.stage ≡ h.before.counts.stage = ap (λ (x : Locked). x.counts.stage) h.did.0.0 in
     let told : stage ≡ h.before.counts.stage = h.did.0.1 in
@@ -75,6 +76,12 @@ answered_all Open stage unanswered is = eqb-true unanswered 0 (both_true (nat_le
 answered_all Fresh stage unanswered is = absurd (true≢false (sym is))
 answered_all other stage unanswered is = absurd (true≢false (sym is))
 
+answered_open : (p : Phase) (stage unanswered : ℕ) → is_answered p stage unanswered ≡ true → phase_number p
+    ≡ phase_number Open
+answered_open Open stage unanswered is = refl
+answered_open Fresh stage unanswered is = absurd (true≢false (sym is))
+answered_open other stage unanswered is = absurd (true≢false (sym is))
+
 finished : (all : Bool) (m n : Token) → InOneHold SettlesEnd (Ok all) m n → all ≡ true → SeesAnswered (sight_by n)
 finished all m n h done =
     let y = h.before in
@@ -84,6 +91,10 @@ finished all m n h done =
     ∙ ap (λ (x : Locked). past_of x.session.work) after in (
       ap (λ (c : Counts). c.stage) (sees_counts shown_of m n h) ∙ ap (λ (x : Locked). x.counts.stage) after,
       ap count_unanswered past ∙ answered_all y.session.phase y.counts.stage (count_unanswered (past_of y.session.work))
+          (sym h.did.0.0 ∙ done),
+      ap (λ (c : Counts). c.phase) (sees_counts shown_of m n h)
+          ∙ ap (λ (x : Locked). phase_number x.session.phase) after
+          ∙ answered_open y.session.phase y.counts.stage (count_unanswered (past_of y.session.work))
           (sym h.did.0.0 ∙ done),
     )
 

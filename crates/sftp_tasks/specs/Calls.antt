@@ -34,7 +34,7 @@ use Rattle.sftp_tasks.specs.declared.polls.Polled.{Polled}
 use Rattle.sftp_tasks.specs.declared.polls.Polled.TheVariants as polled
 use Rattle.sftp_tasks.specs.LockedEvents.{OfLane, PollsLane, ReleasesLane}
 use Rattle.sftp_tasks.specs.Rounds.{HoldsOnce, Token}
-use Rattle.sftp_tasks.specs.SessionEvents.{AllEnded, HasNoFault}
+use Rattle.sftp_tasks.specs.SessionEvents.{AllEnded, MayTakeCalls}
 use Rattle.sftp_tasks.specs.Shows.{shown_of}
 
 -- The answer of an event if each receipt could be kept, and out of memory otherwise.
@@ -49,14 +49,14 @@ abbrev pub AnswersSeat : {A : Type 0} → (Locked → Locked → Result A Error 
     → Result A Error → Token → Token → Type 0
 AnswersSeat Does old new (Ok a) m n =
     HoldsOnce
-    (λ y z more. Does y z (Ok a) × (new ≡ old ++ made_on (length (shown_of y).past) more) × HasNoFault y.session) m n
+    (λ y z more. Does y z (Ok a) × (new ≡ old ++ made_on (length (shown_of y).past) more) × MayTakeCalls y.session) m n
 AnswersSeat {A} Does old new (Err e) m n =
     HoldsOnce (λ y z more. Does y z (Err e) ⊎ ((e ≡ error.OutOfMemory) × ((a : A) × Does y z (Ok a)))) m n
 
 -- The same of a hold whose receipts are not reported.
 abbrev pub InOneHold : {A : Type 0} → (Locked → Locked → Result A Error → Type 0) → Result A Error → Token → Token
     → Type 0
-InOneHold Does (Ok a) m n = HoldsOnce (λ y z more. Does y z (Ok a) × HasNoFault y.session) m n
+InOneHold Does (Ok a) m n = HoldsOnce (λ y z more. Does y z (Ok a) × MayTakeCalls y.session) m n
 InOneHold {A} Does (Err e) m n =
     HoldsOnce (λ y z more. Does y z (Err e) ⊎ ((e ≡ error.OutOfMemory) × ((a : A) × Does y z (Ok a)))) m n
 

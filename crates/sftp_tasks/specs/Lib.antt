@@ -1,3 +1,4 @@
+pub mod Phases
 pub mod Shows
 pub mod SessionEvents
 pub mod Entries

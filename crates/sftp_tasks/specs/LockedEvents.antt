@@ -44,27 +44,27 @@ use Rattle.sftp_lanes.specs.Events.{CancelsIn, HandsOutIn, TakesIn}
 use Rattle.session_model.specs.Readings.{count_unanswered}
 use Rattle.session_work.specs.Working.{past_of}
 use Rattle.sftp_wire.specs.FrameReader.{Received, body_of}
-use Rattle.session_seats.specs.declared.view.Counts.{Counts}
 use Rattle.session_seats.specs.Holds.{Allowance}
 use Rattle.sftp_tasks.specs.declared.frames.Handed.{Handed}
 use Rattle.sftp_tasks.specs.declared.locked.Locked.{Locked}
+use Rattle.sftp_tasks.specs.declared.locked.LockedCounts.{LockedCounts}
 use Rattle.sftp_tasks.specs.declared.polls.Polled.{Polled}
 use Rattle.sftp_tasks.specs.SessionEvents.{
   GivesUp,
   HandsUnsent,
-  HasNoFault,
   KeepsFault,
   LetsLaneGoIn,
+  MayTakeCalls,
   PollsIn,
   RefusesCall,
   SubmitsCall,
   TakeStops,
 }
 
--- A recorded fault comes before each answer except out of memory: with Ok there was none.
+-- With Ok no fault was recorded, and the session had not failed.
 abbrev pub UnlessFault : {A : Type 0} → (Locked → Locked → Result A Error → Type 0) → Locked → Locked → Result A Error
     → Type 0
-UnlessFault Did y z r = Did y z r × OnOk r (HasNoFault y.session)
+UnlessFault Did y z r = Did y z r × OnOk r (MayTakeCalls y.session)
 
 -- The answer if nothing is done.
 abbrev pub DoesNothing : {A : Type 0} → A → SessionValue → Result A Error → Type 0
@@ -156,7 +156,7 @@ abbrev pub is_answered : Phase → ℕ → ℕ → Bool
 is_answered Open stage unanswered = nat_le 1 stage && (unanswered == 0)
 is_answered other stage unanswered = false
 
-abbrev pub at_end : Bool → Counts → Counts
+abbrev pub at_end : Bool → LockedCounts → LockedCounts
 at_end true counts = record counts { stage = 2 }
 at_end false counts = counts
 

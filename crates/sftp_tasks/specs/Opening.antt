@@ -46,7 +46,7 @@ use Rattle.sftp_tasks.specs.declared.locked.Locked.{Locked}
 use Rattle.sftp_tasks.specs.LockedEvents.{CountsFrame, HandsOutFrames, IsFrame, NotesWritten}
 use Rattle.sftp_tasks.specs.Rounds.{HoldsOnce, RefusesRound, StopsByError, Token}
 use Rattle.sftp_tasks.specs.Sent.{SeesVersion}
-use Rattle.sftp_tasks.specs.SessionEvents.{HasNoFault, IsKept, RefusesCall, TakeStops}
+use Rattle.sftp_tasks.specs.SessionEvents.{IsKept, MayTakeCalls, RefusesCall, TakeStops}
 
 -- The entries of an opening: the query for limits after VERSION, and the fault if the session was not opened.
 abbrev pub by_opening : Option ℕ → Entry → Bool
@@ -58,6 +58,7 @@ by_opening lane e = false
 
 -- The hello was handed out, and counted.
 pub record HandsOutHello (y z : Locked) (handed : Handed) : Type 0 where
+  pub fresh : y.session.phase ≡ Fresh
   pub hello : chunk_bytes handed.chunk ≡ hello_frame
   pub hands : HandsHello y.session z.session
   pub counts : HandsOutFrames y z handed.frames
@@ -75,10 +76,11 @@ pub record IsUnasked (e : Error) (old new : SessionValue) : Type 0 where
   pub is : e ≡ error.InvalidResponse None
   pub kept : IsKept (fault.Response None) old new
 
--- VERSION is taken and counted; another frame is refused, and not counted.
+-- VERSION is taken and counted if it is awaited; another frame is refused, and not counted.
 abbrev pub TakingVersion : List ℕ → Locked → Locked → Result (Unit {0}) Error → Type 0
 TakingVersion body y z (Ok u) =
     ((asks : Bool) × TakesVersion (reply_at body) asks y.session z.session) × CountsFrame y z
+    × (y.session.phase ≡ Greeted)
 TakingVersion body y z (Err e) =
     (RefusesCall e y.session z.session
     ⊎ (TakeStops (reply_at body) e y.session z.session ⊎ IsUnasked e y.session z.session))
@@ -95,14 +97,14 @@ TakingVersionFrame received y z r =
 pub record SendsHello {Service : Type 0} (m n : Token) (before now : LinkView Service) : Type 0 where
   pub mid : Token
   pub frames : ℕ
-  pub hands : HoldsOnce (λ y z more. HandsHello y.session z.session × HandsOutFrames y z frames × HasNoFault y.session)
+  pub hands : HoldsOnce (λ y z more. HandsHello y.session z.session × HandsOutFrames y z frames × MayTakeCalls y.session)
       m mid
   pub sent : SentBy {T = Unit {0}} hello_frame before now (Ok tt)
   pub notes : HoldsOnce (λ y z more. (more ≡ []) × NotesWritten frames y z) mid n
 
 -- The hello was handed out before.
 abbrev pub FindsHello : Token → Token → Type 0
-FindsHello m n = HoldsOnce (λ y z more. (y.session.phase ≢ Fresh) × (z ≡ y) × HasNoFault y.session) m n
+FindsHello m n = HoldsOnce (λ y z more. (y.session.phase ≢ Fresh) × (z ≡ y) × MayTakeCalls y.session) m n
 
 abbrev pub SendsHelloOrNot : {Service : Type 0} → Bool → Token → Token → LinkView Service → LinkView Service → Type 0
 SendsHelloOrNot true m n before now = SendsHello m n before now
@@ -112,7 +114,7 @@ SendsHelloOrNot false m n before now = FindsHello m n × (now ≡ before)
 pub record HelloUnsent {Service : Type 0} (e : Error) (m n : Token) (before now : LinkView Service) : Type 0 where
   pub mid : Token
   pub why : Error
-  pub hands : HoldsOnce (λ y z more. HandsHello y.session z.session × HasNoFault y.session) m mid
+  pub hands : HoldsOnce (λ y z more. HandsHello y.session z.session × MayTakeCalls y.session) m mid
   pub sent : SentBy {T = Unit {0}} hello_frame before now (Err why)
   pub stops : StopsByError why e mid n
 
@@ -130,7 +132,7 @@ pub record GetsVersion {Service : Type 0} (hello : Reply) (m n : Token) (before 
   pub reads : IsFrameOf None hello frame.bytes
   pub takes : HoldsOnce
       (λ y z more. (((asks : Bool) × TakesVersion (Ok (None, hello)) asks y.session z.session) × CountsFrame y z)
-      × HasNoFault y.session) m n
+      × MayTakeCalls y.session) m n
   pub sees : SeesVersion hello (sight_by n)
 
 abbrev pub GetsSomeVersion : {Service : Type 0} → Token → Token → LinkView Service → LinkView Service → Type 0

@@ -6,6 +6,7 @@ use Rattle.std.specs.Prelude.{
   ◌≤◌,
   ◌⊎◌,
   ℕ,
+  ◌==◌,
   Bool,
   true,
   List,
@@ -23,7 +24,7 @@ use Rattle.std.specs.Prelude.{
 }
 use Rattle.std.specs.declared.vec.Vec.{Vec}
 use Rattle.std.proofs.Common.{Global, arith, refl}
-use Rattle.session_driver.specs.declared.session.Phase.TheVariants.{Failed}
+use Rattle.session_driver.specs.declared.session.Phase.TheVariants.{Failed, Open}
 use Rattle.session_driver.specs.Session.{IsFixed}
 use Rattle.session_model.specs.declared.entry.Entry.{Entry}
 use Rattle.session_model.specs.declared.entry.Entry.TheVariants as entry
@@ -47,11 +48,8 @@ use Rattle.sftp_model.specs.declared.error.Error.TheVariants as error
 use Rattle.sftp_lanes.specs.Seen.{SessionValue, session_inputs, given_of, setting_at, setting_by}
 use Rattle.sftp_tasks.specs.declared.locked.Locked.{Locked}
 use Rattle.sftp_tasks.specs.declared.report.SharedReport.{SharedReport}
-use Rattle.sftp_tasks.specs.SessionEvents.{HasFault, HasNoFault}
-
--- Calls of its lanes can be made.
-abbrev pub MayTakeCalls : SessionValue → Type 0
-MayTakeCalls s = HasNoFault s × (s.phase ≢ Failed)
+use Rattle.sftp_tasks.specs.SessionEvents.{HasFault, MayTakeCalls}
+use Rattle.sftp_tasks.specs.Phases.{is_open_in, phase_number}
 
 -- The error for which no call can be made any more.
 abbrev pub HasStopped : Error → SessionValue → Type 0
@@ -72,6 +70,7 @@ pub record IsPrepared (s : SessionValue) (journal : Vec Entry Global) (trace : V
   pub lists : ListsJournal s journal.items
   pub empty : trace.items ≡ []
   pub room : length (past_of s.work) ≤ vec_capacity trace
+  pub opened : is_open ≡ is_open_in s.phase
   pub settled : is_open ≡ true → next_due (setting_at s) (past_of s.work) ≡ None
 
 -- Calls of its lanes can be made, and this was made for its report.
@@ -144,6 +143,7 @@ module _ {G : Ghosts Locked} where
     pub fixed : now.version ≢ None → IsFixed (session_inputs now.lanes now.options) now.version (entries now.log)
         (setting_by now.lanes now.options now.version info)
     pub unkept : kept_in (entries now.log) ≡ None
+    pub opened : r.is_open ≡ (now.counts.phase == phase_number Open)
     pub settled : r.is_open ≡ true → next_due (setting_by now.lanes now.options now.version info) (entries now.log)
         ≡ None
     pub hello : r.report.hello ≡ now.version

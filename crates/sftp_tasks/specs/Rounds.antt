@@ -2,6 +2,7 @@
 -- One round of a worker: the frames that it handed out or took, and what its half of the link shows of it.
 use Rattle.std.specs.Prelude.{
   ◌≡◌,
+  ◌<◌,
   ◌≤◌,
   ◌⊎◌,
   ℕ,
@@ -37,6 +38,8 @@ use Rattle.sftp_model.specs.declared.request.Request.{Request}
 use Rattle.sftp_model.specs.Frames.{frames_of}
 use Rattle.sftp_wire.specs.FrameReader.{Received}
 use Rattle.sftp_lanes.specs.Events.{HandsOutIn}
+use Rattle.session_driver.specs.declared.session.Phase.TheVariants.{Failed}
+use Rattle.session_seats.specs.declared.view.Sight.{Sight}
 use Rattle.session_seats.specs.declared.view.View.{View}
 use Rattle.session_seats.specs.Holds.{Hold}
 use Rattle.session_seats.specs.Repeats.{RepeatsSteps}
@@ -49,7 +52,8 @@ use Rattle.sftp_tasks.specs.LockedEvents.{
   UnlessFault,
   NotesWritten,
 }
-use Rattle.sftp_tasks.specs.SessionEvents.{HasFault, HasNoFault, IsKept, RefusesCall}
+use Rattle.sftp_tasks.specs.SessionEvents.{HasFault, IsKept, MayTakeCalls, RefusesCall}
+use Rattle.sftp_tasks.specs.Phases.{phase_number}
 use Rattle.sftp_tasks.specs.Shows.{shown_of}
 
 abbrev pub Token : Type 0
@@ -58,6 +62,14 @@ Token = Me Locked View
 -- One hold of the locked value.
 abbrev pub HoldsOnce : (Locked → Locked → List Entry → Type 0) → Token → Token → Type 0
 HoldsOnce Did m n = Hold shown_of Did m n
+
+-- The seat has not seen that the session failed.
+abbrev pub SeesUnfailed : Sight → Type 0
+SeesUnfailed s = s.counts.phase < phase_number Failed
+
+-- The seat has seen that the session failed.
+abbrev pub SeesFailed : Sight → Type 0
+SeesFailed s = s.counts.phase ≡ phase_number Failed
 
 -- The fault that a session records if a round ends in this way; out of memory records none.
 abbrev pub fault_for : Error → Option Fault
@@ -130,7 +142,7 @@ pub record FlushesOnce {Service : Type 0} (m n : Token) (before now : LinkView S
   pub queue : List (ℕ × Request)
   pub hands : HoldsOnce
       (λ y z more. HandsOutIn y.session.phase y.session z.session (Some bytes) × HandsOutFrames y z frames
-      × HasNoFault y.session × (unsent_queue y ≡ queue)) m mid
+      × MayTakeCalls y.session × (unsent_queue y ≡ queue)) m mid
   pub cut : frames_of queue ≡ bytes
   pub sent : SentBy {T = Unit {0}} bytes before now (Ok tt)
   pub notes : NotesSent queue frames mid n before now
@@ -138,7 +150,7 @@ pub record FlushesOnce {Service : Type 0} (m n : Token) (before now : LinkView S
 abbrev pub FlushesRound : {Service : Type 0} → Bool → Token → Token → LinkView Service → LinkView Service → Type 0
 FlushesRound true m n before now = FlushesOnce m n before now
 FlushesRound false m n before now =
-    HoldsOnce (λ y z more. HandsOutIn y.session.phase y.session z.session None × HasNoFault y.session) m n
+    HoldsOnce (λ y z more. HandsOutIn y.session.phase y.session z.session None × MayTakeCalls y.session) m n
     × (now ≡ before)
 
 -- The frames that were handed out could not all be sent, and the session stops because of that. The frames that were
@@ -149,7 +161,7 @@ pub record StopsUnsent {Service : Type 0} (e : Error) (m n : Token) (before now 
   pub bytes : List ℕ
   pub queue : List (ℕ × Request)
   pub hands : HoldsOnce
-      (λ y z more. HandsOutIn y.session.phase y.session z.session (Some bytes) × HasNoFault y.session
+      (λ y z more. HandsOutIn y.session.phase y.session z.session (Some bytes) × MayTakeCalls y.session
       × (unsent_queue y ≡ queue)) m mid
   pub cut : frames_of queue ≡ bytes
   pub sent : SentBy {T = Unit {0}} bytes before now (Err why)

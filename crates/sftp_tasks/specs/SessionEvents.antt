@@ -66,6 +66,10 @@ HasNoFault s = kept_in (past_of s.work) ≡ None
 abbrev pub HasFault : Fault → SessionValue → Type 0
 HasFault fault s = kept_in (past_of s.work) ≡ Some fault
 
+-- Calls of its lanes can be made: no fault is recorded, and the session has not failed.
+abbrev pub MayTakeCalls : SessionValue → Type 0
+MayTakeCalls s = HasNoFault s × (s.phase ≢ Failed)
+
 -- Nothing has changed, or an allocation failed and the session has failed.
 abbrev pub IsUnmoved : SessionValue → SessionValue → Type 0
 IsUnmoved old new = (new ≡ old) ⊎ HasFailed old new
@@ -76,9 +80,10 @@ RefusesCall error.OutOfMemory old new = IsUnmoved old new
 RefusesCall (error.BackgroundTaskFailure fault) old new = HasFault fault old × (new ≡ old)
 RefusesCall other old new = ⊥
 
--- A fault is recorded, the session's first one.
+-- A fault is recorded, the session's first one. The session has failed.
 pub record IsKept (f : Fault) (old new : SessionValue) : Type 0 where
   pub first : HasNoFault old
+  pub failed : new.phase ≡ Failed
   pub lanes : new.lanes ≡ old.lanes
   pub options : new.options ≡ old.options
   pub version : new.version ≡ old.version

@@ -1,6 +1,7 @@
 -- believed, except SeesAnswered
 -- Workers: their rounds, between which they check whether they may end.
 use Rattle.std.specs.Prelude.{◌≡◌, ◌⊎◌, ℕ, Bool, true, false, Result, Ok, Err, nat_le}
+use Rattle.session_driver.specs.declared.session.Phase.TheVariants.{Open}
 use Rattle.session_model.specs.Readings.{count_unanswered}
 use Rattle.session_seats.specs.declared.view.Sight.{Sight}
 use Rattle.session_seats.specs.Repeats.{StepsUntil}
@@ -12,6 +13,7 @@ use Rattle.sftp_tasks.specs.declared.workers.Shift.TheVariants.{Worked, Idle, Ov
 use Rattle.sftp_tasks.specs.Calls.{InOneHold}
 use Rattle.sftp_tasks.specs.LockedEvents.{SettlesEnd, TellsStage}
 use Rattle.sftp_tasks.specs.Rounds.{FlushStops, FlushesRound, ReadStops, ReadsRound, Token}
+use Rattle.sftp_tasks.specs.Phases.{phase_number}
 
 abbrev pub is_over : Shift → Bool
 is_over Worked = false
@@ -31,9 +33,9 @@ abbrev pub shift_for : Result (Unit {0}) Error → Result Shift Error
 shift_for (Ok u) = Ok Over
 shift_for (Err e) = Err e
 
--- The seat has seen that the end is settled: the stage is 2, and each request has its reply.
+-- The seat has seen that the end is settled: the stage is 2, each request has its reply, and the session is open.
 abbrev pub SeesAnswered : Sight → Type 0
-SeesAnswered s = (s.counts.stage ≡ 2) × (count_unanswered (entries s.log) ≡ 0)
+SeesAnswered s = (s.counts.stage ≡ 2) × (count_unanswered (entries s.log) ≡ 0) × (s.counts.phase ≡ phase_number Open)
 
 module _ {Service : Type 0} where
   -- ---- The worker that sends

@@ -1,7 +1,7 @@
 //! Calls that are added to the lanes of the shared session.
 ghost use Rattle.std.specs.Prelude.{◌≡◌, MatchBool, IfOk, IfErr, OnOk};
 ghost use Rattle.sftp_lanes.specs.Adding.{CanAdd, CannotAdd};
-ghost use Rattle.sftp_tasks.specs.SessionEvents.{AddsIn, HasNoFault, RefusesToAdd, SubmitsCall};
+ghost use Rattle.sftp_tasks.specs.SessionEvents.{AddsIn, MayTakeCalls, RefusesToAdd, SubmitsCall};
 
 use crate::locked::Locked;
 use session_driver::Phase;
@@ -14,7 +14,7 @@ impl Locked {
     /// has failed.
     fn may_add(&self, lane: u32, call: &Call) -> Result<bool, Error>
         ensures may { IfOk result (λ may. MatchBool may (CanAdd lane call.now self.now.session) (CannotAdd lane call.now self.now.session)) }
-        ensures no_fault { OnOk result (HasNoFault self.now.session) }
+        ensures unfailed { OnOk result (MayTakeCalls self.now.session) }
         ensures refused { IfErr result (λ e. RefusesToAdd e self.now.session self.now.session) }
     {
         if let Some(fault) = self.session.fault() {
@@ -36,7 +36,7 @@ impl Locked {
     pub fn push_call(&mut self, lane: u32, call: Call) -> Result<bool, Error>
         ensures rest { self.new ≡ record self.old { session = self.new.session } }
         ensures adds { IfOk result (λ event. AddsIn lane call self.old.session self.new.session event) }
-        ensures no_fault { OnOk result (HasNoFault self.old.session) }
+        ensures unfailed { OnOk result (MayTakeCalls self.old.session) }
         ensures refused { IfErr result (λ e. RefusesToAdd e self.old.session self.new.session) }
     {
         // No `?`: it converts the error, and `refused` is about the error itself.
@@ -59,7 +59,7 @@ impl Locked {
     pub fn submit(&mut self, lane: u32, call: Call) -> Result<bool, Error>
         ensures rest { self.new ≡ record self.old { session = self.new.session } }
         ensures submits { SubmitsCall lane call self.old.session self.new.session result }
-        ensures no_fault { OnOk result (HasNoFault self.old.session) }
+        ensures unfailed { OnOk result (MayTakeCalls self.old.session) }
     {
         // No `?`: it converts the error, and `submits` is by cases on the result.
         match self.push_call(lane, call) {

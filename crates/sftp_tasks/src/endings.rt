@@ -4,8 +4,8 @@ ghost use Rattle.session_driver.specs.declared.session.Phase.TheVariants as phas
 ghost use Rattle.session_model.specs.Readings.{count_unanswered};
 ghost use Rattle.session_work.specs.Working.{past_of};
 ghost use Rattle.sftp_tasks.specs.LockedEvents.{DoesNothing, at_end, is_answered};
-ghost use Rattle.sftp_tasks.specs.Reported.{MayTakeCalls};
-ghost use Rattle.sftp_tasks.specs.SessionEvents.{HasNoFault, RefusesCall};
+ghost use Rattle.sftp_tasks.specs.Phases.{is_open_in};
+ghost use Rattle.sftp_tasks.specs.SessionEvents.{MayTakeCalls, RefusesCall};
 
 use crate::locked::Locked;
 use session_driver::Phase;
@@ -18,8 +18,7 @@ impl Locked {
     ///
     /// Those of `step`.
     pub fn check(&self) -> Result<(), Error>
-        ensures goes { OnOk result (MayTakeCalls self.now.session) }
-        ensures no_fault { OnOk result (HasNoFault self.now.session) }
+        ensures unfailed { OnOk result (MayTakeCalls self.now.session) }
         ensures refused { IfErr result (λ e. RefusesCall e self.now.session self.now.session) }
     {
         if let Some(fault) = self.session.fault() {
@@ -38,7 +37,7 @@ impl Locked {
     /// Those of `step`.
     pub fn idle<T: Drop>(&self, nothing: T) -> Result<T, Error>
         ensures idles { DoesNothing nothing self.now.session result }
-        ensures no_fault { OnOk result (HasNoFault self.now.session) }
+        ensures unfailed { OnOk result (MayTakeCalls self.now.session) }
     {
         // No `?`: it converts the error, and `idles` is by cases on the result.
         match self.check() {
@@ -49,7 +48,8 @@ impl Locked {
 
     /// Returns true if the session is open.
     pub fn is_open(&self) -> bool
-        ensures { result ≡ true → self.now.session.phase ≡ phases.Open }
+        ensures value { result ≡ is_open_in self.now.session.phase }
+        ensures open { result ≡ true → self.now.session.phase ≡ phases.Open }
     {
         matches!(self.session.phase(), Phase::Open)
     }
@@ -61,7 +61,7 @@ impl Locked {
     /// Those of `step`.
     pub fn stage(&self) -> Result<u64, Error>
         ensures told { IfOk result (λ stage. stage ≡ self.now.counts.stage) }
-        ensures no_fault { OnOk result (HasNoFault self.now.session) }
+        ensures unfailed { OnOk result (MayTakeCalls self.now.session) }
         ensures refused { IfErr result (λ e. RefusesCall e self.now.session self.now.session) }
     {
         // No `?`: it converts the error, and `refused` is about the error itself.
@@ -80,7 +80,7 @@ impl Locked {
     pub fn finish(&mut self) -> Result<bool, Error>
         ensures told { IfOk result (λ all. all ≡ is_answered self.old.session.phase self.old.counts.stage (count_unanswered (past_of self.old.session.work))) }
         ensures stage { IfOk result (λ all. self.new ≡ record self.old { counts = at_end all self.old.counts }) }
-        ensures no_fault { OnOk result (HasNoFault self.old.session) }
+        ensures unfailed { OnOk result (MayTakeCalls self.old.session) }
         ensures refused { IfErr result (λ e. RefusesCall e self.old.session self.old.session × (self.new ≡ self.old)) }
     {
         // No `?`: it converts the error, and `refused` is about the error itself.

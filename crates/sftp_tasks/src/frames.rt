@@ -4,11 +4,10 @@ ghost use Rattle.std.specs.Option.{option_map};
 ghost use Rattle.sftp_model.specs.ReplyReadings.{reply_at};
 ghost use Rattle.sftp_core.specs.Pieces.{chunk_bytes};
 ghost use Rattle.sftp_lanes.specs.Events.{HandsOutIn, TakesIn};
-ghost use Rattle.sftp_tasks.specs.SessionEvents.{HandsUnsent, HasNoFault, RefusesCall, TakeStops};
+ghost use Rattle.sftp_tasks.specs.SessionEvents.{HandsUnsent, MayTakeCalls, RefusesCall, TakeStops};
 
 use crate::locked::Locked;
 use link_frames::refused;
-use session_driver::Phase;
 use sftp_core::Chunk;
 use sftp_model::{Error, Fault};
 use ssh_encoding::OutOfMemory;
@@ -36,11 +35,13 @@ impl Locked {
             (λ h. self.new.counts.handed ≡ self.old.counts.handed + h.frames)) }
         ensures frames { IfOk result (λ handed. MatchOption handed (Unit {0})
             (λ h. HandsUnsent self.old.session h.chunk h.frames)) }
-        ensures no_fault { OnOk result (HasNoFault self.old.session) }
+        ensures unfailed { OnOk result (MayTakeCalls self.old.session) }
         ensures refused { IfErr result (λ e. RefusesCall e self.old.session self.new.session × (self.new.counts.handed ≡ self.old.counts.handed)) }
     {
-        if let Some(fault) = self.session.fault() {
-            return Err(Error::BackgroundTaskFailure(fault));
+        // No `?`: it converts the error, and `refused` is about the error itself.
+        match self.check() {
+            Ok(()) => {}
+            Err(e) => return Err(e),
         }
         let frames = u64::from(self.session.unsent());
         let Some(handed) = self.counts.handed.checked_add(frames) else {
@@ -74,7 +75,7 @@ impl Locked {
         ensures rest { self.new ≡ record self.old { session = self.new.session; counts = record self.old.counts { taken = self.new.counts.taken } } }
         ensures takes { OnOk result (TakesIn self.old.session.phase (reply_at body.now) self.old.session self.new.session) }
         ensures counts { OnOk result ((self.new.counts.taken ≡ min (self.old.counts.taken + 1) (2 ^ 64 - 1)) × (self.old.counts.taken ≤ self.new.counts.taken)) }
-        ensures no_fault { OnOk result (HasNoFault self.old.session) }
+        ensures unfailed { OnOk result (MayTakeCalls self.old.session) }
         ensures stops { IfErr result (λ e. TakeStops (reply_at body.now) e self.old.session self.new.session × (self.new.counts.taken ≡ self.old.counts.taken)) }
     {
         if let Some(fault) = self.session.fault() {
@@ -100,15 +101,13 @@ impl Locked {
     /// Those of `step`.
     pub fn may_read(&self) -> Result<bool, Error>
         ensures may { IfOk result (λ may. may ≡ nat_lt self.now.counts.taken self.now.counts.written) }
-        ensures no_fault { OnOk result (HasNoFault self.now.session) }
+        ensures unfailed { OnOk result (MayTakeCalls self.now.session) }
         ensures refused { IfErr result (λ e. RefusesCall e self.now.session self.now.session) }
     {
-        if let Some(fault) = self.session.fault() {
-            return Err(Error::BackgroundTaskFailure(fault));
-        }
-        match self.session.phase() {
-            Phase::Failed => Err(Error::OutOfMemory),
-            _ => Ok(self.counts.taken < self.counts.written),
+        // No `?`: it converts the error, and `refused` is about the error itself.
+        match self.check() {
+            Ok(()) => Ok(self.counts.taken < self.counts.written),
+            Err(e) => Err(e),
         }
     }
 }

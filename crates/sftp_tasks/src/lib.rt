@@ -22,8 +22,8 @@ pub use events::{
     TakeFrame, Written,
 };
 pub use frames::Handed;
-pub use laws::workers_show_their_seats;
-pub use locked::Locked;
+pub use laws::{failed_sessions_refuse, given_up_is_seen, workers_show_their_seats};
+pub use locked::{Locked, LockedCounts};
 pub use opening::{HandHello, TakeVersion};
 pub use polls::Polled;
 pub use report::{NotClosed, SharedReport};

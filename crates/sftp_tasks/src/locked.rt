@@ -1,14 +1,27 @@
 //! The value that the lock protects, and each call of its session.
 ghost use Rattle.std.specs.Prelude.{◌≡◌, ◌≤◌, ◌+◌, IfOk, IfErr, OnOk};
 ghost use Rattle.sftp_lanes.specs.Events.{CancelsIn, StepsIn};
-ghost use Rattle.sftp_tasks.specs.SessionEvents.{GivesUp, HasNoFault, KeepsFault, LetsLaneGoIn, RefusesCall};
+ghost use Rattle.sftp_tasks.specs.SessionEvents.{GivesUp, KeepsFault, LetsLaneGoIn, MayTakeCalls, RefusesCall};
+ghost use Rattle.sftp_tasks.specs.Phases.{phase_number};
 
 use session_driver::{Phase, RunsLanes, Stepped};
 use session_model::Entry;
-use session_seats::{Counts, Held, Tide};
+use session_seats::{Held, Tide};
 use sftp_lanes::Session;
 use sftp_model::{Error, Fault};
 use ssh_encoding::OutOfMemory;
+
+/// The numbers of the locked session that never fall: the frames that were handed out, those of them that were written
+/// whole, the frames that were taken, and the stage of the end.
+///
+/// Used in `crates/sftp_tasks/src/frames.rt`.
+#[derive(Clone, Copy)]
+pub struct LockedCounts {
+    pub handed: u64,
+    pub written: u64,
+    pub taken: u64,
+    pub stage: u64,
+}
 
 /// The session, the counts of its frames with the stage of its end, its users, and how many lanes have a seat.
 ///
@@ -16,7 +29,7 @@ use ssh_encoding::OutOfMemory;
 #[derive(Drop)]
 pub struct Locked {
     pub(crate) session: Session,
-    pub(crate) counts: Counts,
+    pub(crate) counts: LockedCounts,
     pub(crate) users: u64,
     pub(crate) seated: u32,
     ghost counted: { users ≤ seated + 1 },
@@ -63,8 +76,10 @@ impl Held for Locked {
     }
 }
 
-/// Returns a number that is another one for each phase.
-fn phase_number(phase: Phase) -> u64 {
+/// Returns the number of a phase: it rises as the session opens, and is the last one once the session has failed.
+fn phase_number(phase: Phase) -> u64
+    ensures { result ≡ phase_number phase }
+{
     match phase {
         Phase::Fresh => 0,
         Phase::Greeted => 1,
@@ -85,11 +100,13 @@ impl Locked {
     pub fn step(&mut self, lane: u32) -> Result<Stepped, Error>
         ensures rest { self.new ≡ record self.old { session = self.new.session } }
         ensures steps { IfOk result (λ event. StepsIn self.old.session.phase lane self.old.session self.new.session event) }
-        ensures no_fault { OnOk result (HasNoFault self.old.session) }
+        ensures unfailed { OnOk result (MayTakeCalls self.old.session) }
         ensures refused { IfErr result (λ e. RefusesCall e self.old.session self.new.session) }
     {
-        if let Some(fault) = self.session.fault() {
-            return Err(Error::BackgroundTaskFailure(fault));
+        // No `?`: it converts the error, and `refused` is about the error itself.
+        match self.check() {
+            Ok(()) => {}
+            Err(e) => return Err(e),
         }
         match self.session.step(lane) {
             Ok(event) => Ok(event),
@@ -105,11 +122,13 @@ impl Locked {
     pub fn cancel(&mut self, lane: u32) -> Result<bool, Error>
         ensures rest { self.new ≡ record self.old { session = self.new.session } }
         ensures cancels { IfOk result (λ event. CancelsIn self.old.session.phase lane self.old.session self.new.session event) }
-        ensures no_fault { OnOk result (HasNoFault self.old.session) }
+        ensures unfailed { OnOk result (MayTakeCalls self.old.session) }
         ensures refused { IfErr result (λ e. RefusesCall e self.old.session self.new.session) }
     {
-        if let Some(fault) = self.session.fault() {
-            return Err(Error::BackgroundTaskFailure(fault));
+        // No `?`: it converts the error, and `refused` is about the error itself.
+        match self.check() {
+            Ok(()) => {}
+            Err(e) => return Err(e),
         }
         match self.session.cancel(lane) {
             Ok(event) => Ok(event),
@@ -126,14 +145,13 @@ impl Locked {
     pub fn let_go(&mut self, lane: u32) -> Result<bool, Error>
         ensures rest { self.new ≡ record self.old { session = self.new.session } }
         ensures lets_go { IfOk result (λ event. LetsLaneGoIn lane self.old.session self.new.session event) }
-        ensures no_fault { OnOk result (HasNoFault self.old.session) }
+        ensures unfailed { OnOk result (MayTakeCalls self.old.session) }
         ensures refused { IfErr result (λ e. RefusesCall e self.old.session self.new.session) }
     {
-        if let Some(fault) = self.session.fault() {
-            return Err(Error::BackgroundTaskFailure(fault));
-        }
-        if let Phase::Failed = self.session.phase() {
-            return Err(Error::OutOfMemory);
+        // No `?`: it converts the error, and `refused` is about the error itself.
+        match self.check() {
+            Ok(()) => {}
+            Err(e) => return Err(e),
         }
         if !self.session.is_done(lane) {
             return Ok(false);

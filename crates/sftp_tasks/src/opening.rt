@@ -3,7 +3,7 @@
 ghost use Rattle.std.specs.Prelude.{◌≡◌, ◌<◌, ◌≤◌, ◌-◌, ◌^◌, IfErr, IfOk, OnOk};
 ghost use Rattle.session_seats.specs.Holds.{AddsEntries, claim_of};
 ghost use Rattle.sftp_tasks.specs.Opening.{GetsSomeVersion, SendsHelloOnce, GreetStops, HandingHello, HelloStops, SendsHelloOrNot, TakingVersion, VersionStops, by_opening};
-ghost use Rattle.sftp_tasks.specs.SessionEvents.{HasNoFault};
+ghost use Rattle.sftp_tasks.specs.SessionEvents.{MayTakeCalls};
 
 use crate::events::Written;
 use crate::frames::Handed;
@@ -28,7 +28,7 @@ impl Locked {
     pub fn hand_hello(&mut self) -> Result<Option<Handed>, Error>
         ensures rest { self.new ≡ record self.old { session = self.new.session; counts = record self.old.counts { handed = self.new.counts.handed } } }
         ensures hands { HandingHello self.old self.new result }
-        ensures no_fault { OnOk result (HasNoFault self.old.session) }
+        ensures unfailed { OnOk result (MayTakeCalls self.old.session) }
     {
         // No `?`: it converts the error, and `hands` is by cases on the result.
         match self.session.phase() {
@@ -49,7 +49,7 @@ impl Locked {
     pub fn take_version(&mut self, body: &[u8]) -> Result<(), Error>
         ensures rest { self.new ≡ record self.old { session = self.new.session; counts = record self.old.counts { taken = self.new.counts.taken } } }
         ensures takes { TakingVersion body.now self.old self.new result }
-        ensures no_fault { OnOk result (HasNoFault self.old.session) }
+        ensures unfailed { OnOk result (MayTakeCalls self.old.session) }
         ensures rises { self.old.counts.taken ≤ self.new.counts.taken }
     {
         // No `?`: it converts the error, and `takes` is by cases on the result.

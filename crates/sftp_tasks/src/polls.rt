@@ -3,7 +3,7 @@ ghost use Rattle.std.specs.Prelude.{◌≡◌, Ok, IfErr, IfOk, IfSome, OnOk};
 ghost use Rattle.session_seats.specs.Holds.{AddsEntries, claim_of, sight_by};
 ghost use Rattle.sftp_tasks.specs.Calls.{AnswersSeat, InOneHold, PollsSeat, PollsUntil, SeesEnded, calls_in, is_ended};
 ghost use Rattle.sftp_tasks.specs.Entries.{by_step};
-ghost use Rattle.sftp_tasks.specs.SessionEvents.{AllEnded, HasNoFault, PollsIn, RefusesCall, polled_of};
+ghost use Rattle.sftp_tasks.specs.SessionEvents.{AllEnded, MayTakeCalls, PollsIn, RefusesCall, polled_of};
 ghost use Rattle.session_work.specs.Working.{past_of};
 
 use crate::events::Poll;
@@ -61,7 +61,7 @@ impl Locked {
     /// Returns how many calls a lane has, if all have ended. Errors are those of `step`.
     fn ended_calls(&self, lane: u32) -> Result<Option<u64>, Error>
         ensures ended { IfOk result (λ calls. IfSome calls (AllEnded self.now.session.lanes (past_of self.now.session.work) lane)) }
-        ensures no_fault { OnOk result (HasNoFault self.now.session) }
+        ensures unfailed { OnOk result (MayTakeCalls self.now.session) }
         ensures refused { IfErr result (λ e. RefusesCall e self.now.session self.now.session) }
     {
         // No `?`: it converts the error, and `refused` is about the error itself.
@@ -85,7 +85,7 @@ impl Locked {
     pub fn poll(&mut self, lane: u32) -> Result<Polled, Error>
         ensures rest { self.new ≡ record self.old { session = self.new.session } }
         ensures polls { IfOk result (λ p. PollsIn lane self.old.session self.new.session p) }
-        ensures no_fault { OnOk result (HasNoFault self.old.session) }
+        ensures unfailed { OnOk result (MayTakeCalls self.old.session) }
         ensures refused { IfErr result (λ e. RefusesCall e self.old.session self.new.session) }
     {
         // No `?`: it converts the error, and `refused` is about the error itself.

@@ -11,7 +11,7 @@ use crate::locked::Locked;
 use crate::shared_sftp::{Seat, SharedSftp};
 use session_driver::Phase;
 use session_model::{Entry, Event, Report};
-use session_seats::{Ended, Ending, NotEnded, Receipt};
+use session_seats::{Ended, Ending, NotEnded, Receipt, TakeOut};
 use sftp_model::{Error, SftpOptions};
 use ssh_encoding::OutOfMemory;
 use std::alloc::Global;
@@ -29,7 +29,7 @@ pub struct SharedReport {
     /// The receipts of each seat, in the order of the seats that were passed in. Those of a lane's seat are of all
     /// entries of the lane.
     pub receipts: Vec<Vec<Receipt>>,
-    /// True if the session was open: then no grant is left to close.
+    /// True exactly if the session was open: then no grant is left to close.
     pub is_open: bool,
 }
 
@@ -150,7 +150,11 @@ impl SharedSftp {
                 others,
             });
         };
-        match shared.close(rt, alloc, seat, others, empty, &Unfailed { alloc }) {
+        let out = TakeOut {
+            ending: Unfailed { alloc },
+            empty,
+        };
+        match shared.close(rt, alloc, seat, others, out) {
             Ok((ended, prepared)) => {
                 let Ended { value, receipts } = ended;
                 let Prepared {

@@ -13,9 +13,9 @@ ghost use Rattle.sftp_tasks.specs.Shows.{shown_of};
 
 use crate::copies::copies_of;
 use crate::events::{CancelCall, GiveUp, Release, Submit};
-use crate::locked::Locked;
+use crate::locked::{Locked, LockedCounts};
 use session_model::{Call, Lane};
-use session_seats::{Counts, Origin, Shared};
+use session_seats::{Origin, Shared};
 use sftp_lanes::Session;
 use sftp_model::{Error, SftpOptions};
 use sftp_values::Items;
@@ -48,7 +48,7 @@ impl Locked {
     {
         Ok(Locked {
             session: Session::new(alloc, lanes, options)?,
-            counts: Counts {
+            counts: LockedCounts {
                 handed: 0,
                 written: 0,
                 taken: 0,

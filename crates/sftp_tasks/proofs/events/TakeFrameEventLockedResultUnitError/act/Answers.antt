@@ -23,5 +23,5 @@ returns-in-Some-clause-does c =
     let body = c.in-Some.body.now in
     let t = taking_from body y z c.take.result c.take.ensures.takes c.take.ensures.counts c.take.ensures.stops in (
       taking_frame c.args.self.frame body y z c.take.result (search rules) c.in-Some.ensures.spelled t.0,
-      c.take.ensures.no_fault,
+      c.take.ensures.unfailed,
     )

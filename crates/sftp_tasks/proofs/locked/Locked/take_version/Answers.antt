@@ -11,6 +11,6 @@ returns-in-Ok-fail c =
       rest = c.fail.ensures.rest
           ∙ ap (λ (k : ℕ). record y { session = z.session; counts = record y.counts { taken = k } }) (sym same);
       takes = (inr (inr record { unasked = search rules; is = refl; kept = search rules }), same);
-      no_fault = tt;
+      unfailed = tt;
       rises = omega (arith, same);
     }

@@ -19,5 +19,5 @@ returns-in-Some-clause-does c = (
   taking_version c.args.self.frame c.in-Some.body.now c.args.value.now c.take_version.new.self c.take_version.result
       (search rules)
       c.in-Some.ensures.spelled c.take_version.ensures.takes,
-  c.take_version.ensures.no_fault,
+  c.take_version.ensures.unfailed,
 )

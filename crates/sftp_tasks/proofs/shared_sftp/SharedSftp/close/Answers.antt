@@ -6,7 +6,8 @@ use Rattle.sftp_tasks.proofs.shared_sftp.SharedSftp.close.Goals as goal
 pub returns-in-Ok-close-clause-closes : goal.returns-in-Ok-close-clause-closes
 returns-in-Ok-close-clause-closes g c =
     let ends : EndsSo _ _ _ _ = c.in-Ok-close.ensures.closes.1 in
-    reported _ _ _ c.in-Ok-close.ensures.closes.0 ends.0 c.report_into.ensures ends.1.lists ends.1.settled refl
+    reported _ _ _ c.in-Ok-close.ensures.closes.0 ends.0 c.report_into.ensures ends.1.lists ends.1.opened
+    ends.1.settled refl
 
 pub returns-in-Ok-close-clause-covers : goal.returns-in-Ok-close-clause-covers
 returns-in-Ok-close-clause-covers g c = λ complete.

@@ -4,7 +4,7 @@ use Rattle.session_seats.specs.declared.view.Receipt.{Receipt}
 use Rattle.std.proofs.lemmas.List.{take_more}
 use Rattle.session_seats.specs.Sights.{made_from, receipt}
 use Rattle.session_seats.proofs.HoldLaws.{from-snoc}
-use Rattle.session_seats.proofs.shared.copy_from.Goals as goal
+use Rattle.session_seats.proofs.seat.copy_from.Goals as goal
 
 pub loop-entry-preserved : goal.loop-entry-preserved
 loop-entry-preserved c =
