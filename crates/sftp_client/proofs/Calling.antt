@@ -133,6 +133,10 @@ called Starts s state old started new call result usable starts same apart h =
 abbrev pub nowhere : Site
 nowhere = record { slots = []; directory = [] }
 
+pub path_no_id : {M V L S : Type 0} (s : Meaning Site M V) (plan : PathPlan) (state : L → LinkView S) (old : SftpValue L)
+    (e : Error) → IsReadyOr old.core (Err e) → CallsOnPath s plan state old old (Err e)
+path_no_id s plan state old e h = no_id (OnCore (StartsFrom s plan [])) (HasFinished s state) state old e h
+
 path_refused_at : {M V L S : Type 0} (s : Meaning Site M V) (plan : PathPlan) (state : L → LinkView S)
     (old new : SftpValue L) (e : Error) → StartsFrom s plan [] old.core new.core (Err e) → new ≡ with_core old new.core
     → CallsOnPath s plan state old new (Err e)

@@ -23,7 +23,7 @@ use Rattle.sftp_client.specs.Sessions.{SftpValue, with_core}
 use Rattle.sftp_client.specs.Waits.{HasFinishedOn, IsReadyOr}
 use Rattle.sftp_client.specs.WholeWaits.{HasCopied, HasFinishedRead}
 use Rattle.sftp_client.specs.WriteWaits.{HasFinishedWrite}
-use Rattle.sftp_client.proofs.Calling.{finish_all, finish_unfaulted, ran, refused, started_apart, without_id}
+use Rattle.sftp_client.proofs.Calling.{finish_all, finish_unfaulted, no_id, ran, refused, started_apart, without_id}
 use Rattle.sftp_client.proofs.HandleCalling.{held_inside, usable_inside}
 
 -- ---- calls on a file
@@ -131,6 +131,10 @@ copy_called_at n state f f' g g' old started new call result usable source targe
 
 -- ---- files of a path, whole
 
+pub read_path_no_id : {L S : Type 0} (path : List ℕ) (state : L → LinkView S) (old : SftpValue L) (e : Error)
+    → IsReadyOr old.core (Err e) → ReadsPath path state old old (Err e)
+read_path_no_id path state old e h = no_id (OnCore (ReadsFrom path [])) (HasFinishedRead state) state old e h
+
 read_path_refused_at : {L S : Type 0} (path : List ℕ) (state : L → LinkView S) (old new : SftpValue L) (e : Error)
     → ReadsFrom path [] old.core new.core (Err e) → new ≡ with_core old new.core
     → ReadsPath path state old new (Err e)
@@ -154,6 +158,11 @@ read_path_called_at path state old started new call result usable starts left h 
     (spares_both old.core started.core new.core (λ id. Unit {0}) (IsNoneOfRead call.stage) (λ id. Unit {0})
     starts.spares h.spares)
     (read_unfaulted state old started new call result (ap (λ (x : SftpValue _). x.link) left) h)
+
+pub write_path_no_id : {L S : Type 0} (path content : List ℕ) (state : L → LinkView S) (old : SftpValue L) (e : Error)
+    → IsReadyOr old.core (Err e) → WritesPath path content state old old (Err e)
+write_path_no_id path content state old e h =
+    no_id (OnCore (WritesFrom path content [])) (HasFinishedWrite state) state old e h
 
 write_path_refused_at : {L S : Type 0} (path content : List ℕ) (state : L → LinkView S) (old new : SftpValue L)
     (e : Error) → WritesFrom path content [] old.core new.core (Err e) → new ≡ with_core old new.core

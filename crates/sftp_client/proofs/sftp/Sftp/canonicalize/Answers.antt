@@ -1,12 +1,15 @@
 use Rattle.std.proofs.Common.{refl}
+use Rattle.plan_model.specs.PathPlans.{canonicalize_next}
+use Rattle.sftp_fs.specs.Names.{name_meaning}
 use Rattle.link_frames.proofs.Joining.{escaped}
-use Rattle.sftp_client.proofs.Calling.{no_id, path_called, path_refused}
+use Rattle.sftp_client.proofs.Calling.{path_called, path_no_id, path_refused}
 use Rattle.sftp_client.proofs.sftp.Sftp.canonicalize.Goals as goal
 
 pub returns-in_err-ready : goal.returns-in_err-ready
 returns-in_err-ready g c =
     rw (escaped c.from_residual.result c.in_err-ready.field-0.0 c.from_residual.ensures.1)
-    (no_id _ _ g.L.LinkState.state c.args.self.now c.in_err-ready.field-0.0 c.in_err-ready.ensures)
+    (path_no_id name_meaning (canonicalize_next c.args.path.now) g.L.LinkState.state
+    c.args.self.now c.in_err-ready.field-0.0 c.in_err-ready.ensures)
 
 pub returns-in_err-call : goal.returns-in_err-call
 returns-in_err-call g c =

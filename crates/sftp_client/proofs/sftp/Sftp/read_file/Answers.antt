@@ -1,13 +1,13 @@
 use Rattle.std.proofs.Common.{refl}
 use Rattle.link_frames.proofs.Joining.{escaped}
-use Rattle.sftp_client.proofs.Calling.{no_id}
-use Rattle.sftp_client.proofs.FileCalling.{read_path_called, read_path_refused}
+use Rattle.sftp_client.proofs.FileCalling.{read_path_called, read_path_no_id, read_path_refused}
 use Rattle.sftp_client.proofs.sftp.Sftp.read_file.Goals as goal
 
 pub returns-in_err-ready : goal.returns-in_err-ready
 returns-in_err-ready g c =
     rw (escaped c.from_residual.result c.in_err-ready.field-0.0 c.from_residual.ensures.1)
-    (no_id _ _ g.L.LinkState.state c.args.self.now c.in_err-ready.field-0.0 c.in_err-ready.ensures)
+    (read_path_no_id c.args.path.now g.L.LinkState.state c.args.self.now c.in_err-ready.field-0.0
+    c.in_err-ready.ensures)
 
 pub returns-in_err-call : goal.returns-in_err-call
 returns-in_err-call g c =
