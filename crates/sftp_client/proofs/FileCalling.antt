@@ -1,12 +1,14 @@
 -- What calls on files that are started and run in one leave to others.
-use Rattle.std.proofs.Common.{◌≡◌, ◌-◌, ◌∙◌, ℕ, zero, suc, List, [], ap, refl, sym, subst, inl, inr}
+use Rattle.std.proofs.Common.{◌≡◌, ◌-◌, ◌∙◌, ℕ, zero, suc, List, [], false, ap, refl, sym, subst, inl, inr}
 use Rattle.std.specs.Prelude.{Some, Result, Ok, Err, OnOk}
 use Rattle.bytes.specs.Filled.{Filled}
 use Rattle.sftp_model.specs.declared.error.Error.{Error}
 use Rattle.sftp_model.specs.declared.reply.Reply.TheVariants as reply
+use Rattle.sftp_model.specs.declared.slot.Facts.{Facts}
 use Rattle.sftp_model.specs.declared.slot.FileAt.{FileAt}
-use Rattle.plan_model.specs.Moves.{Answers}
-use Rattle.sftp_core.specs.Core.{IsGrant}
+use Rattle.sftp_model.specs.declared.slot.Site.{Site}
+use Rattle.plan_model.specs.Moves.{Answers, Plan}
+use Rattle.sftp_core.specs.Core.{Core, IsGrant}
 use Rattle.sftp_core.specs.Grant.{GrantValue}
 use Rattle.sftp_link.specs.Views.{LinkView}
 use Rattle.plan_state.specs.Calls.{CallValue}
@@ -16,8 +18,12 @@ use Rattle.plan_state.proofs.OthersKept.{grant_kept}
 use Rattle.plan_state.proofs.Sparing.{spares_both}
 use Rattle.sftp_file.specs.Copies.{CopyStarts, CopyValue, copy_meaning}
 use Rattle.sftp_file.specs.Files.{FilePlan, FileValue, StartsOnFile}
-use Rattle.sftp_fs.specs.WholeWrites.{FsWriteValue, IsNoneOfWrite, WritesFrom}
-use Rattle.sftp_fs_read.specs.WholeReads.{FsReadValue, IsNoneOfRead, ReadsFrom}
+use Rattle.sftp_fs.specs.WholeWrites.{FsWriteValue, IsNoneOfWrite, WriteOpens, WritesFrom, is_over as write_over}
+use Rattle.sftp_fs.specs.declared.fs_write.Writing.{Writing}
+use Rattle.sftp_fs.specs.declared.fs_write.Writing.TheVariants as writing
+use Rattle.sftp_fs_read.specs.WholeReads.{FsReadValue, IsNoneOfRead, ReadOpens, ReadsFrom, is_over as read_over}
+use Rattle.sftp_fs_read.specs.declared.fs_read.Whole.{Whole}
+use Rattle.sftp_fs_read.specs.declared.fs_read.Whole.TheVariants as whole
 use Rattle.sftp_client.specs.Calls.{CallsOnFile, CopiesFile, CopyStartsOr, IfIdLeft, IsUsable, OnCore, ReadsPath, StartsOr, WritesPath}
 use Rattle.sftp_client.specs.Sessions.{SftpValue, with_core}
 use Rattle.sftp_client.specs.Waits.{HasFinishedOn, IsReadyOr}
@@ -188,6 +194,21 @@ write_path_called_at path content state old started new call result usable start
     (spares_both old.core started.core new.core (λ id. Unit {0}) (IsNoneOfWrite call.stage) (λ id. Unit {0})
     starts.spares h.spares)
     (write_unfaulted state old started new call result (ap (λ (x : SftpValue _). x.link) left) h)
+
+-- ---- whole reads and writes that were just started have not answered
+
+pub read_begun : (site : Site) (plan : Plan) (answers : Answers) (old new : Core) (stage : Whole)
+    → ReadOpens site plan answers old new stage → read_over stage ≡ false
+read_begun site plan answers old new (whole.Opening call facts) h = refl
+read_begun site plan answers old new (whole.Open grant reads tickets) h = absurd h
+read_begun site plan answers old new whole.Ended h = absurd h
+
+pub write_begun : (site : Site) (plan : Plan) (answers : Answers) (old new : Core) (content : List ℕ) (facts : Facts)
+    (stage : Writing) → WriteOpens site plan answers old new content facts stage → write_over stage ≡ false
+write_begun site plan answers old new content facts (writing.Opening call more) h = refl
+write_begun site plan answers old new content facts (writing.Opened grant more) h = absurd h
+write_begun site plan answers old new content facts (writing.Parts grant call) h = absurd h
+write_begun site plan answers old new content facts writing.Ended h = absurd h
 
 -- ---- the same for a session whose fields were taken apart before the start
 

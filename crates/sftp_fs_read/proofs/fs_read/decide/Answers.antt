@@ -20,8 +20,8 @@ returns-in-Ok-Wait c =
     c.args.reads.facts
     ≡ move_by c.args.reads.handle site m) given c.in-Ok-Wait.ensures.goes)
 
-pub returns-in-Ok-Whole : goal.returns-in-Ok-Whole
-returns-in-Ok-Whole c =
+pub returns-in-Ok : goal.returns-in-Ok
+returns-in-Ok c =
     let given : c.in-Ok-Whole.field-0 ≡ step.Whole c.in-Ok-Whole.bytes = search rules in
     decided_whole c.args.core.now c.finish.new.core c.args.grant c.args.reads c.args.tickets c.in-Ok-Whole.bytes _
     c.requires.held

@@ -1,6 +1,7 @@
-use Rattle.std.proofs.Common.{refl}
+use Rattle.std.proofs.Common.{[], refl, rules}
+use Rattle.std.specs.Prelude.{None}
 use Rattle.link_frames.proofs.Joining.{escaped}
-use Rattle.sftp_client.proofs.FileCalling.{read_path_called, read_path_no_id, read_path_refused}
+use Rattle.sftp_client.proofs.FileCalling.{read_begun, read_path_called, read_path_no_id, read_path_refused}
 use Rattle.sftp_client.proofs.sftp.Sftp.read_file.Goals as goal
 
 pub returns-in_err-ready : goal.returns-in_err-ready
@@ -14,6 +15,15 @@ returns-in_err-call g c =
     rw (escaped c.from_residual-in_err-call.result c.in_err-call.field-0.0 c.from_residual-in_err-call.ensures.1)
     (read_path_refused c.args.path.now g.L.LinkState.state c.args.self.now _ _ c.in_err-call.field-0.0 c.self.view_is
     (rw (c.fs.ensures) at c.in_err-call.ensures) refl)
+
+pub finish_read-requires-clause-may : goal.finish_read-requires-clause-may
+finish_read-requires-clause-may g c =
+    record {
+      opened = search rules;
+      over = read_begun _ _ _ _ _ _
+          (c.in_ok-call.ensures.starts (record { slots = []; directory = [] }) (λ place. None) (search rules));
+      held = search rules;
+    }
 
 pub returns : goal.returns
 returns g c =
