@@ -21,7 +21,8 @@ if ! [ -x "$program" ]; then
 fi
 
 room=$(mktemp -d) || exit 1
-socat "UNIX-LISTEN:$room/socket,fork" "EXEC:$server" 2>/dev/null &
+mkdir "$room/home"
+(cd "$room/home" && exec socat "UNIX-LISTEN:$room/socket,fork" "EXEC:$server" 2>/dev/null) &
 listener=$!
 trap 'kill $listener 2>/dev/null; rm -rf "$room"' EXIT
 tries=0
@@ -87,8 +88,13 @@ fi
 if timeout 60 "$program" get "$room/socket" "$room/none" >"$room/to" 2>"$room/why"; then
     fail "a file that isn't there was got"
 fi
-[ -s "$room/why" ] || fail "no reason was told"
+grep -q 'status 2: "No such file"' "$room/why" || fail "the server's reason was not printed"
 [ -s "$room/to" ] && fail "something was printed of a file that isn't there"
+
+# the first program, in the directory in which the server began
+timeout 60 "$program" first "$room/socket" | sort >"$room/to" || fail "first"
+printf '%s\n' . .. 'buy milk' notes.txt | sort >"$room/wanted"
+cmp -s "$room/wanted" "$room/to" || fail "the first program printed something else"
 
 [ $failed -eq 0 ] && echo "examples: ok"
 [ $failed -eq 0 ]

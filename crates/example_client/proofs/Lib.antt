@@ -1,6 +1,5 @@
 mod Answered
 mod Steps
-mod Listing
 mod Treeing
 mod Asking
 mod Sizing

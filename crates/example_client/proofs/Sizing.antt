@@ -18,7 +18,7 @@ use Rattle.sftp_file.specs.Tells.{attrs_meaning}
 use Rattle.sftp_client.specs.Sessions.{FlushesQueue, SftpValue, TakesOrKept, with_core}
 use Rattle.sftp_client.specs.Waits.{SendsAndTakes}
 use Rattle.sftp_client.proofs.Waiting.{fail_stays, round_stays, round_unfaulted}
-use Rattle.example_client.specs.Files.{IsUsable}
+use Rattle.sftp_client.specs.Calls.{IsUsable}
 use Rattle.example_client.specs.Sizes.{AreCallsAwaited, AreSizes, AreCallsUnderWay, GoesBySteps, SizesProgress, IsAsked, IsStep, sizes_progress_of}
 use Rattle.example_client.proofs.Asking.{awaited_kept, awaited_more, awaited_still, nothing_left}
 

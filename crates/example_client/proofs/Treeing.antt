@@ -5,8 +5,8 @@ use Rattle.std.proofs.lemmas.Grind.{flat_map-append}
 use Rattle.std.proofs.lemmas.List.{append-nil, append_assoc, map-append}
 use Rattle.sftp_link.specs.Views.{LinkView}
 use Rattle.sftp_client.specs.Sessions.{SftpValue}
-use Rattle.example_client.specs.Directories.{IsListOf}
-use Rattle.example_client.specs.Files.{IsUsable}
+use Rattle.sftp_client.specs.DirCalls.{ListsWhole}
+use Rattle.sftp_client.specs.Calls.{IsUsable}
 use Rattle.example_client.specs.Trees.{AreListed, IsTreeOf, found_in, path_of}
 use Rattle.example_client.specs.declared.trees.Listing.{Listing}
 
@@ -22,17 +22,17 @@ pub tree_first : {L S : Type 0} (state : L → LinkView S) (path : List ℕ) (ol
 tree_first state path old unlisted usable one = record { listed = refl; all = one; usable = usable }
 
 listed_more : {L S : Type 0} (state : L → LinkView S) (old mid new : SftpValue L) (tree : List Listing) (last : Listing)
-    → AreListed state old mid tree → IsListOf last.path state mid new last.entries.items
+    → AreListed state old mid tree → ListsWhole last.path state mid new last.entries.items
     → AreListed state old new (tree ++ last ∷ [])
 listed_more {L = L} state old mid new [] last h here =
-    (new, (subst (λ (s : SftpValue L). IsListOf last.path state s new last.entries.items) h here, refl))
+    (new, (subst (λ (s : SftpValue L). ListsWhole last.path state s new last.entries.items) h here, refl))
 listed_more state old mid new (first ∷ others) last h here =
     (h.0, (h.1.0, listed_more state h.0 mid new others last h.1.1 here))
 
 pub tree_next : {L S : Type 0} (state : L → LinkView S) (path : List ℕ) (old mid new : SftpValue L)
     (tree : List Listing) (last : Listing)
     (unlisted later found : List (List ℕ)) → TreeOn state path old mid tree unlisted → unlisted ≡ last.path ∷ later
-    → IsListOf last.path state mid new last.entries.items → IsUsable state new → found ≡ later ++ found_in last
+    → ListsWhole last.path state mid new last.entries.items → IsUsable state new → found ≡ later ++ found_in last
     → TreeOn state path old new (tree ++ last ∷ []) found
 tree_next state path old mid new tree last unlisted later found t first here usable found_is =
     record {

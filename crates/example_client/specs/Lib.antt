@@ -1,5 +1,5 @@
 pub mod Files
-pub mod Directories
+pub mod First
 pub mod Trees
 pub mod Tasks
 pub mod Sizes

@@ -15,7 +15,7 @@ use Rattle.sftp_file.specs.Tells.{attrs_meaning}
 use Rattle.sftp_fs.specs.PathStarts.{StartsFrom}
 use Rattle.sftp_client.specs.Sessions.{SftpValue, with_core}
 use Rattle.sftp_client.specs.Waits.{SendsAndTakes}
-use Rattle.example_client.specs.Files.{IsUsable}
+use Rattle.sftp_client.specs.Calls.{IsUsable}
 
 -- ---- Calls in flight
 

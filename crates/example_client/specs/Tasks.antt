@@ -5,7 +5,7 @@ use Rattle.sftp_link.specs.Views.{LinkView}
 use Rattle.sftp_client.specs.Sessions.{SftpValue}
 use Rattle.example_client.specs.declared.tasks.Task.{Task}
 use Rattle.example_client.specs.declared.tasks.Task.TheVariants.{Put, Get, ListDir}
-use Rattle.example_client.specs.Directories.{IsListOf}
+use Rattle.sftp_client.specs.DirCalls.{ListsWhole}
 use Rattle.example_client.specs.declared.trees.Listing.{Listing}
 use Rattle.example_client.specs.Files.{IsGot, IsPut}
 use Rattle.example_client.specs.Trees.{below, is_self}
@@ -20,7 +20,7 @@ abbrev pub IsDone : {L S : Type 0} → Task → List ℕ → List ℕ → (L →
     → Type 0
 IsDone Put path content state old new printed = IsPut path content state old new × (printed ≡ [])
 IsDone Get path content state old new printed = IsGot path state old new printed
-IsDone ListDir path content state old new printed = (entries : List NameEntry) × (IsListOf path state old new entries
+IsDone ListDir path content state old new printed = (entries : List NameEntry) × (ListsWhole path state old new entries
     × (printed ≡ flat_map line_of entries))
 
 -- The line of the path of an entry of a directory, unless it is the directory itself or its parent.

@@ -27,7 +27,7 @@ use Rattle.sftp_model.specs.Paths.{joined_path}
 use Rattle.sftp_model.specs.declared.reply.NameEntry.{NameEntry}
 use Rattle.sftp_link.specs.Views.{LinkView}
 use Rattle.sftp_client.specs.Sessions.{SftpValue}
-use Rattle.example_client.specs.Directories.{IsListOf}
+use Rattle.sftp_client.specs.DirCalls.{ListsWhole}
 use Rattle.example_client.specs.declared.trees.Listing.{Listing}
 
 abbrev pub is_directory_type : Option RawFileType → Bool
@@ -65,7 +65,7 @@ path_of listing = listing.path
 abbrev pub AreListed : {L S : Type 0} → (L → LinkView S) → SftpValue L → SftpValue L → List Listing → Type 0
 AreListed state old new [] = new ≡ old
 AreListed {L = L} state old new (first ∷ others) = (mid : SftpValue L)
-    × (IsListOf first.path state old mid first.entries.items × AreListed state mid new others)
+    × (ListsWhole first.path state old mid first.entries.items × AreListed state mid new others)
 
 -- Directories were listed, one after another: the one of this path, and then, in order and once each, those that were
 -- found in them.

@@ -1,10 +1,8 @@
 //! Files of a server, written and read whole, one call after another.
-ghost use Rattle.std.specs.Prelude.{◌≡◌, ◌++◌, OnOk, IfOk, Ok};
-ghost use Rattle.plan_state.specs.Asked.{IsReady};
-ghost use Rattle.sftp_client.specs.Opening.{to_create, to_read};
-ghost use Rattle.example_client.specs.Files.{HasFile, IsClosed, IsGot, IsOpened, IsPut, IsRead, IsReadToEnd, IsUsable, IsWritten};
+ghost use Rattle.std.specs.Prelude.{◌≡◌, ◌++◌, OnOk, IfOk};
+ghost use Rattle.example_client.specs.Files.{HasFile, IsGot, IsPut, IsReadToEnd};
+ghost use Rattle.sftp_client.specs.Calls.{IsUsable};
 
-use bytes::Bytes;
 use sftp_client::{Error, File, Link, Sftp};
 use std::alloc::Global;
 
@@ -17,11 +15,11 @@ pub fn put<L: Link>(sftp: &mut Sftp<L>, path: &[u8], content: &[u8]) -> Result<(
     requires { IsUsable L.LinkState.state sftp.old }
     ensures { OnOk result (IsPut path.now content.now L.LinkState.state sftp.old sftp.new) }
 {
-    let mut file = create(sftp, path)?;
-    match write(sftp, &mut file, content) {
-        Ok(()) => close(sftp, file),
+    let mut file = sftp.create(path)?;
+    match sftp.write_all(&mut file, content) {
+        Ok(()) => sftp.close_file(file),
         Err(e) => {
-            give_up(sftp, file);
+            sftp.release_file(file);
             Err(e)
         }
     }
@@ -36,29 +34,17 @@ pub fn get<L: Link>(alloc: Global, sftp: &mut Sftp<L>, path: &[u8]) -> Result<Ve
     requires { IsUsable L.LinkState.state sftp.old }
     ensures { IfOk result (λ bytes. IsGot path.now L.LinkState.state sftp.old sftp.new bytes.items) }
 {
-    let mut file = open(sftp, path)?;
+    let mut file = sftp.open(path)?;
     match read_to_end(alloc, sftp, &mut file) {
         Ok(bytes) => {
-            close(sftp, file)?;
+            sftp.close_file(file)?;
             Ok(bytes)
         }
         Err(e) => {
-            give_up(sftp, file);
+            sftp.release_file(file);
             Err(e)
         }
     }
-}
-
-/// Opens a file for reading.
-fn open<L: Link>(sftp: &mut Sftp<L>, path: &[u8]) -> Result<File, Error>
-    requires { IsUsable L.LinkState.state sftp.old }
-    ensures opened { IfOk result (IsOpened to_read path.now L.LinkState.state sftp.old sftp.new) }
-    ensures held { IfOk result (HasFile sftp.new) }
-    ensures usable { OnOk result (IsUsable L.LinkState.state sftp.new) }
-{
-    sftp.ready()?;
-    let call = sftp.start_open(path)?;
-    sftp.finish(call)
 }
 
 /// Reads from the offset of the file to its end.
@@ -76,7 +62,7 @@ fn read_to_end<L: Link>(
     let len = sftp.max_read_len();
     let mut bytes = Vec::new(alloc);
     for _ in 0..u64::MAX {
-        match read(sftp, file, len)? {
+        match sftp.read(file, len)? {
             Some(part) => append(&mut bytes, &part)?,
             None => return Ok(bytes),
         }
@@ -92,59 +78,4 @@ pub(crate) fn append(bytes: &mut Vec<u8>, part: &[u8]) -> Result<(), Error>
         Ok(()) => Ok(()),
         Err(_) => Err(Error::OutOfMemory),
     }
-}
-
-/// Reads at most `len` bytes at the offset of the file; returns `None` at its end.
-fn read<L: Link>(sftp: &mut Sftp<L>, file: &mut File, len: u32) -> Result<Option<Bytes>, Error>
-    requires usable { IsUsable L.LinkState.state sftp.old }
-    requires held { HasFile sftp.old file.old }
-    ensures read { IfOk result (λ answer. IsRead len L.LinkState.state sftp.old sftp.new file.old file.new answer) }
-    ensures held { HasFile sftp.new file.new }
-    ensures usable { OnOk result (IsUsable L.LinkState.state sftp.new) }
-{
-    sftp.ready()?;
-    let call = file.start_read(sftp.core(), len)?;
-    sftp.finish_on(call, file)
-}
-
-/// Opens a file for writing.
-fn create<L: Link>(sftp: &mut Sftp<L>, path: &[u8]) -> Result<File, Error>
-    requires { IsUsable L.LinkState.state sftp.old }
-    ensures opened { IfOk result (IsOpened to_create path.now L.LinkState.state sftp.old sftp.new) }
-    ensures held { IfOk result (HasFile sftp.new) }
-    ensures usable { OnOk result (IsUsable L.LinkState.state sftp.new) }
-{
-    sftp.ready()?;
-    let call = sftp.start_create(path)?;
-    sftp.finish(call)
-}
-
-/// Writes bytes at the offset of the file.
-fn write<L: Link>(sftp: &mut Sftp<L>, file: &mut File, content: &[u8]) -> Result<(), Error>
-    requires usable { IsUsable L.LinkState.state sftp.old }
-    requires held { HasFile sftp.old file.old }
-    ensures written { OnOk result (IsWritten content.now L.LinkState.state sftp.old sftp.new file.old file.new) }
-    ensures held { HasFile sftp.new file.new }
-    ensures usable { OnOk result (IsUsable L.LinkState.state sftp.new) }
-{
-    sftp.ready()?;
-    let call = file.start_write_all(sftp.core(), content)?;
-    sftp.finish_on(call, file)
-}
-
-/// Closes a file, and waits until the server has closed it.
-fn close<L: Link>(sftp: &mut Sftp<L>, file: File) -> Result<(), Error>
-    requires usable { IsUsable L.LinkState.state sftp.old }
-    requires held { HasFile sftp.old file }
-    ensures closed { OnOk result (IsClosed file L.LinkState.state sftp.old sftp.new) }
-{
-    let call = file.start_close(sftp.core());
-    sftp.finish(call)
-}
-
-/// Closes a file without waiting.
-fn give_up<L: Link>(sftp: &mut Sftp<L>, file: File)
-    requires { HasFile sftp.old file }
-{
-    file.start_close(sftp.core()).cancel(sftp.core());
 }

@@ -4,26 +4,45 @@
 
 ghost use Rattle.std.specs.Prelude.{IfOk};
 ghost use Rattle.sftp_link.specs.Views.{stream_view};
-ghost use Rattle.example_client.specs.Files.{IsUsable};
+ghost use Rattle.sftp_client.specs.Calls.{IsUsable};
 
-mod directories;
 mod files;
+mod first;
 mod sizes;
 mod tasks;
 mod trees;
 
-pub use directories::list;
 pub use files::{get, put};
-use sftp_client::{RemotePath, Sftp, SftpOptions};
+pub use first::visit;
+use sftp_client::{Error, RemotePath, Sftp, SftpOptions};
 use sftp_link::{Dial, ReadSource, UnixDial, UnixLink, WriteSink, read_up_to, write_all};
 pub use sizes::sizes;
 use std::env;
 use std::process::ExitCode;
+use tasks::lines;
 pub use tasks::{Task, do_task, tree_text};
 pub use trees::{Listing, MAX_DIRS, TreeError, tree};
 
-/// The reason why an example wasn't done by its session.
-const REFUSED: &str = "the server refused, or the session failed";
+/// The reason why an example wasn't done.
+#[derive(Drop)]
+enum Failure {
+    /// The program's own reason.
+    Refused(&'static str),
+    /// The error of the session or the server.
+    Remote(Error),
+}
+
+impl From<&'static str> for Failure {
+    fn from(why: &'static str) -> Failure {
+        Failure::Refused(why)
+    }
+}
+
+impl From<Error> for Failure {
+    fn from(e: Error) -> Failure {
+        Failure::Remote(e)
+    }
+}
 
 /// The greatest size of a file that is written, in bytes.
 const MAX_CONTENT: usize = 67_108_864;
@@ -36,7 +55,9 @@ const USAGE: &str = "example_client put|get|list SOCKET PATH\n\
     example_client tree SOCKET PATH\n\
     tree: prints the paths of all that is below a directory, a line each\n\
     example_client sizes SOCKET PATH..\n\
-    sizes: prints the sizes of files, of which many are asked for at once\n";
+    sizes: prints the sizes of files, of which many are asked for at once\n\
+    example_client first SOCKET\n\
+    first: writes notes.txt, prints its first bytes and the names of its directory\n";
 
 /// Runs one of the examples:
 ///
@@ -45,113 +66,158 @@ const USAGE: &str = "example_client put|get|list SOCKET PATH\n\
 /// - `list SOCKET PATH` prints the names of a directory.
 /// - `tree SOCKET PATH` prints the paths of everything below a directory.
 /// - `sizes SOCKET PATH..` prints the sizes of files.
+/// - `first SOCKET` writes a note, and prints its first bytes and the names of its directory.
 fn main(rt: HostRuntime) -> ExitCode {
     match run(&rt) {
         Ok(()) => ExitCode::from(0),
         Err(why) => {
-            // If standard error fails too, the message is lost.
-            let _ = eprintln!(rt; "example_client: {why}");
+            report(&rt, &why);
             ExitCode::from(1)
         }
     }
 }
 
-/// Runs the example that the command line asks for; an error is the reason why it wasn't done.
-fn run(rt: &HostRuntime) -> Result<(), &'static str> {
+/// Writes to standard error why an example wasn't done: for a refusal of the server its status and its message. If
+/// standard error fails too, the message is lost.
+fn report(rt: &HostRuntime, why: &Failure) {
+    let _ = match why {
+        Failure::Refused(why) => eprintln!(rt; "example_client: {why}"),
+        Failure::Remote(e) => match message_of(e) {
+            Some(message) => eprintln!(rt; "example_client: {e}: {message:?}"),
+            None => eprintln!(rt; "example_client: {e}"),
+        },
+    };
+}
+
+/// Returns the message of the server if the error is its refusal and the message is UTF-8.
+fn message_of(e: &Error) -> Option<&str> {
+    match e {
+        Error::SftpError { message, .. } => str::from_utf8(message.as_slice()).ok(),
+        _ => None,
+    }
+}
+
+/// Runs the example that the command line asks for.
+fn run(rt: &HostRuntime) -> Result<(), Failure> {
+    let words = words_of(rt)?;
+    match words.as_slice() {
+        [word] if word.as_str() == "--help" => print(rt, USAGE.as_bytes()),
+        [word, socket] if word.as_str() == "first" => print_first(rt, socket),
+        [word, socket, paths @ ..] if word.as_str() == "sizes" => print_sizes(rt, socket, paths),
+        [word, socket, path] => run_on(rt, word, socket, path.as_bytes()),
+        _ => Err(Failure::Refused(
+            "put, get, list, tree, sizes or first, the path of a socket, and a path are needed (try --help)",
+        )),
+    }
+}
+
+/// Returns the arguments.
+fn words_of(rt: &HostRuntime) -> Result<Vec<String>, &'static str> {
     let mut words = Vec::new(rt.alloc());
     let args = env::args(rt).map_err(|_| "the arguments are not UTF-8")?;
     for word in args.skip(1) {
-        words.push(word).map_err(|_| "no memory")?;
+        words.push(word).map_err(|_| "out of memory")?;
     }
-    if matches!(words.as_slice(), [word] if word.as_str() == "--help") {
-        return rt
-            .print(USAGE)
-            .map_err(|_| "standard output can't be written");
-    }
-    let [word, socket, paths @ ..] = words.as_slice() else {
-        return Err("put, get, list, tree or sizes, the path of a socket, and a path are needed");
-    };
-    if word.as_str() == "sizes" {
-        return print_sizes(rt, socket, paths);
-    }
-    let [path] = paths else {
-        return Err("only sizes takes another number of paths than one");
-    };
-    match word.as_str() {
-        "put" => over(rt, socket, Task::Put, path.as_bytes()),
-        "get" => over(rt, socket, Task::Get, path.as_bytes()),
-        "list" => over(rt, socket, Task::ListDir, path.as_bytes()),
-        "tree" => print_tree(rt, socket, path.as_bytes()),
-        _ => Err("the first word is put, get, list, tree or sizes"),
+    Ok(words)
+}
+
+/// Runs an example that has one path.
+fn run_on(rt: &HostRuntime, word: &str, socket: &str, path: &[u8]) -> Result<(), Failure> {
+    match word {
+        "put" => over(rt, socket, Task::Put, path),
+        "get" => over(rt, socket, Task::Get, path),
+        "list" => over(rt, socket, Task::ListDir, path),
+        "tree" => print_tree(rt, socket, path),
+        _ => Err(Failure::Refused(
+            "the first word is put, get, list, tree, sizes or first (try --help)",
+        )),
     }
 }
 
 /// Runs an example over the server that listens at a socket.
-fn over(rt: &HostRuntime, socket: &str, task: Task, path: &[u8]) -> Result<(), &'static str> {
+fn over(rt: &HostRuntime, socket: &str, task: Task, path: &[u8]) -> Result<(), Failure> {
     let alloc = rt.alloc();
     let content = if matches!(task, Task::Put) {
         read_up_to(alloc, &mut ReadSource::new(rt.stdin()), MAX_CONTENT).map_err(
-            |_| "standard input can't be read",
+            |_| Failure::Refused("standard input can't be read"),
         )?
     } else {
         Vec::new(alloc)
     };
     let mut sftp = session(rt, socket)?;
-    let printed = do_task(alloc, &mut sftp, task, path, &content).map_err(|_| REFUSED)?;
-    write_all(&mut WriteSink::new(rt.stdout()), &printed).map_err(
-        |_| "standard output can't be written",
-    )
+    let printed = do_task(alloc, &mut sftp, task, path, &content)?;
+    print(rt, &printed)
+}
+
+/// Runs the first program over the server that listens at a socket, and closes the session.
+fn print_first(rt: &HostRuntime, socket: &str) -> Result<(), Failure> {
+    let mut sftp = session(rt, socket)?;
+    let (start, entries) = visit(&mut sftp)?;
+    let text = lines(rt.alloc(), &entries)?;
+    match start {
+        Some(bytes) => print(rt, &bytes)?,
+        None => {}
+    }
+    print(rt, &text)
 }
 
 /// Prints the sizes of files of the server that listens at a socket, a line each.
-fn print_sizes(rt: &HostRuntime, socket: &str, words: &[String]) -> Result<(), &'static str> {
+fn print_sizes(rt: &HostRuntime, socket: &str, words: &[String]) -> Result<(), Failure> {
     let mut paths = Vec::new(rt.alloc());
     for word in words {
+        let path = remote(rt, word.as_bytes())?;
         paths
-            .push(remote(rt, word.as_bytes())?)
-            .map_err(|_| "no memory")?;
+            .push(path)
+            .map_err(|_| Failure::Refused("out of memory"))?;
     }
     let mut sftp = session(rt, socket)?;
-    let told = sizes(rt.alloc(), &mut sftp, &paths).map_err(|_| REFUSED)?;
-    for size in told {
+    for size in sizes(rt.alloc(), &mut sftp, &paths)? {
         match size {
             Some(n) => println!(rt; "{n}"),
             None => println!(rt; "unknown"),
         }
-        .map_err(|_| "standard output can't be written")?;
+        .map_err(|_| Failure::Refused("standard output can't be written"))?;
     }
     Ok(())
 }
 
 /// Prints the paths of everything below a directory of the server that listens at a socket, a line each.
-fn print_tree(rt: &HostRuntime, socket: &str, path: &[u8]) -> Result<(), &'static str> {
+fn print_tree(rt: &HostRuntime, socket: &str, path: &[u8]) -> Result<(), Failure> {
     let alloc = rt.alloc();
     let path = remote(rt, path)?;
     let mut sftp = session(rt, socket)?;
     let listed = tree(alloc, &mut sftp, path).map_err(|e| match e {
-        TreeError::TooManyDirs => "it has 65536 directories or more",
-        TreeError::Failed(_) => REFUSED,
+        TreeError::TooManyDirs => Failure::Refused("it has 65536 directories or more"),
+        TreeError::Failed(e) => Failure::Remote(e),
     })?;
-    let text = tree_text(alloc, &listed).map_err(|_| "no memory")?;
-    write_all(&mut WriteSink::new(rt.stdout()), &text).map_err(
-        |_| "standard output can't be written",
-    )
+    let text = tree_text(alloc, &listed)?;
+    print(rt, &text)
+}
+
+/// Writes bytes to standard output.
+fn print(rt: &HostRuntime, bytes: &[u8]) -> Result<(), Failure> {
+    write_all(&mut WriteSink::new(rt.stdout()), bytes).map_err(|_| Failure::Refused(
+        "standard output can't be written",
+    ))
 }
 
 /// Returns the path of these bytes.
 fn remote(rt: &HostRuntime, path: &[u8]) -> Result<RemotePath, &'static str> {
     match Vec::from_slice(rt.alloc(), path) {
         Ok(bytes) => Ok(RemotePath::new(bytes)),
-        Err(_) => Err("no memory"),
+        Err(_) => Err("out of memory"),
     }
 }
 
 /// Returns a session with the server that listens at a socket.
-fn session(rt: &HostRuntime, socket: &str) -> Result<Sftp<UnixLink>, &'static str>
+fn session(rt: &HostRuntime, socket: &str) -> Result<Sftp<UnixLink>, Failure>
     ensures { IfOk result (IsUsable stream_view) }
 {
     let link = UnixDial::new(rt)
         .dial(socket)
-        .map_err(|_| "no server listens on the socket")?;
-    Sftp::new(rt.alloc(), link, &SftpOptions::new()).map_err(|_| "the session didn't open")
+        .map_err(|_| Failure::Refused("no server listens on the socket"))?;
+    match Sftp::new(rt.alloc(), link, &SftpOptions::new()) {
+        Ok(sftp) => Ok(sftp),
+        Err((e, _link)) => Err(Failure::Remote(e)),
+    }
 }

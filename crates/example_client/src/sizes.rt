@@ -2,7 +2,7 @@
 ghost use Rattle.std.specs.Prelude.{◌≡◌, ◌++◌, ◌∷◌, ◌<◌, ◌≤◌, ℕ, List, [], IfOk, OnOk};
 ghost use Rattle.std.specs.VecDeque.{deque_capacity, deque_len};
 ghost use Rattle.plan_state.specs.Keeping.{KeepsHeld};
-ghost use Rattle.example_client.specs.Files.{IsUsable};
+ghost use Rattle.sftp_client.specs.Calls.{IsUsable};
 ghost use Rattle.example_client.specs.Sizes.{AreCallsAwaited, AreSizes, AreCallsUnderWay, GoesBySteps, IsAsked, sizes_progress_of};
 
 use sftp_client::{AttrsCall, Error, Link, Poll, RemotePath, Sftp};

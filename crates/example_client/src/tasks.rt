@@ -1,9 +1,8 @@
 //! The examples by their words.
 ghost use Rattle.std.specs.Prelude.{◌≡◌, ◌++◌, IfOk, OnOk, flat_map};
-ghost use Rattle.example_client.specs.Files.{IsUsable};
+ghost use Rattle.sftp_client.specs.Calls.{IsUsable};
 ghost use Rattle.example_client.specs.Tasks.{IsDone, line_below, line_of, lines_in};
 
-use crate::directories::list;
 use crate::files::{append, get, put};
 use crate::trees::{Listing, below, is_self};
 use sftp_client::{DirEntry, Error, Link, RemotePath, Sftp};
@@ -42,14 +41,14 @@ pub fn do_task<L: Link>(
         }
         Task::Get => get(alloc, sftp, path),
         Task::ListDir => {
-            let entries = list(alloc, sftp, path)?;
+            let entries = sftp.read_dir(path)?;
             lines(alloc, &entries)
         }
     }
 }
 
 /// Returns the names of entries, a line each.
-fn lines(alloc: Global, entries: &[DirEntry]) -> Result<Vec<u8>, Error>
+pub(crate) fn lines(alloc: Global, entries: &[DirEntry]) -> Result<Vec<u8>, Error>
     ensures { IfOk result (λ text. text.items ≡ flat_map line_of entries.now) }
 {
     let mut text = Vec::new(alloc);

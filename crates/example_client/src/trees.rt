@@ -1,9 +1,8 @@
 //! Directory trees of a server, listed one directory after another.
 ghost use Rattle.std.specs.Prelude.{◌≡◌, ◌++◌, ◌∷◌, [], IfOk, OnOk, flat_map};
-ghost use Rattle.example_client.specs.Files.{IsUsable};
+ghost use Rattle.sftp_client.specs.Calls.{IsUsable};
 ghost use Rattle.example_client.specs.Trees.{IsTreeOf, below, dirs_in, is_below, is_directory, is_self};
 
-use crate::directories::list;
 use sftp_client::{DirEntry, Error, Link, RemotePath, Sftp};
 use std::alloc::Global;
 use std::collections::VecDeque;
@@ -63,7 +62,7 @@ pub fn tree<L: Link>(
         let Some(path) = unlisted.pop_front() else {
             return Ok(tree);
         };
-        let entries = list(alloc, sftp, path.as_bytes())?;
+        let entries = sftp.read_dir(path.as_bytes())?;
         push_dirs(alloc, &mut unlisted, &path, &entries)?;
         push_listing(&mut tree, Listing { path, entries })?;
     }

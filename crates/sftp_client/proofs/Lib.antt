@@ -9,3 +9,7 @@ mod Moving
 mod Listing
 mod WholeWaiting
 mod WriteWaiting
+mod Calling
+mod HandleCalling
+mod FileCalling
+mod DirCalling

@@ -398,7 +398,7 @@ waits_count s state count old mid polled p m q few w pending =
 
 -- ---- a call that is given up once it was run
 
-ended_by : {W M V L S : Type 0} (s : Meaning W M V) (state : L → LinkView S) (count : ℕ) (old new : SftpValue L)
+pub ended_by : {W M V L S : Type 0} (s : Meaning W M V) (state : L → LinkView S) (count : ℕ) (old new : SftpValue L)
     (p q : CallValue M) (value : V) → WaitStops s state count old new p q (Ok value) → is_ended q.stage ≡ true
 ended_by s state count old new p q value (inl (inl (inl h))) = h.0.over
 ended_by s state count old new p q value (inl (inl (inr h))) = absurd cc
@@ -406,7 +406,7 @@ ended_by s state count old new p q value (inl (inr h)) = absurd cc
 ended_by s state count old new p q value (inr h) = absurd cc
 
 -- nothing is left of a call that has answered
-nothing_left : (core : Core) (stage : Stage) → is_ended stage ≡ true → core_after_cancel core stage ≡ core
+pub nothing_left : (core : Core) (stage : Stage) → is_ended stage ≡ true → core_after_cancel core stage ≡ core
 nothing_left core Ended over = refl
 nothing_left core Ready over = absurd cc
 nothing_left core (Unsent asking) over = absurd cc

@@ -9,3 +9,5 @@ pub mod Listed
 pub mod WholeWaits
 pub mod WriteWaits
 pub mod WaitRows
+pub mod Calls
+pub mod DirCalls

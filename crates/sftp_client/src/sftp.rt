@@ -15,6 +15,9 @@ ghost use Rattle.sftp_client.specs.Sessions.{FlushesQueue, FlushesUnfailed, IsWh
 ghost use Rattle.sftp_client.specs.Waits.{IsReadyOr};
 
 mod calls;
+mod directories;
+mod files;
+mod paths;
 
 use crate::incoming::Incoming;
 use crate::outgoing::Outgoing;
@@ -89,7 +92,7 @@ impl<L: Link> Sftp<L> {
             incoming: Incoming::new(alloc),
             link,
         };
-        match sftp.open() {
+        match sftp.open_session() {
             Ok(()) => Ok(sftp),
             Err(e) => Err((e, sftp.into_link())),
         }
@@ -248,7 +251,8 @@ impl<L: Link> Sftp<L> {
         self.info().read_len
     }
 
-    /// Checks that another request may be submitted.
+    /// Checks that an id is left for another request. A recorded fault is not reported here: the start of the request
+    /// reports it.
     ///
     /// # Errors
     ///
@@ -265,7 +269,7 @@ impl<L: Link> Sftp<L> {
     }
 
     /// Sends the hello and takes VERSION, and also the limits if the server offers to report them.
-    fn open(&mut self) -> Result<(), Error>
+    fn open_session(&mut self) -> Result<(), Error>
         requires empty { self.old ≡ fresh_sftp self.old.core.options self.old.link }
         requires count { (L.LinkState.state self.old.link).faults < 2 ^ 64 - 1 }
         ensures { OpenEnds L.LinkState.state self.old self.new result }

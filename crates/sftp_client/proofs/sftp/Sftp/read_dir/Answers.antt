@@ -1,0 +1,44 @@
+use Rattle.std.proofs.Common.{subst}
+use Rattle.sftp_fs.specs.Listings.{ListingValue}
+use Rattle.plan_state.specs.Keeping.{SparesOthers}
+use Rattle.sftp_client.specs.DirCalls.{IsListedToEnd, IsNoneOfListing}
+use Rattle.sftp_client.proofs.DirCalling.{list_keeps}
+use Rattle.sftp_client.proofs.sftp.Sftp.read_dir.Goals as goal
+
+pub returns-in_ok-close_dir-in-Ok-clause-lists : goal.returns-in_ok-close_dir-in-Ok-clause-lists
+returns-in_ok-close_dir-in-Ok-clause-lists g c =
+    record {
+      opened = c.open_dir.new.self;
+      listed = c.entries_of.new.self;
+      dir = c.in_ok-open_dir.field-0;
+      after = c.entries_of.new.listing;
+      opens = c.in_ok-open_dir.ensures;
+      lists = subst (λ l. IsListedToEnd g.L.LinkState.state c.open_dir.new.self c.entries_of.new.self l
+          c.entries_of.new.listing c.in-Ok.entries.items)
+          c.read_dir-listing.ensures c.in-Ok.ensures.listed;
+      closes = c.in_ok-close_dir-in-Ok.ensures;
+    }
+
+pub returns-in_ok-close_dir-in-Ok-clause-keeps : goal.returns-in_ok-close_dir-in-Ok-clause-keeps
+returns-in_ok-close_dir-in-Ok-clause-keeps g c =
+    list_keeps c.args.self.now.core c.open_dir.new.self.core c.entries_of.new.self.core c.close_dir.new.self.core
+    c.in_ok-open_dir.field-0 c.entries_of.new.listing c.in_ok-open_dir.ensures.apart
+    (subst (λ (l : ListingValue). SparesOthers c.open_dir.new.self.core c.entries_of.new.self.core (IsNoneOfListing l)
+    (IsNoneOfListing c.entries_of.new.listing)) c.read_dir-listing.ensures c.in-Ok.ensures.spares)
+    c.in_ok-close_dir-in-Ok.ensures.spares
+
+pub returns-in_err-close_dir-in-Ok-clause-keeps : goal.returns-in_err-close_dir-in-Ok-clause-keeps
+returns-in_err-close_dir-in-Ok-clause-keeps g c =
+    list_keeps c.args.self.now.core c.open_dir.new.self.core c.entries_of.new.self.core c.close_dir.new.self.core
+    c.in_ok-open_dir.field-0 c.entries_of.new.listing c.in_ok-open_dir.ensures.apart
+    (subst (λ (l : ListingValue). SparesOthers c.open_dir.new.self.core c.entries_of.new.self.core (IsNoneOfListing l)
+    (IsNoneOfListing c.entries_of.new.listing)) c.read_dir-listing.ensures c.in-Ok.ensures.spares)
+    c.in_err-close_dir-in-Ok.ensures.spares
+
+pub returns-in-Err-clause-keeps : goal.returns-in-Err-clause-keeps
+returns-in-Err-clause-keeps g c =
+    list_keeps c.args.self.now.core c.open_dir.new.self.core c.entries_of.new.self.core c.release_dir.new.self.core
+    c.in_ok-open_dir.field-0 c.entries_of.new.listing c.in_ok-open_dir.ensures.apart
+    (subst (λ (l : ListingValue). SparesOthers c.open_dir.new.self.core c.entries_of.new.self.core (IsNoneOfListing l)
+    (IsNoneOfListing c.entries_of.new.listing)) c.read_dir-listing.ensures c.in-Err.ensures.spares)
+    c.release_dir.ensures.spares

@@ -1,0 +1,109 @@
+//! Calls on directories, each of which runs to its end.
+ghost use Rattle.std.specs.Prelude.{◌≡◌, ◌++◌, ◌∷◌, [], IfOk, OnOk};
+ghost use Rattle.plan_state.specs.Keeping.{KeepsHeld, SparesOthers};
+ghost use Rattle.sftp_fs.specs.Listings.{IsListing};
+ghost use Rattle.sftp_client.specs.Calls.{ClosesHandle, IsUsable, OpensDirectory, ReleasesHandle};
+ghost use Rattle.sftp_client.specs.DirCalls.{ClosesListing, IsListedToEnd, IsNoneOfListing, ListsWhole};
+
+use super::Sftp;
+use sftp_fs::{Dir, DirEntry, ReadDir};
+use sftp_link::Link;
+use sftp_model::Error;
+
+/// The calls on directories. Each of them sends what is queued and takes frames until its replies come; the replies to
+/// other calls are kept for them. A listing cannot be dropped: `close_dir` or `release_dir` consumes it.
+impl<L: Link> Sftp<L> {
+    /// Opens a directory (draft-ietf-secsh-filexfer-02, section 6.7). `Dir::read_dir` returns its listing, and
+    /// `next_entry` that one's entries.
+    ///
+    /// # Errors
+    ///
+    /// `OutOfMemory` if 2147483648 ids are in use or an allocation fails; `IOError(PathTooLong)` if the request would
+    /// pass 1048575 bytes; `SftpError` with the server's status and message if it refuses; otherwise the errors of
+    /// `flush` and `take`.
+    pub fn open_dir(&mut self, path: &[u8]) -> Result<Dir, Error>
+        requires { IsUsable L.LinkState.state self.old }
+        ensures { OpensDirectory path.now L.LinkState.state self.old self.new result }
+    {
+        self.ready()?;
+        let call = self.fs().start_open_dir(self.alloc, &mut self.core, path)?;
+        self.finish(call)
+    }
+
+    /// Closes a listing and its directory, and waits until the server has closed it.
+    ///
+    /// # Errors
+    ///
+    /// `SftpError` if the server refuses, or the errors of `flush` and `take`. The listing is given up in any case.
+    pub fn close_dir(&mut self, listing: ReadDir) -> Result<(), Error>
+        requires usable { IsUsable L.LinkState.state self.old }
+        requires listing { IsListing self.old.core listing }
+        ensures { ClosesHandle (ClosesListing listing) (IsNoneOfListing listing) L.LinkState.state self.old self.new result }
+    {
+        let call = listing.start_close(&mut self.core);
+        self.finish(call)
+    }
+
+    /// Closes a listing and its directory without waiting: the CLOSE is queued, and its reply is dropped.
+    pub fn release_dir(&mut self, listing: ReadDir)
+        requires { IsListing self.old.core listing }
+        ensures { ReleasesHandle (ClosesListing listing) (IsNoneOfListing listing) self.old self.new }
+    {
+        listing.start_close(&mut self.core).cancel(&mut self.core);
+    }
+
+    /// Returns the entries of a directory in the server's order, with `.` and `..` if it reports them. The directory
+    /// is opened, listed to its end, and closed.
+    ///
+    /// # Errors
+    ///
+    /// Those of `open_dir`; `OutOfMemory` if the entries find no memory. The directory is closed then, and the entries
+    /// that came are dropped.
+    pub fn read_dir(&mut self, path: &[u8]) -> Result<Vec<DirEntry>, Error>
+        requires { IsUsable L.LinkState.state self.old }
+        ensures lists { IfOk result (λ entries. ListsWhole path.now L.LinkState.state self.old self.new entries.items) }
+        ensures keeps { KeepsHeld self.old.core self.new.core }
+        ensures usable { OnOk result (IsUsable L.LinkState.state self.new) }
+    {
+        let mut listing = self.open_dir(path)?.read_dir(self.alloc);
+        match self.entries_of(&mut listing) {
+            Ok(entries) => {
+                self.close_dir(listing)?;
+                Ok(entries)
+            }
+            Err(e) => {
+                self.release_dir(listing);
+                Err(e)
+            }
+        }
+    }
+
+    /// Returns the entries of a listing up to its end.
+    fn entries_of(&mut self, listing: &mut ReadDir) -> Result<Vec<DirEntry>, Error>
+        requires usable { IsUsable L.LinkState.state self.old }
+        requires listing { IsListing self.old.core listing.old }
+        ensures listed { IfOk result (λ entries. IsListedToEnd L.LinkState.state self.old self.new listing.old listing.new entries.items) }
+        ensures listing { IsListing self.new.core listing.new }
+        ensures spares { SparesOthers self.old.core self.new.core (IsNoneOfListing listing.old) (IsNoneOfListing listing.new) }
+        ensures usable { OnOk result (IsUsable L.LinkState.state self.new) }
+    {
+        let mut entries = Vec::new(self.alloc);
+        for _ in 0..u64::MAX {
+            match self.next_entry(listing)? {
+                Some(entry) => push(&mut entries, entry)?,
+                None => return Ok(entries),
+            }
+        }
+        Err(Error::OutOfMemory)
+    }
+}
+
+/// Appends an entry.
+fn push(entries: &mut Vec<DirEntry>, entry: DirEntry) -> Result<(), Error>
+    ensures { OnOk result (entries.new.items ≡ entries.old.items ++ entry ∷ []) }
+{
+    match entries.push(entry) {
+        Ok(()) => Ok(()),
+        Err(_) => Err(Error::OutOfMemory),
+    }
+}
