@@ -1,4 +1,4 @@
-use Rattle.std.proofs.Common.{List, length, ap, refl, sym}
+use Rattle.std.proofs.Common.{◌∙◌, List, length, ap, refl, sym}
 use Rattle.plan_model.specs.declared.call.Lane.{Lane}
 use Rattle.session_seats.specs.Closes.{claim_by}
 use Rattle.session_threads.proofs.OpenedLaws.{ends_if, over_if, runs_if, stops_if}
@@ -6,6 +6,14 @@ use Rattle.session_threads.proofs.run.run_stoppable.Goals as goal
 
 pub start-requires-clause-count : goal.start-requires-clause-count
 start-requires-clause-count g c = ap (λ (l : List Lane). length l) (sym c.in-Ok.ensures.home.1.0)
+
+pub run_crew-requires-clause-crew : goal.run_crew-requires-clause-crew
+run_crew-requires-clause-crew g c κs within =
+    let o = c.in-Ok.ensures.opens in (
+      (o.1.hello, c.in-Ok-start.ensures.crew o.1.hello o.1.gets.sees),
+      ap (λ (l : List Lane). length l) (sym c.in-Ok.ensures.home.1.0)
+          ∙ ap (λ (l : List Lane). length l) (sym c.in-Ok-start.ensures.made.0),
+    )
 
 pub returns-clause-runs : goal.returns-clause-runs
 returns-clause-runs g c =
