@@ -1,3 +1,5 @@
+-- believed: nobody, everybody, submits, owner_or, submitter, lanes_of, lane_union, with_entry, entries_concern,
+--   with_tide, concerns
 -- The threads that a hold of the shared value concerns, and the counts of changes at which they wait.
 use Rattle.std.specs.Prelude.{
   ℕ,

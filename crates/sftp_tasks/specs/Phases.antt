@@ -1,4 +1,4 @@
--- believed: phase_number, is_open_in
+-- believed: phase_number
 -- The phases of a session as numbers.
 use Rattle.std.specs.Prelude.{◌≡◌, ℕ, zero, suc, Bool, true, false}
 use Rattle.std.proofs.Common.{refl}

@@ -1,4 +1,4 @@
--- believed, except SendsGroups
+-- believed, except SeesUnfailed, SeesFailed, SendsGroups
 -- One round of a worker: the frames that it handed out or took, and what its half of the link shows of it.
 use Rattle.std.specs.Prelude.{
   ◌≡◌,

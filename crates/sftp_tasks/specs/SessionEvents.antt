@@ -1,4 +1,5 @@
--- believed: HasNoFault, HasFault, IsUnmoved, RefusesCall, IsKept, GivesUp, IsRefusedBy, IsUnawaited, TakeStops
+-- believed, except HandsUnsent, KeepsFault, LetsLaneGoIn, AllEnded, polled_of, PollsIn, AddsIn, RefusesToAdd,
+--   SubmitsCall
 -- Effects of the calls of the locked value on its session.
 use Rattle.std.specs.Prelude.{
   ◌≡◌,
