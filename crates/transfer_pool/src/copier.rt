@@ -185,7 +185,10 @@ impl<F: LocalFile + Drop> Copier<F> {
         requires { AreTogether core.old self.running }
         ensures { SparesAll self.running core.old core.new }
     {
-        let Copier { mut running, .. } = self;
+        let Copier {
+            alloc: _alloc,
+            mut running,
+        } = self;
         while let Some(copy) = running.pop_front() {
             copy.cancel(core);
         }
