@@ -8,7 +8,7 @@ The input has a line `files N sftp_transfer SECONDS sftp SECONDS` for each numbe
 """
 import math, sys
 
-WIDTH, HEIGHT, LEFT, RIGHT, TOP, BOTTOM = 720, 380, 70, 130, 46, 52
+WIDTH, HEIGHT, LEFT, RIGHT, TOP, BOTTOM = 720, 380, 70, 150, 46, 52
 COLOURS = {"sftp": "#b3541e", "sftp_transfer": "#1f6f8b"}
 
 
