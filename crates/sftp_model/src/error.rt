@@ -4,6 +4,7 @@ ghost use Rattle.std.specs.Prelude.{◌≡◌};
 use crate::copy::TryCopy;
 use crate::flags::Extensions;
 use crate::frame_error::FormatKind;
+use crate::refusal::write_refusal;
 use sftp_values::ByteText;
 use ssh_encoding::OutOfMemory;
 use std::alloc::Global;
@@ -79,13 +80,13 @@ pub enum Error {
     #[error("out of memory")]
     OutOfMemory,
     /// The link failed in this call.
-    #[error("the link failed")]
+    #[error("{}", Fault::Link)]
     LinkFault,
     /// The link ended before an expected reply came.
-    #[error("the link ended while a reply was due")]
+    #[error("{}", Fault::Ended)]
     LinkEnded,
     /// The server uses a version of the protocol other than 3.
-    #[error("the server speaks version {version} of the protocol, and only 3 is supported")]
+    #[error("{}", Fault::Protocol {version: *version})]
     UnsupportedSftpProtocol {
         version: u32,
     },
@@ -93,22 +94,22 @@ pub enum Error {
     #[error("{0}")]
     FormatError(FormatKind),
     /// A handle is longer than `MAX_HANDLE_LEN`.
-    #[error("a handle has {len} bytes, and at most 256 are allowed")]
+    #[error("{}", Fault::HandleTooLong {len: *len})]
     HandleTooLong {
         len: u32,
     },
     /// No sent request that is unanswered has the id of a reply.
-    #[error("a reply has the id {id}, which no unanswered request has")]
+    #[error("{}", Fault::ResponseId {id: *id})]
     InvalidResponseId {
         id: u32,
     },
     /// The reply may not answer its request.
-    #[error("a reply may not answer its request")]
+    #[error("{}", Fault::Response {id: *id})]
     InvalidResponse {
         id: Option<u32>,
     },
     /// The server refused the request, with its code, message and language tag.
-    #[error("the server refused the request with status {code}")]
+    #[error(fmt = write_refusal)]
     SftpError {
         code: u32,
         message: ByteText,

@@ -17,6 +17,7 @@ pub mod numbers;
 mod open_options;
 mod options;
 mod outcome;
+mod refusal;
 mod remote_path;
 mod reply;
 mod request;

@@ -2,7 +2,7 @@
 ghost use Rattle.std.specs.Prelude.{◌≡◌, ◌≤◌, ◌==◌, length, ◌+◌, drop, None, Some, MatchOption, IfOk, IfSome, IfErr, OnOk};
 ghost use Rattle.ssh_encoding.specs.Writing.{string};
 ghost use Rattle.sftp_model.specs.Numbers.{MAX_BODY_LEN};
-ghost use Rattle.sftp_wire.specs.FrameReader.{nothing, need_of, body_of, PushesBytes, NotPushed, fault_of_len, told_len, len_of, missing_with};
+ghost use Rattle.sftp_wire.specs.FrameReader.{nothing, need_of, body_of, PushesBytes, NotPushed, fault_of, fault_of_len, told_len, len_of, missing_bytes, missing_with};
 
 use sftp_model::{FormatKind, FrameError, numbers};
 use ssh_encoding::{Decode, OutOfMemory};
@@ -91,6 +91,22 @@ impl FrameReader {
             alloc,
             bytes: Vec::new(alloc),
             body_len: None,
+            refused: None,
+        }
+    }
+
+    /// Creates the reader of a frame that has come whole, from its bytes. Does not allocate.
+    pub fn of_frame(alloc: Global, bytes: Vec<u8>) -> FrameReader
+        requires unfaulted { fault_of bytes ≡ None }
+        requires whole { missing_bytes bytes ≡ 0 }
+        requires within { length bytes ≤ 4 + told_len bytes }
+        ensures { result ≡ record { bytes = bytes; refused = None } }
+    {
+        let body_len = told_len(alloc, &bytes);
+        FrameReader {
+            alloc,
+            bytes,
+            body_len,
             refused: None,
         }
     }
