@@ -4,7 +4,6 @@ use Rattle.std.specs.Prelude.{Result}
 use Rattle.sftp_model.specs.ReplyReadings.{reply_at}
 use Rattle.sftp_model.specs.declared.error.Fault.{Fault}
 use Rattle.sftp_model.specs.declared.frame_error.FrameError.{FrameError}
-use Rattle.sftp_model.specs.declared.frame_error.FrameError.TheVariants as frame
 use Rattle.sftp_core.specs.Core.{Core}
 use Rattle.sftp_core.specs.declared.errors.TakeError.{TakeError}
 use Rattle.sftp_core.specs.declared.errors.TakeError.TheVariants as take
