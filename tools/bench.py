@@ -8,6 +8,7 @@ one driver of them, and in memory. It prints tables, is no part of the gate, and
     python3 tools/bench.py [FIRST] [LAST]     requests in flight, doubled from FIRST to LAST: from 5000 to 40000
     python3 tools/bench.py threads            the tables of threads alone
     python3 tools/bench.py copies             copies by sftp_transfer alone, beside those of `sftp`
+    python3 tools/bench.py short              a large file from a late server whose DATA are shorter than it is asked for
     python3 tools/bench.py counts             more and more small files over a late server, for tools/picture.py
 
 A ratio of 2 at a doubling is linear. `sftp` waits for each reply, so it is measured at FIRST alone where replies are late.
@@ -27,6 +28,8 @@ SERVER = "/usr/lib/openssh/sftp-server"
 LIMIT = float(os.environ.get("BENCH_LIMIT", "1200"))
 # seconds by which each way to a late server is late
 DELAY = 0.010
+# the type of a READ, and the most bytes in a DATA of a server that gives less than it is asked for
+READ, SHORT_DATA = 5, 16384
 # the most bytes that the relay to it takes at once, and the options that give a socket room for them (Linux's socket(7))
 RELAY, SO_SNDBUFFORCE, SO_RCVBUFFORCE = 1 << 20, 32, 33
 # so many files of so many bytes go up and down: as many as one script may hold
@@ -196,17 +199,39 @@ def widened(end):
     return end
 
 
-def serve_late(link):
-    """A server over one connection, whose bytes come late both ways."""
+def short_reads(write):
+    """A function that passes requests on, in which each READ asks for SHORT_DATA bytes at most: so DATA are no longer."""
+    come = bytearray()
+
+    def pass_on(data):
+        come.extend(data)
+        whole = 0
+        while len(come) - whole >= 5:
+            end = whole + 4 + int.from_bytes(come[whole : whole + 4], "big")
+            if len(come) < end:
+                break
+            if come[whole + 4] == READ:
+                asked = int.from_bytes(come[end - 4 : end], "big")
+                come[end - 4 : end] = min(asked, SHORT_DATA).to_bytes(4, "big")
+            whole = end
+        write(bytes(come[:whole]))
+        del come[:whole]
+
+    return pass_on
+
+
+def serve_late(link, short):
+    """A server over one connection, whose bytes come late both ways, and whose DATA are short or not."""
     ours, theirs = (widened(end) for end in socket.socketpair())
     subprocess.Popen([SERVER], stdin=theirs, stdout=theirs, stderr=subprocess.DEVNULL)
     theirs.close()
-    for come, go in ((widened(link), ours), (ours, link)):
+    requests = short_reads(ours.sendall) if short else ours.sendall
+    for come, go, write in ((widened(link), ours, requests), (ours, link, link.sendall)):
         end = lambda go=go: go.shutdown(socket.SHUT_WR)
-        threading.Thread(target=pass_on_later, args=(come.recv, go.sendall, end), daemon=True).start()
+        threading.Thread(target=pass_on_later, args=(come.recv, write, end), daemon=True).start()
 
 
-def serve(path, late):
+def serve(path, late, short=False):
     """Listens at a path: a server for each connection."""
     listener = socket.socket(socket.AF_UNIX)
     listener.bind(path)
@@ -216,7 +241,7 @@ def serve(path, late):
         while True:
             link, _ = listener.accept()
             if late:
-                serve_late(link)
+                serve_late(link, short)
             else:
                 subprocess.Popen([SERVER], stdin=link, stdout=link, stderr=subprocess.DEVNULL)
                 link.close()
@@ -300,6 +325,18 @@ def tables_of_copies(folder):
         if not late:
             table_of_files(folder, path, made(folder, "huge", HUGE_BYTES), HUGE_BYTES)
             table_of_trees(folder, path)
+
+
+def table_of_short_data(folder):
+    """A large file down from a late server, whose DATA are as long as asked for or have SHORT_DATA bytes at most."""
+    large = made(folder, "large", LARGE_DOWN)
+    copied = os.path.join(folder, "copied")
+    for short in (False, True):
+        path = os.path.join(folder, "short" if short else "full")
+        serve(path, True, short)
+        data = f"DATA of {SHORT_DATA} bytes" if short else "full DATA"
+        row(f"{LARGE_DOWN} bytes down, {data}, sftp_transfer", best(folder, [COPIER, "unix:" + path, "get", large, copied], "", 3))
+        row(f"{LARGE_DOWN} bytes down, {data}, sftp -b", best(folder, client_of(path), f"get {large} {copied}\n", 3))
 
 
 def client_of(path):
@@ -452,6 +489,9 @@ def main():
     if sys.argv[1:] == ["copies"]:
         with tempfile.TemporaryDirectory() as folder:
             return tables_of_copies(folder)
+    if sys.argv[1:] == ["short"]:
+        with tempfile.TemporaryDirectory() as folder:
+            return table_of_short_data(folder)
     if sys.argv[1:] == ["counts"]:
         with tempfile.TemporaryDirectory() as folder:
             return table_of_counts(folder)
@@ -482,6 +522,7 @@ def main():
                 f.write("hello")
         for late in (False, True):
             table_over_a_server(folder, sizes, names, late)
+        table_of_short_data(folder)
 
 
 if __name__ == "__main__":

@@ -460,7 +460,7 @@ def main():
     get_file(program, OneByte(), 0, "", a)
     for server in (TooMuch, OtherKind, OtherId, LongHandle, OldVersion, HugeFrame, EmptyFrame, RefusesReads):
         get_file(program, server(), 1, "sftp_transfer:", None)
-    put_file(program, RefusesWrites(), 1, "the server refused the request (status 4)", None)
+    put_file(program, RefusesWrites(), 1, "the server refused the request: failure (status 4)", None)
     put_tree(program, RefusesFolder(), 1, "up/a", {b"/up/ab": b"ab"})
     break_everywhere(program)
     for failure in failures:

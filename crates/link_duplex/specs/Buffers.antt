@@ -9,6 +9,11 @@ use Rattle.link_duplex.specs.Wires.{LogsStep, WireView}
 use Rattle.link_duplex.specs.declared.read_ahead.GetOutcome.{GetOutcome}
 use Rattle.link_duplex.specs.declared.read_ahead.GetOutcome.TheVariants as outcome
 
+-- The bytes that came fill the start of a room, and some of them were returned.
+pub record IsWithin (given came : ℕ) (room : List ℕ) : Type 0 where
+  pub returned : given ≤ came
+  pub room_for : came ≤ length room
+
 -- The first bytes were returned: all of them, or as many of them as fit in the room.
 abbrev pub GivesPrefix : List ℕ → List ℕ → List ℕ → ℕ → Type 0
 GivesPrefix old new room n = (n ≡ min (length room) (length old)) × (old ≡ take n room ++ new)

@@ -1,6 +1,6 @@
 //! Bytes that came and were not returned yet.
 ghost use Rattle.std.specs.Prelude.{◌≡◌, ◌<◌, ◌≤◌, ◌-◌, ◌^◌, [], ℕ, drop, length, take, OnOk};
-ghost use Rattle.link_duplex.specs.Buffers.{GivesPrefix, ReadsAhead};
+ghost use Rattle.link_duplex.specs.Buffers.{GivesPrefix, IsWithin, ReadsAhead};
 
 use crate::wire::Wire;
 use sftp_link::DeviceError;
@@ -32,13 +32,14 @@ pub(crate) struct ReadAhead {
 }
 
 impl Model for ReadAhead {
-    ghost use Rattle.std.specs.Prelude.{List, ℕ, ◌≤◌, drop, take, length};
+    ghost use Rattle.std.specs.Prelude.{List, ℕ, drop, take};
+    ghost use Rattle.link_duplex.specs.Buffers.{IsWithin};
 
     ghost Value = { List ℕ };
 
     ghost view = { λ a. drop a.given (take a.came a.room.items) };
 
-    ghost invariant = { λ a. (a.given ≤ a.came) × (a.came ≤ length a.room.items) };
+    ghost invariant = { λ a. IsWithin a.given a.came a.room.items };
 }
 
 impl ReadAhead {
@@ -113,12 +114,10 @@ fn make_place(
     given: &mut usize,
     came: &mut usize,
 ) -> Result<(), AllocError>
-    requires given { given.old ≤ came.old }
-    requires came { came.old ≤ length room.old.items }
+    requires within { IsWithin given.old came.old room.old.items }
     requires limit { came.old - given.old < limit }
     ensures same { drop given.new (take came.new room.new.items) ≡ drop given.old (take came.old room.old.items) }
-    ensures given { given.new ≤ came.new }
-    ensures came { came.new ≤ length room.new.items }
+    ensures within { IsWithin given.new came.new room.new.items }
     ensures place { OnOk result (came.new < length room.new.items) }
 {
     let ahead = *came - *given;

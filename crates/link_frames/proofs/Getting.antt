@@ -28,9 +28,10 @@ use Rattle.std.proofs.Common.{
   inl,
   inr,
 }
-use Rattle.std.specs.Prelude.{nat_lt, Ok}
+use Rattle.std.specs.Prelude.{nat_lt, take, replicate}
 use Rattle.std.proofs.lemmas.Bool.Decides.{nat_tests}
-use Rattle.std.proofs.lemmas.List.{append-nil, take-append-le}
+use Rattle.std.proofs.lemmas.List.{append-nil, length-drop, length-replicate, nil_from_length, take_all, take-append-le, take-append_seam}
+use borrow.Rule.Slice.PartMut.{post_of}
 use Rattle.std.specs.Int.{w32, from_be_bytes}
 use Rattle.sftp_model.specs.declared.error.Error.{Error}
 use Rattle.sftp_model.specs.declared.frame_error.FormatKind.{FormatKind}
@@ -39,10 +40,12 @@ use Rattle.sftp_link.specs.declared.device_error.DeviceError.TheVariants as devi
 use Rattle.sftp_link.specs.declared.piece.Piece.{Piece}
 use Rattle.sftp_link.specs.declared.piece.Piece.TheVariants.{Sent, Got}
 use Rattle.sftp_link.specs.Log.{AllSent, AllGot, SentOn, GotOn}
-use Rattle.sftp_link.specs.Told.{IfLogged, GotLess, GotAll, FillsRoom}
-use Rattle.sftp_wire.specs.FrameReader.{Received, PushesBytes, nothing, need_of, need_where, fault_of, fault_of_len, fault_where, fault_with, missing_bytes, told_len}
+use Rattle.sftp_link.specs.Told.{GotLess}
+use Rattle.sftp_link.proofs.Telling.{put_from}
+use Rattle.sftp_model.specs.declared.error.Error.TheVariants as error
+use Rattle.sftp_wire.specs.FrameReader.{Received, nothing, need_of, need_where, fault_of, fault_of_len, missing_bytes, told_len}
 use Rattle.link_frames.specs.Causes.{fault_of_link}
-use Rattle.link_frames.specs.Reading.{ReceivedBytes, PullFails, ReadFails, ReceivedRoom, IsFramePrefix, IsFramePart, IsPartway, IsOfOneFrame, IsBadLength}
+use Rattle.link_frames.specs.Reading.{BeginsFrame, IsFramePart, IsFramePrefix, IsUnfilled, IsWhole, ReadFails, TellsWhy}
 
 all_got_both : (late early : List Piece) (a b : List ℕ) → AllGot early a → AllGot late b
     → AllGot (late ++ early) (a ++ b)
@@ -78,17 +81,6 @@ sent_both x y z a b s t = (
 
 pub got_nothing : (x : List Piece) → GotOn x x []
 got_nothing x = ([], refl, refl)
-
--- a first part came, and then why no more did
-pub pull_fails : (e : Error) (r : Received) (x y z : List Piece) → GotOn x y r.bytes → PullFails e r y z
-    → ReadFails e x z
-pull_fails e r x y z got fails = (r.bytes ++ fails.0, (fails.1.0, got_both x y z r.bytes fails.0 got fails.1.1))
-
--- the first part and the second came
-pub got_whole : (old new : Received) (x y z : List Piece) → GotOn x y old.bytes → ReceivedBytes old new y z
-    → GotOn x z new.bytes
-got_whole old new x y z got more = subst (λ (w : List ℕ). GotOn x z w) (sym more.1.0)
-    (got_both x y z old.bytes more.0 got more.1.1)
 
 missing_short : (bytes : List ℕ) → length bytes < 4 → missing_bytes bytes ≡ 4 - length bytes
 missing_short bytes lt = let t : nat_lt (length bytes) 4 ≡ true = grind (arith, nat_tests) in rw t refl
@@ -179,87 +171,98 @@ part_within bytes p = record {
       λ le. (let m = missing_long bytes le in let s = p.short in omega (arith, m, s));
 }
 
--- a part of a frame didn't come, for want of memory or by a fault
+-- a part of a frame did not come, by a failure of the link or out of memory
 pub part_fails : (e : DeviceError) (r : Received) (room : List ℕ) (x y : List Piece) → r.refused ≡ None
-    → IsFramePrefix r.bytes → length room ≡ need_of r → GotLess room x y → PullFails (fault_of_link e) r x y
+    → IsFramePrefix r.bytes → length room ≡ need_of r → GotLess room x y
+    → (bytes : List ℕ) × (TellsWhy (fault_of_link e) (r.bytes ++ bytes) × GotOn x y bytes)
 part_fails device.OutOfMemory r room x y none prefix fits less =
     (let w = part_came r room x y none prefix.unfaulted fits less in
     (w.0, (inl (part_within (r.bytes ++ w.0) w.1.0), w.1.1)))
 part_fails device.Failed r room x y none prefix fits less = part_came r room x y none prefix.unfaulted fits less
 
--- a frame's length, and bytes up to its end
-within_more : (bytes room : List ℕ) → 4 ≤ length bytes → length bytes ≤ 4 + told_len bytes → length room
-    ≡ missing_bytes bytes
-    → length (bytes ++ room) ≤ 4 + told_len (bytes ++ room)
-within_more bytes room l within fits =
-    let before = missing_long bytes l in
-    let n = length-append bytes room in
-    let same : told_len (bytes ++ room) ≡ told_len bytes = ap (from_be_bytes w32) (take-append-le 4 bytes room l) in
-    omega (arith, before, n, same, within, fits)
+-- a room for a part of a frame was not filled
+room_fails : (e : Error) (r : Received) (room : List ℕ) (x y : List Piece) → r.refused ≡ None → IsFramePrefix r.bytes
+    → length room ≡ need_of r → IsUnfilled e → GotLess room x y
+    → (bytes : List ℕ) × (TellsWhy e (r.bytes ++ bytes) × GotOn x y bytes)
+room_fails error.OutOfMemory r room x y none prefix fits u less =
+    part_fails device.OutOfMemory r room x y none prefix fits less
+room_fails error.LinkFault r room x y none prefix fits u less =
+    part_came r room x y none prefix.unfaulted fits less
+room_fails error.LinkEnded r room x y none prefix fits u less =
+    part_came r room x y none prefix.unfaulted fits less
+room_fails other r room x y none prefix fits u less = absurd u
 
--- all that was asked for came: the four bytes of a length, or a whole frame
-part_whole : (bytes room : List ℕ) → IsFramePrefix bytes → length room ≡ missing_bytes bytes
-    → IsOfOneFrame (bytes ++ room)
-part_whole bytes room prefix fits =
-    elim (nat_lt (length bytes) 4) as (λ b. nat_lt (length bytes) 4 ≡ b → IsOfOneFrame (bytes ++ room)) [
-      | true ↦ λ t. (let n = length-append bytes room in let l = short bytes t in let before = missing_short bytes l in
-          inr (omega (arith, n, fits, before, l)))
-      | false ↦ λ f. (let l = long bytes f in inl (record {
-        unfaulted = fault_stays bytes room l ∙ prefix.unfaulted;
-        within = λ le. within_more bytes room l (prefix.within l) fits;
-      }))
-    ] refl
+no_bytes : IsFramePrefix []
+no_bytes = record { unfaulted = refl; within = λ le. absurd (omega (arith, le)) }
 
-pub part_got : (r : Received) (room : List ℕ) → r.refused ≡ None → IsFramePrefix r.bytes → length room ≡ need_of r
-    → IsOfOneFrame (r.bytes ++ room)
-part_got r room none prefix fits = part_whole r.bytes room prefix (fits ∙ need_is r none)
+-- the four bytes of the length did not come
+pub length_fails : (e : Error) (room : List ℕ) (x y : List Piece) → length room ≡ 4 → IsUnfilled e → GotLess room x y
+    → ReadFails e x y
+length_fails e room x y four u less = room_fails e nothing room x y refl no_bytes four u less
 
--- and where it is no wrong length, it is of a frame
-of_frame : (bytes : List ℕ) → fault_of bytes ≡ None → IsOfOneFrame bytes → IsFramePrefix bytes
-of_frame bytes unfaulted (inl prefix) = prefix
-of_frame bytes unfaulted (inr four) = record { unfaulted = unfaulted; within = λ le. omega (arith, four) }
+only_length : (len : List ℕ) → length len ≡ 4 → fault_of len ≡ None → IsFramePrefix len
+only_length len four unfaulted = record { unfaulted = unfaulted; within = λ le. omega (arith, four) }
 
-pub part_grown : (r new : Received) (room : List ℕ) → IsPartway r → length room ≡ need_of r → PushesBytes r room new
-    → ReceivedRoom r room new
-part_grown r new room at fits pushed =
-    let unfaulted : fault_of (r.bytes ++ room) ≡ None = sym (ap
-    (λ (k : Option FormatKind). fault_where k (r.bytes ++ room)) at.unrefused) ∙ pushed.0 in
-    let all : IsPartway (record { bytes = r.bytes ++ room; refused = None }) =
+-- the length came, and its body did not
+pub body_fails : (e : Error) (len frame room : List ℕ) (x y z : List Piece) → length len ≡ 4 → BeginsFrame len frame
+    → length room ≡ length frame - 4 → IsUnfilled e → GotOn x y len → GotLess room y z → ReadFails e x z
+body_fails e len frame room x y z four begun fits u got less =
+    let long = missing_long len (omega (arith, four)) in
+    let all = begun.room in
+    let f = room_fails e (record { bytes = len; refused = None }) room y z refl
+    (only_length len four begun.unfaulted) (omega (arith, fits, all, long, four)) u less in
+    (len ++ f.0, (f.1.0, got_both x y z len f.0 got f.1.1))
+
+-- the length came, and it is wrong, or out of memory
+pub length_came : (e : Error) (len : List ℕ) (x y : List Piece) → TellsWhy e len → GotOn x y len → ReadFails e x y
+length_came e len x y why got = (len, (why, got))
+
+pub bad_length : (kind : FormatKind) (len : List ℕ) → length len ≡ 4 → fault_of len ≡ Some kind
+    → TellsWhy (error.FormatError kind) len
+bad_length kind len four bad = (kind, (refl, record { four = four; bad = bad }))
+
+pub frame_begins : (len frame : List ℕ) (n : ℕ) → length len ≡ 4 → fault_of len ≡ None → n ≡ told_len len
+    → frame ≡ take (4 + n) len ++ replicate ((4 + n) - length len) 0 → BeginsFrame len frame
+frame_begins len frame n four unfaulted told is =
+    let same : take (4 + n) len ≡ len = take_all (4 + n) len (omega (arith, four)) in
+    let joined : frame ≡ len ++ replicate ((4 + n) - length len) 0 = is
+    ∙ ap (λ (w : List ℕ). w ++ replicate ((4 + n) - length len) 0) same in
+    let zeros = length-replicate ((4 + n) - length len) 0 in
+    let all = length-append len (replicate ((4 + n) - length len) 0) in
+    let whole : length frame ≡ length (len ++ replicate ((4 + n) - length len) 0) = ap length joined in
+    record {
+      unfaulted = unfaulted;
+      begins =
+          ap (take 4) joined
+          ∙ (subst (λ (k : ℕ). take k (len ++ replicate ((4 + n) - length len) 0) ≡ len) four
+          (take-append_seam len (replicate ((4 + n) - length len) 0)));
+      room = omega (arith, zeros, all, whole, four, told);
+    }
+
+-- a frame whose body was filled is its length and that body
+pub filled_frame : (len frame room : List ℕ) → BeginsFrame len frame → length room ≡ length frame - 4
+    → put_from frame 4 room ≡ len ++ room
+filled_frame len frame room begun fits =
+    let all = begun.room in
+    let none : post_of 4 (length frame - 4) frame ≡ [] = nil_from_length (post_of 4 (length frame - 4) frame)
+    (omega (arith, all, length-drop {A = ℕ})) in
+    (λ i. begun.begins i ++ (room ++ none i)) ∙ ap (λ (w : List ℕ). len ++ w) (append-nil room)
+
+-- all of a frame has come
+pub whole_frame : (len frame room : List ℕ) → length len ≡ 4 → BeginsFrame len frame → length room ≡ length frame - 4
+    → IsWhole (record { bytes = len ++ room; refused = None })
+whole_frame len frame room four begun fits =
+    let all = begun.room in
+    let n = length-append len room in
+    let same : told_len (len ++ room) ≡ told_len len =
+    ap (from_be_bytes w32) (take-append-le 4 len room (omega (arith, four))) in
+    let long = missing_long (len ++ room) (omega (arith, n, four)) in
     record {
       unrefused = refl;
-      prefix = of_frame (r.bytes ++ room) unfaulted
-          (part_got r room at.unrefused at.prefix fits);
-    } in
-    record { unfaulted = unfaulted; is = pushed.1; partway = subst IsPartway (sym pushed.1) all }
-
--- a wrong length is four bytes
-bad_four : (bytes room : List ℕ) (kind : FormatKind) → IsFramePrefix bytes → length room ≡ missing_bytes bytes
-    → fault_of (bytes ++ room) ≡ Some kind → length (bytes ++ room) ≡ 4
-bad_four bytes room kind prefix fits bad = by_case (part_whole bytes room prefix fits)
-  where
-    by_case : IsOfOneFrame (bytes ++ room) → length (bytes ++ room) ≡ 4
-    by_case (inl whole) = (let u = whole.unfaulted in absurd cc)
-    by_case (inr four) = four
-
-pub part_bad : (r : Received) (room : List ℕ) (kind : FormatKind) → r.refused ≡ None → IsFramePrefix r.bytes
-    → length room ≡ need_of r → fault_with r room ≡ Some kind → IsBadLength kind (r.bytes ++ room)
-part_bad r room kind none prefix fits is =
-    let bad : fault_of (r.bytes ++ room) ≡ Some kind = sym (ap
-    (λ (k : Option FormatKind). fault_where k (r.bytes ++ room)) none) ∙ is in
-    record { four = bad_four r.bytes room kind prefix (fits ∙ need_is r none) bad; bad = bad }
-
--- what a new reader has was got
-pub first_part : (old new : Received) (x y : List Piece) → old ≡ nothing → ReceivedBytes old new x y
-    → GotOn x y new.bytes
-first_part old new x y none more =
-    subst (λ (w : List ℕ). GotOn x y w) (sym (more.1.0 ∙ ap (λ (r : Received). r.bytes ++ more.0) none)) more.1.1
-
-pub less_of : (room : List ℕ) (x y : Option (List Piece)) (full : Bool) → full ≡ false → FillsRoom room x y (Ok full)
-    → IfLogged (GotLess room) x y
-less_of room x y true is f = absurd cc
-less_of room x y false is f = f
-
-pub all_of : (room : List ℕ) (x y : Option (List Piece)) (full : Bool) → full ≡ true → FillsRoom room x y (Ok full)
-    → IfLogged (GotAll room) x y
-all_of room x y true is f = f
-all_of room x y false is f = absurd cc
+      none_missing = omega (arith, long, n, four, fits, all, same);
+      prefix =
+          record {
+            unfaulted = fault_stays len room (omega (arith, four)) ∙ begun.unfaulted;
+            within = λ le. omega (arith, n, four, fits, all, same);
+          };
+    }

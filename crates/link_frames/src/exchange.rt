@@ -1,15 +1,14 @@
 //! One frame that comes over a link, and the errors that a refused frame and a failed call of a link are to a run.
-ghost use Rattle.std.specs.Prelude.{◌≡◌, ◌<◌, ◌^◌, ◌-◌, length, IfOk, IfErr, OnOk};
+ghost use Rattle.std.specs.Prelude.{◌≡◌, ◌<◌, ◌^◌, ◌-◌, length, IfOk, IfErr};
 ghost use Rattle.sftp_link.specs.Told.{IfLogged, GotAll};
-ghost use Rattle.sftp_wire.specs.FrameReader.{need_of};
 ghost use Rattle.link_frames.specs.Causes.{IsCausedByLink, IsRunError, fault_of_link};
-ghost use Rattle.link_frames.specs.Reading.{GotFor, ReceivedRoom, IsPartway, IsWhole, ReadFails};
+ghost use Rattle.link_frames.specs.Reading.{BeginsFrame, FilledOrNot, IsWhole, ReadFails, TellsWhy};
 ghost use Rattle.sftp_core.specs.Errors.{error_of};
 
 use sftp_core::TakeError;
 use sftp_link::{DeviceError, LinkIn, recv_exact};
-use sftp_model::{Error, FrameError};
-use sftp_wire::FrameReader;
+use sftp_model::Error;
+use sftp_wire::{FrameReader, body_len};
 use std::alloc::Global;
 
 /// Returns the error of a run for a refused frame.
@@ -31,31 +30,36 @@ pub fn fault(e: DeviceError) -> Error
     }
 }
 
-/// Takes the part of a frame that its reader needs next, and no byte past it. Fails with an error of the link, at its
-/// end, out of memory, or for a wrong length.
-fn take_part<L: LinkIn>(
-    link: &mut L,
-    room: &mut [u8],
-    reader: &mut FrameReader,
-) -> Result<(), Error>
-    requires partway { IsPartway reader.old }
-    requires fits { length room.old ≡ need_of reader.old }
-    requires count { (L.LinkState.state link.old).faults < 2 ^ 64 - 1 }
-    ensures grown { OnOk result (ReceivedRoom reader.old room.new reader.new) }
-    ensures log { GotFor reader.old reader.new (L.LinkState.state link.old).log (L.LinkState.state link.new).log result }
+/// Fills the room from the link. Fails with a fault of the link, at its end, or out of memory.
+fn fill<L: LinkIn>(link: &mut L, room: &mut [u8]) -> Result<(), Error>
+    requires { (L.LinkState.state link.old).faults < 2 ^ 64 - 1 }
+    ensures log { FilledOrNot room.new (L.LinkState.state link.old).log (L.LinkState.state link.new).log result }
     ensures caused { IsCausedByLink (L.LinkState.state link.old) (L.LinkState.state link.new) result }
 {
     match recv_exact(link, room) {
-        Ok(true) => {}
-        Ok(false) => return Err(Error::LinkEnded),
-        Err(e) => return Err(fault(e)),
+        Ok(true) => Ok(()),
+        Ok(false) => Err(Error::LinkEnded),
+        Err(e) => Err(fault(e)),
     }
-    match reader.push(room) {
-        Ok(()) => Ok(()),
-        Err(FrameError::OutOfMemory) => Err(Error::OutOfMemory),
-        Err(FrameError::Format(kind)) => Err(Error::FormatError(kind)),
-        Err(FrameError::HandleTooLong { .. }) => unreachable!(),
-    }
+}
+
+/// Allocates a frame with these four bytes of its length, and zeros in place of its body. Fails for a wrong length, or
+/// out of memory.
+fn begun_frame(alloc: Global, len: &[u8]) -> Result<Vec<u8>, Error>
+    requires { length len.now ≡ 4 }
+    ensures begins { IfOk result (λ frame. BeginsFrame len.now frame.items) }
+    ensures why { IfErr result (λ e. TellsWhy e len.now) }
+{
+    let body_len = match body_len(alloc, len) {
+        Ok(body_len) => body_len as usize,
+        Err(kind) => return Err(Error::FormatError(kind)),
+    };
+    let Ok(mut frame) = Vec::with_capacity(alloc, 4 + body_len) else {
+        return Err(Error::OutOfMemory);
+    };
+    frame.extend_from_slice(len).unwrap();
+    frame.resize(4 + body_len, 0).unwrap();
+    Ok(frame)
 }
 
 /// Takes one frame, and no byte past it.
@@ -72,12 +76,9 @@ pub fn read_frame<L: LinkIn>(alloc: Global, link: &mut L) -> Result<FrameReader,
     ensures stops { IfErr result (λ e. IfLogged (ReadFails e) (L.LinkState.state link.old).log (L.LinkState.state link.new).log) }
     ensures caused { IsCausedByLink (L.LinkState.state link.old) (L.LinkState.state link.new) result }
 {
-    let mut reader = FrameReader::new(alloc);
     let mut len = [0u8; 4];
-    take_part(link, &mut len, &mut reader)?;
-    let Ok(mut body) = vec![in alloc; 0u8; reader.need()] else {
-        return Err(Error::OutOfMemory);
-    };
-    take_part(link, &mut body, &mut reader)?;
-    Ok(reader)
+    fill(link, &mut len)?;
+    let mut frame = begun_frame(alloc, &len)?;
+    fill(link, &mut frame[4..])?;
+    Ok(FrameReader::of_frame(alloc, frame))
 }

@@ -11,3 +11,4 @@ mod Turning
 pub mod Elsewhere
 pub mod Sent
 mod Refusals
+pub mod BodyReadings

@@ -49,29 +49,29 @@ pub enum TakeError {
     #[error("{0}")]
     Format(FormatKind),
     /// All fields could be read, and the handle is longer than 256 bytes.
-    #[error("a handle has {len} bytes, and at most 256 are allowed")]
+    #[error("{}", Fault::HandleTooLong {len: *len})]
     HandleTooLong {
         len: u32,
     },
     /// No request that was handed out and has no reply has the id.
-    #[error("a reply has the id {id}, which no unanswered request has")]
+    #[error("{}", Fault::ResponseId {id: *id})]
     InvalidResponseId {
         id: u32,
     },
     /// The reply may not answer its request, or is no VERSION when only that may come, or is a second VERSION.
-    #[error("a reply may not answer its request")]
+    #[error("{}", Fault::Response {id: *id})]
     InvalidResponse {
         id: Option<u32>,
     },
     /// The server refused the query for limits that it had advertised.
-    #[error("the server refused the query for its limits with status {code}")]
+    #[error("{}", Fault::Limits {code: *code})]
     LimitsRefused {
         code: u32,
         message: ByteText,
         language: ByteText,
     },
     /// The server uses a version of the protocol other than 3.
-    #[error("the server speaks version {version} of the protocol, and only 3 is supported")]
+    #[error("{}", Fault::Protocol {version: *version})]
     Protocol {
         version: u32,
     },

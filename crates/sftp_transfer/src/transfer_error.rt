@@ -92,23 +92,10 @@ pub(crate) fn refusal_of(task: Task) -> &'static str {
     }
 }
 
-/// Returns the meaning of a status of the server (draft-ietf-secsh-filexfer-02, section 7).
-fn meaning(code: u32) -> &'static str {
-    match code {
-        2 => "no such file",
-        3 => "permission denied",
-        8 => "the server does not support this operation",
-        _ => "the server refused the request",
-    }
-}
-
 /// Writes to standard error why something was not done. If standard error fails too, the message is lost.
 pub(crate) fn tell(rt: &HostRuntime, name: &str, reason: &TransferError) {
     let _ = match reason {
         TransferError::Refused(why) => eprintln!(rt; "sftp_transfer: {name}: {why}"),
-        TransferError::Remote(Error::SftpError { code, .. }) => {
-            eprintln!(rt; "sftp_transfer: {name}: {} (status {code})", meaning(*code))
-        }
         TransferError::Remote(e) => eprintln!(rt; "sftp_transfer: {name}: {e}"),
         TransferError::Local(e) => eprintln!(rt; "sftp_transfer: {name}: {e}"),
         TransferError::TooLong => eprintln!(rt; "sftp_transfer: {name}: too many steps"),

@@ -70,6 +70,27 @@ fn fault(body_len: Option<u32>) -> Option<FormatKind>
     }
 }
 
+/// Returns the length of a frame's body, from the four bytes before it (draft-ietf-secsh-filexfer-02, section 3).
+///
+/// # Errors
+///
+/// `Length` exactly if it is 0, and `Overflow` exactly if it is over `MAX_BODY_LEN`.
+///
+/// Used in `crates/link_frames/src/exchange.rt`.
+pub fn body_len(alloc: Global, len: &[u8]) -> Result<u32, FormatKind>
+    requires { length len.now ≡ 4 }
+    ensures ok { IfOk result (λ n. (n ≡ told_len len.now) × (fault_of len.now ≡ None)) }
+    ensures err { IfErr result (λ kind. fault_of len.now ≡ Some kind) }
+{
+    let Some(told) = told_len(alloc, len) else {
+        unreachable!()
+    };
+    match fault(Some(told)) {
+        None => Ok(told),
+        Some(kind) => Err(kind),
+    }
+}
+
 /// Returns the bytes after the length, if exactly that many came.
 fn body(bytes: &[u8]) -> &[u8]
     requires length { 4 ≤ length bytes.now }
@@ -97,10 +118,10 @@ impl FrameReader {
 
     /// Creates the reader of a frame that has come whole, from its bytes. Does not allocate.
     pub fn of_frame(alloc: Global, bytes: Vec<u8>) -> FrameReader
-        requires unfaulted { fault_of bytes ≡ None }
-        requires whole { missing_bytes bytes ≡ 0 }
-        requires within { length bytes ≤ 4 + told_len bytes }
-        ensures { result ≡ record { bytes = bytes; refused = None } }
+        requires unfaulted { fault_of bytes.items ≡ None }
+        requires whole { missing_bytes bytes.items ≡ 0 }
+        requires within { length bytes.items ≤ 4 + told_len bytes.items }
+        ensures { result ≡ record { bytes = bytes.items; refused = None } }
     {
         let body_len = told_len(alloc, &bytes);
         FrameReader {

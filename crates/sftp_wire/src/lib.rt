@@ -16,7 +16,7 @@ mod reply_bodies;
 mod request_bodies;
 mod write;
 
-pub use frame_reader::{FrameReader, Reservation};
+pub use frame_reader::{FrameReader, Reservation, body_len};
 pub use head::write_request_head;
 pub use reply_bodies::{read_limits, read_reply};
 pub use request_bodies::read_request;

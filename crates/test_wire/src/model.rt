@@ -94,7 +94,7 @@ fn texts_of_errors(rt: HostRuntime) -> Result<(), Fail> {
     )? && shows(
         alloc,
         refusal(alloc)?,
-        "the server refused the request with status 2",
+        "the server refused the request: no such file (status 2): \"no\"",
     )?;
     assert!(rt; all);
     Ok(())

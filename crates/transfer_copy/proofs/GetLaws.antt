@@ -72,6 +72,7 @@ asked_on core after old held len opened at_reading reading small asks apart =
       next = omega (arith, bytes, next);
       small = small;
       wide = reading.wide;
+      some = reading.some;
       unfailed = reading.unfailed;
     } in
     record {

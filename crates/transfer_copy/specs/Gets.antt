@@ -18,6 +18,8 @@ use Rattle.std.specs.Prelude.{
   ◌∷◌,
   length,
   max,
+  nat_lt,
+  if◌then◌else◌,
   Option,
   Some,
   None,
@@ -80,6 +82,7 @@ pub record IsReadingOn (g : FileGet) : Type 0 where
   pub next : g.offset + bytes_under_way g.holding.parts ≡ g.next
   pub small : g.next < 2 ^ 64
   pub wide : 1 ≤ g.window
+  pub some : 1 ≤ g.ask
   pub unfailed : g.failure ≡ None
 
 -- Nothing or only the OPEN was asked, and no byte was written: the copy is at its start.
@@ -88,6 +91,7 @@ pub record IsAtStart (Holds : HoldingValue → Type 0) (g : FileGet) : Type 0 wh
   pub next : g.next ≡ g.offset
   pub small : g.offset < 2 ^ 64
   pub wide : 1 ≤ g.window
+  pub some : 1 ≤ g.ask
   pub unfailed : g.failure ≡ None
 
 abbrev pub StandsGet : GetStage → FileGet → Type 0
@@ -130,6 +134,8 @@ get_begun most from =
       stage = stage.Starting;
       window = 1;
       most = most;
+      ask = 2 ^ 32 - 1;
+      was_short = false;
       offset = from;
       next = from;
       failure = None;
@@ -216,9 +222,16 @@ pub record GetsMore (core : Core) (old : FileGet) (after : Core) (new : FileGet)
   pub len : ℕ
   pub few : length old.holding.parts < old.window
   pub some : 0 < len
+  pub most : len ≤ old.ask
   pub small : old.next + len < 2 ^ 64
   pub asks : AsksForRead core old.holding old.next len after new.holding
   pub now : new ≡ record old { holding = new.holding; next = old.next + len }
+
+-- The number of bytes that READs ask for at most after a piece. After two short pieces in a row it is the number that
+-- came, and at least 4096.
+abbrev pub ask_after : (was_short : Bool) (got len ask : ℕ) → ℕ
+ask_after true got len ask = if nat_lt got len then max got 4096 else ask
+ask_after false got len ask = ask
 
 -- The bytes of a piece are counted. If they are fewer than the READ asked for, the other parts are abandoned and the
 -- next READ starts after them.
@@ -226,6 +239,8 @@ pub record KeepsPiece (got len : ℕ) (core : Core) (old : FileGet) (after : Cor
   pub stage : new.stage ≡ stage.Reading
   pub offset : new.offset ≡ old.offset + got
   pub capped : new.window ≤ max old.window old.most
+  pub ask : new.ask ≡ ask_after old.was_short got len old.ask
+  pub was_short : new.was_short ≡ nat_lt got len
   pub goes : ((got ≡ len) × (after ≡ core) × (new.holding ≡ old.holding) × (new.next ≡ old.next))
       ⊎ ((got < len) × DropsParts core old.holding after new.holding × (new.next ≡ new.offset))
 

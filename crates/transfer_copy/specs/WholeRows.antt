@@ -1,5 +1,6 @@
 -- Worked READs and WRITEs of copies, the newest operation first.
 use Rattle.std.specs.Prelude.{◌≡◌, ℕ, List, [], ◌∷◌, refl}
+use Rattle.transfer_copy.specs.Gets.{ask_after}
 use Rattle.transfer_copy.specs.WholeGets.{AreFromTo, AskedRead, AsksRead, GotData, ReadDeed, ReadPiece, reads_after}
 use Rattle.transfer_copy.specs.WholePuts.{
   AreWrittenFromTo,
@@ -42,6 +43,17 @@ short = refl
 pub another : reads_after (GotData 2 (10 ∷ 20 ∷ []) ∷ AsksRead (read_at 2 2) ∷ AsksRead (read_at 1 0) ∷ [])
     ≡ record { under_way = read_at 1 0 ∷ read_at 2 2 ∷ []; pieces = [] }
 another = refl
+
+-- After a first short piece READs ask for as much as before; after a second one for as many bytes as came, and for 4096
+-- at least.
+pub first_short : ask_after false 16384 32768 261120 ≡ 261120
+first_short = refl
+
+pub second_short : ask_after true 16384 32768 261120 ≡ 16384
+second_short = refl
+
+pub second_tiny : ask_after true 10 32768 261120 ≡ 4096
+second_tiny = refl
 
 -- ---- WRITEs
 

@@ -46,7 +46,8 @@ pub enum GetStage {
 /// If the part file has the first bytes already, the copy starts after them, and does not compare them.
 ///
 /// One READ is asked at first. With each piece as long as its READ, the number of READs in flight grows by one, up to
-/// the window.
+/// the window. After two pieces in a row that are shorter than their READs, READs ask for as many bytes as came, so
+/// that a server which gives less than it is asked for is read with a window too.
 ///
 /// Used in `crates/transfer_copy/src/laws.rt`.
 #[must_use]
@@ -55,10 +56,15 @@ pub struct FileGet {
     stage: GetStage,
     window: u32,
     most: u32,
+    ask: u32,
+    was_short: bool,
     offset: u64,
     next: u64,
     failure: Option<CopyError>,
 }
+
+/// The least number of bytes that READs ask for after short pieces.
+const LEAST_LEN: u32 = 4096;
 
 /// Returns the options to open a file of the server for reading only.
 fn read_options() -> OpenOptions
@@ -91,6 +97,8 @@ impl FileGet {
             stage: GetStage::Starting,
             window: 1,
             most,
+            ask: u32::MAX,
+            was_short: false,
             offset: from,
             next: from,
             failure: None,
@@ -156,6 +164,8 @@ impl FileGet {
             stage: _,
             window: _,
             most: _,
+            ask: _,
+            was_short: _,
             offset: _,
             next: _,
             failure: _,
@@ -297,7 +307,8 @@ impl FileGet {
         }
     }
 
-    /// Counts the bytes of a piece that was written. If it is shorter than its READ, the next READ starts after it.
+    /// Counts the bytes of a piece that was written. If it is shorter than its READ, the next READ starts after it. If
+    /// the piece before was short as well, READs ask for as many bytes as came, and for `LEAST_LEN` at least.
     fn keep(&mut self, core: &mut Core, got: u32, len: u32)
         requires reads { IsBehindRead len core.old self.old }
         requires few { got ≤ len }
@@ -309,8 +320,13 @@ impl FileGet {
             if self.window < self.most {
                 self.window += 1;
             }
+            self.was_short = false;
             return;
         }
+        if self.was_short {
+            self.ask = got.max(LEAST_LEN);
+        }
+        self.was_short = true;
         self.holding.abandon_parts(core);
         self.next = self.offset;
     }
@@ -347,7 +363,8 @@ impl FileGet {
         let Some(info) = core.info() else {
             unreachable!()
         };
-        let len = (info.read_len as u64).min(u64::MAX - self.next) as u32;
+        let most = u64::from(info.read_len.min(self.ask));
+        let len = most.min(u64::MAX - self.next) as u32;
         match self.holding.ask_read(core, self.next, len) {
             Ok(()) => {
                 self.next += len as u64;

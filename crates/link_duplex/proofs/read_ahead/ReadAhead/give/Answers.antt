@@ -9,4 +9,4 @@ returns c =
     c.copy_from_slice.ensures.after ∙ (λ i. take (n i) (drop c.self.inside.given (c.deref.ensures.value i))) in
     rw (← c.self.view_is) (gave c.self.inside.room.items c.copy_from_slice.new.self c.args.room.now c.self.inside.given
     c.self.inside.came
-    c.min-n.result c.self.invariant.0 c.self.invariant.1 (omega (arith, c.min-n.ensures)) copied)
+    c.min-n.result c.self.invariant.returned c.self.invariant.room_for (omega (arith, c.min-n.ensures)) copied)

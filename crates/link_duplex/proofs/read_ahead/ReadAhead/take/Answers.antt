@@ -15,7 +15,7 @@ returns-in-Ok-Some g c =
     ap (λ (w : List ℕ). drop c.make_place.new.given (take c.make_place.new.came w)) c.deref_mut.ensures.value
     ∙ (c.make_place.ensures.same ∙ c.self.view_is) in
     let fits : c.make_place.new.came ≤ length c.deref_mut.result.now =
-    omega (arith, c.make_place.ensures.came, ap (λ (w : List ℕ). length w) c.deref_mut.ensures.value) in
+    omega (arith, c.make_place.ensures.within.room_for, ap (λ (w : List ℕ). length w) c.deref_mut.ensures.value) in
     let is_len : length (take c.make_place.new.came c.deref_mut.result.now ++ (c.get.new.room
     ++ post_of c.make_place.new.came (length c.deref_mut.result.now - c.make_place.new.came) c.deref_mut.result.now))
     ≡ c.make_place.new.room.len =
@@ -41,4 +41,4 @@ returns-in-Ok-Some g c =
     c.make_place.new.room.items
     c.make_place.new.given c.make_place.new.came c.in-Ok-Some.n c.make_place.new.room.len
     (g.W.Wire.state c.args.wire.now) (g.W.Wire.state c.get.new.self) same
-    c.make_place.ensures.given fits got.within (omega (arith, c.in-Ok-Some.n-test)) is_len got
+    c.make_place.ensures.within.returned fits got.within (omega (arith, c.in-Ok-Some.n-test)) is_len got
