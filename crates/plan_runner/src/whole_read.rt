@@ -65,6 +65,7 @@ fn decide(turn: Turn, grant: u64, bound: u32, window: Window) -> Result<Next, Ou
     ensures { (bytes : List ℕ) (site : SiteValue) → DecidesNext (running.ReadingWhole grant bound window)
         (Some grant) window.waiting bytes turn.place site turn.facts result }
 {
+    let mut window = window;
     match window.next_move(turn.alloc, bound, &turn.facts)? {
         WindowMove::Ask { offset, len } => {
             let read = ReadAt {
@@ -72,7 +73,7 @@ fn decide(turn: Turn, grant: u64, bound: u32, window: Window) -> Result<Next, Ou
                 offset,
                 len,
             };
-            let window = window.asked(read)?;
+            window.asked(read)?;
             Ok(Next::Ask(
                 Asked::Read { grant, offset, len },
                 Running::ReadingWhole {
@@ -169,13 +170,14 @@ pub(crate) fn window_replied(
     ensures { (bytes : List ℕ) → ReadsWhole (running.ReadingWhole grant bound window) (Some reply) (Some grant)
         window.waiting (answered_by window (Some reply)).waiting bytes turn.place site.now turn.facts result }
 {
+    let mut window = window;
     let Some(_) = window.first() else {
         return read_on(turn, grant, bound, window, site);
     };
     if !is_absorbed(&reply) {
         return Ok(Next::Done(refusal(reply)));
     }
-    let window = window.replied(reply)?;
+    window.replied(reply);
     read_on(turn, grant, bound, window, site)
 }
 

@@ -6,7 +6,7 @@ ghost use Rattle.plan_window.specs.PlainSteps.{AsksWithin, ask_next, gap_of, go_
 
 use crate::begins::next_above;
 use crate::content::whole_content;
-use crate::gap::least_below;
+use crate::gap::least_gap;
 use crate::numbers::{least_of, waiting_above, waiting_reach};
 use crate::window::{ReadAt, Window};
 use sftp_model::Facts;
@@ -111,7 +111,9 @@ impl Window {
             Some(end) => end,
             None => self.reach(),
         };
-        least_below(self.tally.free.as_slice(), limit)
+        let free = self.tally.free.as_slice();
+        let waiting = self.waiting.as_slice();
+        least_gap(free, waiting, limit)
     }
 
     /// Returns the next move, by the READs alone. Fails only if an allocation fails.

@@ -1,16 +1,13 @@
 //! The record that a window keeps of the READs that were answered.
-ghost use Rattle.std.specs.Prelude.{◌≡◌, ◌∷◌, ◌++◌, [], List, IfOk};
+ghost use Rattle.std.specs.Prelude.{◌≡◌, ◌≤◌, ◌+◌, ◌∷◌, ◌++◌, [], ℕ, List, OnOk, vec_capacity, vec_len};
 ghost use Rattle.std.specs.List.Sorted.{IsNonDecreasing};
 ghost use Rattle.plan_window.specs.declared.window.Answered.{Answered as Read};
-ghost use Rattle.plan_window.specs.declared.window.ReadAt.{ReadAt};
 ghost use Rattle.plan_window.specs.Windows.{FitsRead, IsInRange};
-ghost use Rattle.plan_window.specs.Tallies.{IsTally, free_end};
+ghost use Rattle.plan_window.specs.Tallies.{HasRoom, HasSameReads, IsTally, free_end};
 
-use crate::begins::{has_offset, with_offset};
-use crate::gap::waiting_begins;
+use crate::begins::{has_offset, insert_offset};
 use crate::numbers::{data_end, end_at, is_content, least_of, reached_at};
-use crate::window::{Answered, ReadAt};
-use sftp_values::Items;
+use crate::window::Answered;
 use ssh_encoding::OutOfMemory;
 use std::alloc::Global;
 
@@ -26,96 +23,71 @@ pub struct Tally {
     /// The number of DATA that came, or `u32::MAX` if more came.
     pub contents: u32,
     /// The offsets of the READs, ascending.
-    pub begins: Items<u64>,
+    pub begins: Vec<u64>,
     /// The ends of DATA at which none of the READs begins.
-    pub free: Items<u64>,
+    pub free: Vec<u64>,
 }
 
-/// Adds the end of a DATA to these ends, if none of these READs begins there. Fails only if an allocation fails.
-fn with_end(
-    free: Items<u64>,
-    begins: &[u64],
-    waiting: &[ReadAt],
-    end: Option<u64>,
-) -> Result<Items<u64>, OutOfMemory>
-    requires { IsNonDecreasing begins.now }
-    ensures { IfOk result (λ more. more ≡ free ++ free_end begins.now waiting.now end) }
+/// Adds the end of a DATA to these ends, if none of the READs that were answered begins there. Does not allocate.
+fn add_end(free: &mut Vec<u64>, begins: &[u64], end: Option<u64>)
+    requires ascending { IsNonDecreasing begins.now }
+    requires room { vec_len free.old + 1 ≤ vec_capacity free.old }
+    ensures items { free.new.items ≡ free.old.items ++ free_end begins.now end }
+    ensures len { vec_len free.new ≤ vec_len free.old + 1 }
+    ensures capacity { vec_capacity free.new ≡ vec_capacity free.old }
 {
     let Some(end) = end else {
-        return Ok(free);
+        return;
     };
-    if has_offset(begins, end) || waiting_begins(waiting, end) {
-        return Ok(free);
+    if !has_offset(begins, end) {
+        free.push_reserved(end);
     }
-    let mut ends = free.into_vec();
-    ends.push(end)?;
-    Ok(Items::new(ends))
 }
 
 impl Tally {
     /// Creates the tally of no READ.
     pub(crate) fn new(alloc: Global) -> Tally
-        ensures { IsTally result [] [] }
+        ensures tally { IsTally result [] }
+        ensures room { HasRoom result 0 }
     {
         Tally {
             end: None,
             reached: 0,
             contents: 0,
-            begins: Items::new(Vec::new(alloc)),
-            free: Items::new(Vec::new(alloc)),
+            begins: Vec::new(alloc),
+            free: Vec::new(alloc),
         }
     }
 
-    /// Adds another READ in flight, which begins here.
-    pub(crate) fn asked(self, offset: u64) -> Tally
-        ensures { (answered : List Read) (waiting : List ReadAt) (r : ReadAt) → r.offset ≡ offset
-            → IsTally self answered waiting → IsTally result answered (waiting ++ r ∷ []) }
+    /// Allocates memory for another `count` READs. Fails only if an allocation fails.
+    pub(crate) fn reserve(&mut self, count: usize) -> Result<(), OutOfMemory>
+        ensures same { HasSameReads self.old self.new }
+        ensures room { OnOk result (HasRoom self.new count) }
+        ensures kept { (n : ℕ) → HasRoom self.old n → HasRoom self.new n }
     {
-        let Tally {
-            end,
-            reached,
-            contents,
-            begins,
-            free,
-        } = self;
-        let mut ends = free.into_vec();
-        ends.retain(|p| offset != *p);
-        Tally {
-            end,
-            reached,
-            contents,
-            begins,
-            free: Items::new(ends),
-        }
+        self.begins.reserve(count)?;
+        self.free.reserve(count)?;
+        Ok(())
     }
 
-    /// Adds the reply to the first READ in flight; these are the others. Fails only if an allocation fails.
-    pub(crate) fn answered(
-        self,
-        answer: &Answered,
-        waiting: &[ReadAt],
-    ) -> Result<Tally, OutOfMemory>
-        requires ascending { IsNonDecreasing self.begins }
+    /// Adds a READ that was answered. Does not allocate.
+    pub(crate) fn answered(&mut self, answer: &Answered)
+        requires ascending { IsNonDecreasing self.old.begins.items }
         requires range { IsInRange answer.now.read }
         requires fits { FitsRead answer.now.read answer.now.reply }
-        ensures { IfOk result (λ t. (answered : List Read) → IsTally self answered (answer.now.read ∷ waiting.now)
-            → IsTally t (answered ++ answer.now ∷ []) waiting.now) }
+        requires room { HasRoom self.old 1 }
+        ensures tally { (answered : List Read) → IsTally self.old answered
+            → IsTally self.new (answered ++ answer.now ∷ []) }
+        ensures room { (n : ℕ) → HasRoom self.old (n + 1) → HasRoom self.new n }
     {
-        let Tally {
-            end,
-            reached,
-            contents,
-            begins,
-            free,
-        } = self;
-        let begins = with_offset(begins.into_vec(), answer.read.offset)?;
-        let free = with_end(free, begins.as_slice(), waiting, data_end(answer))?;
-        Ok(Tally {
-            end: least_of(end, end_at(answer)),
-            reached: reached.max(reached_at(answer)),
-            contents: contents.saturating_add(u32::from(is_content(&answer.reply))),
-            begins: Items::new(begins),
-            free,
-        })
+        let offset = answer.read.offset;
+        insert_offset(&mut self.begins, offset);
+        self.free.retain(|p| offset != *p);
+        add_end(&mut self.free, self.begins.as_slice(), data_end(answer));
+        self.end = least_of(self.end, end_at(answer));
+        self.reached = self.reached.max(reached_at(answer));
+        self.contents = self
+            .contents
+            .saturating_add(u32::from(is_content(&answer.reply)));
     }
 }

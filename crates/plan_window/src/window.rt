@@ -1,10 +1,9 @@
 //! The READs of a whole read, in the order in which they were asked.
-ghost use Rattle.std.specs.Prelude.{◌≡◌, ◌≢◌, None, IfOk};
-ghost use Rattle.plan_window.specs.Windows.{IsAbsorbed, IsInRange, IsSound, answered_more, asked_more, empty_window, first_of, FitsFirst};
+ghost use Rattle.std.specs.Prelude.{◌≡◌, ◌≢◌, None, OnErr, OnOk};
+ghost use Rattle.plan_window.specs.Windows.{IsAbsorbed, IsInRange, IsSound, Window as Reads, answered_more, asked_more, empty_window, first_of, FitsFirst};
 
 use crate::tally::Tally;
 use sftp_model::Reply;
-use sftp_values::Items;
 use ssh_encoding::OutOfMemory;
 use std::alloc::Global;
 use std::marker::Model;
@@ -29,25 +28,29 @@ pub struct Answered {
 }
 
 /// The READs of a whole read: those that were answered before any that was not, and the others. A move looks only at
-/// those in flight: what it needs of the others is kept beside them.
+/// those in flight: what it needs of the others is kept beside them. There is memory for the reply to each READ in
+/// flight.
 ///
 /// Example: `crates/plan_runner/src/whole_read.rt`.
 #[derive(Debug, Drop)]
 pub struct Window {
-    pub(crate) answered: Items<Answered>,
-    pub(crate) waiting: Items<ReadAt>,
+    pub(crate) answered: Vec<Answered>,
+    pub(crate) waiting: Vec<ReadAt>,
     pub(crate) tally: Tally,
 }
 
 impl Model for Window {
+    ghost use Rattle.std.specs.Prelude.{◌+◌, ◌≤◌, vec_capacity, vec_len};
     ghost use Rattle.plan_window.specs.Windows.{Window as Reads};
-    ghost use Rattle.plan_window.specs.Tallies.{IsTally};
+    ghost use Rattle.plan_window.specs.Tallies.{HasRoom, IsTally};
 
     ghost Value = { Reads };
 
-    ghost view = { λ w. record { answered = w.answered; waiting = w.waiting } };
+    ghost view = { λ w. record { answered = w.answered.items; waiting = w.waiting.items } };
 
-    ghost invariant = { λ w. IsTally w.tally w.answered w.waiting };
+    ghost invariant = { λ w. IsTally w.tally w.answered.items
+        × HasRoom w.tally (vec_len w.waiting)
+        × (vec_len w.answered + vec_len w.waiting ≤ vec_capacity w.answered) };
 }
 
 impl Window {
@@ -57,8 +60,8 @@ impl Window {
         ensures sound { IsSound result }
     {
         Window {
-            answered: Items::new(Vec::new(alloc)),
-            waiting: Items::new(Vec::new(alloc)),
+            answered: Vec::new(alloc),
+            waiting: Vec::new(alloc),
             tally: Tally::new(alloc),
         }
     }
@@ -84,59 +87,45 @@ impl Window {
         self.waiting.as_slice().first().copied()
     }
 
-    /// Returns the window with another READ in flight.
+    /// Adds another READ in flight, and allocates memory for its reply.
     ///
     /// # Errors
     ///
-    /// `OutOfMemory` if an allocation fails.
-    pub fn asked(self, read: ReadAt) -> Result<Window, OutOfMemory>
-        requires sound { IsSound self }
+    /// `OutOfMemory` if an allocation fails; the window is unchanged then.
+    pub fn asked(&mut self, read: ReadAt) -> Result<(), OutOfMemory>
+        requires sound { IsSound self.old }
         requires range { IsInRange read }
-        ensures is { IfOk result (λ w. w ≡ asked_more self read) }
-        ensures sound { IfOk result IsSound }
+        ensures is { OnOk result (self.new ≡ asked_more self.old read) }
+        ensures sound { OnOk result (IsSound self.new) }
+        ensures unchanged { OnErr result (self.new ≡ self.old) }
     {
-        let Window {
-            answered,
-            waiting,
-            tally,
-        } = self;
-        let mut reads = waiting.into_vec();
-        reads.push(read)?;
-        Ok(Window {
-            answered,
-            waiting: Items::new(reads),
-            tally: tally.asked(read.offset),
-        })
+        self.waiting.reserve(1)?;
+        let count = self.waiting.len() + 1;
+        self.answered.reserve(count)?;
+        self.tally.reserve(count)?;
+        self.waiting.push_reserved(read);
+        Ok(())
     }
 
-    /// Returns the window after the reply to the first READ that was not answered: a DATA, or the end of the file.
-    ///
-    /// # Errors
-    ///
-    /// `OutOfMemory` if an allocation fails.
-    pub fn replied(self, reply: Reply) -> Result<Window, OutOfMemory>
-        requires sound { IsSound self }
-        requires some { first_of self.waiting ≢ None }
-        requires absorbed { IsAbsorbed reply }
-        requires fits { FitsFirst self reply }
-        ensures is { IfOk result (λ w. w ≡ answered_more self reply) }
-        ensures sound { IfOk result IsSound }
+    /// Removes the READ that was asked last, if it is still in flight: it was not sent.
+    pub fn unasked(&mut self)
+        ensures { (w : Reads) (r : ReadAt) → self.old ≡ asked_more w r → self.new ≡ w }
     {
-        let Window {
-            answered,
-            waiting,
-            tally,
-        } = self;
-        let mut reads = waiting.into_vec();
-        let mut replies = answered.into_vec();
-        let read = reads.remove(0);
+        let _last = self.waiting.pop();
+    }
+
+    /// Takes the reply to the first READ that was not answered: a DATA, or the end of the file. Does not allocate.
+    pub fn replied(&mut self, reply: Reply)
+        requires sound { IsSound self.old }
+        requires some { first_of self.old.waiting ≢ None }
+        requires absorbed { IsAbsorbed reply }
+        requires fits { FitsFirst self.old reply }
+        ensures is { self.new ≡ answered_more self.old reply }
+        ensures sound { IsSound self.new }
+    {
+        let read = self.waiting.remove(0);
         let answer = Answered { read, reply };
-        let tally = tally.answered(&answer, reads.as_slice())?;
-        replies.push(answer)?;
-        Ok(Window {
-            answered: Items::new(replies),
-            waiting: Items::new(reads),
-            tally,
-        })
+        self.tally.answered(&answer);
+        self.answered.push_reserved(answer);
     }
 }
