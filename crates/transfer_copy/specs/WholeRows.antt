@@ -1,5 +1,5 @@
 -- Worked READs and WRITEs of copies, the newest operation first.
-use Rattle.std.specs.Prelude.{◌≡◌, ℕ, List, [], ◌∷◌, refl}
+use Rattle.std.specs.Prelude.{◌≡◌, ℕ, true, false, List, [], ◌∷◌, refl}
 use Rattle.transfer_copy.specs.Gets.{ask_after}
 use Rattle.transfer_copy.specs.WholeGets.{AreFromTo, AskedRead, AsksRead, GotData, ReadDeed, ReadPiece, reads_after}
 use Rattle.transfer_copy.specs.WholePuts.{
