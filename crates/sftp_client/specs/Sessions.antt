@@ -52,6 +52,10 @@ pub record SftpValue (L : Type 0) : Type 0 where
 abbrev pub with_core : {L : Type 0} → SftpValue L → Core → SftpValue L
 with_core s core = record s { core = core }
 
+-- The session with another link, and otherwise as it was.
+abbrev pub with_link : {L : Type 0} → SftpValue L → L → SftpValue L
+with_link s link = record s { link = link }
+
 -- ---- Bytes that move
 
 -- These bytes were sent, and then these bytes were received.

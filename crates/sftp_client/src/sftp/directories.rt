@@ -2,7 +2,7 @@
 ghost use Rattle.std.specs.Prelude.{◌≡◌, ◌++◌, ◌∷◌, [], IfOk, OnOk};
 ghost use Rattle.plan_state.specs.Keeping.{KeepsHeld, SparesOthers};
 ghost use Rattle.sftp_fs.specs.Listings.{IsListing};
-ghost use Rattle.sftp_client.specs.Calls.{ClosesHandle, IsUsable, OpensDirectory, ReleasesHandle};
+ghost use Rattle.sftp_client.specs.Calls.{ClosesHandle, IsUsable, IsUsableAfter, OpensDirectory, ReleasesHandle};
 ghost use Rattle.sftp_client.specs.DirCalls.{ClosesListing, IsListedToEnd, IsNoneOfListing, ListsWhole};
 
 use super::Sftp;
@@ -63,7 +63,7 @@ impl<L: Link> Sftp<L> {
         requires { IsUsable L.LinkState.state self.old }
         ensures lists { IfOk result (λ entries. ListsWhole path.now L.LinkState.state self.old self.new entries.items) }
         ensures keeps { KeepsHeld self.old.core self.new.core }
-        ensures usable { OnOk result (IsUsable L.LinkState.state self.new) }
+        ensures usable { IsUsableAfter L.LinkState.state self.new result }
     {
         let mut listing = self.open_dir(path)?.read_dir(self.alloc);
         match self.entries_of(&mut listing) {
@@ -85,7 +85,7 @@ impl<L: Link> Sftp<L> {
         ensures listed { IfOk result (λ entries. IsListedToEnd L.LinkState.state self.old self.new listing.old listing.new entries.items) }
         ensures listing { IsListing self.new.core listing.new }
         ensures spares { SparesOthers self.old.core self.new.core (IsNoneOfListing listing.old) (IsNoneOfListing listing.new) }
-        ensures usable { OnOk result (IsUsable L.LinkState.state self.new) }
+        ensures usable { IsUsableAfter L.LinkState.state self.new result }
     {
         let mut entries = Vec::new(self.alloc);
         for _ in 0..u64::MAX {
