@@ -109,7 +109,8 @@ impl Reads {
         if place >= MAX_PLACE {
             return Err(OutOfMemory);
         }
-        let window = window.asked(ReadAt { place, offset, len })?;
+        let mut window = window;
+        window.asked(ReadAt { place, offset, len })?;
         Ok(Reads {
             facts,
             handle,
@@ -136,9 +137,8 @@ impl Reads {
         if !is_absorbed(&reply) {
             return Err(refusal(reply));
         }
-        let Ok(window) = window.replied(reply) else {
-            return Err(Error::OutOfMemory);
-        };
+        let mut window = window;
+        window.replied(reply);
         Ok(Reads {
             facts,
             handle,
