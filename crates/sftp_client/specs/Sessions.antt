@@ -1,4 +1,4 @@
--- believed, except kept_by, SendsRest, IsWholeFrame, PullsFrame, TakesHere, RefusesHere, TakesPulled
+-- believed, except with_link, kept_by, SendsRest, IsWholeFrame, PullsFrame, TakesHere, RefusesHere, TakesPulled
 -- A session over a link, and the effects of its calls.
 use Rattle.std.specs.Prelude.{
   ◌≡◌,

@@ -1,4 +1,4 @@
--- believed, except FrameRead, StepsIn, CancelsIn, LetsIdleGo, LetsGoIn, takes_memory
+-- believed, except StepsIn, CancelsIn, LetsIdleGo, LetsGoIn, takes_memory
 -- Effects of the calls of a session, in each of its phases.
 use Rattle.std.specs.Prelude.{
   ◌≡◌,
