@@ -18,7 +18,7 @@ use Rattle.sftp_fs.specs.PathStarts.{PathPlan, StartsFrom}
 use Rattle.sftp_client.specs.Calls.{CallsOnPath, HasNoId, IfIdLeft, IsUsable, IsUsableAfter, OnCore, RunsCall, RunsInOne, StartsThenRuns}
 use Rattle.sftp_client.specs.Sessions.{SftpValue, with_core}
 use Rattle.sftp_client.specs.Waits.{HasFinished, IsReadyOr, KeepsFaults}
-use Rattle.sftp_client.proofs.Waiting.{faults_kept}
+use Rattle.sftp_client.proofs.Faults.{faults_kept}
 
 -- ---- what others hold
 

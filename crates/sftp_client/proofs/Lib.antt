@@ -11,5 +11,6 @@ mod WholeWaiting
 mod WriteWaiting
 mod Calling
 mod HandleCalling
+mod Faults
 mod FileCalling
 mod DirCalling

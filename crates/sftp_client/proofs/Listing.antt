@@ -20,7 +20,8 @@ use Rattle.sftp_fs.specs.Listings.{AsksReaddir, ListingAnswer, GivesAt, HearsOf,
 use Rattle.sftp_client.specs.Listed.{AwaitsEntry, HasListed, ListedIn, MayWaitFor, given_by}
 use Rattle.sftp_client.specs.Sessions.{SftpValue}
 use Rattle.sftp_client.specs.Waits.{ArePollRounds, RoundFails, SendsAndTakes}
-use Rattle.sftp_client.proofs.Waiting.{AwaitsOne, fail_stays, round_stays, round_takes, faults_kept, round_unfaulted, stop_faults}
+use Rattle.sftp_client.proofs.Faults.{faults_kept, stop_faults}
+use Rattle.sftp_client.proofs.Waiting.{AwaitsOne, fail_stays, round_stays, round_takes, round_unfaulted}
 
 -- a listing stays what it is over what keeps a core
 awaits_still : (old new : Core) (asked : Option ℕ) → KeepsHeld old new → IsAwaiting old asked → IsAwaiting new asked

@@ -22,7 +22,8 @@ use Rattle.sftp_fs_read.proofs.ReadEnds.{read_still}
 use Rattle.sftp_client.specs.Sessions.{SftpValue, with_core}
 use Rattle.sftp_client.specs.Waits.{HasFinished, HasWaited, RoundFails}
 use Rattle.sftp_client.specs.WholeWaits.{AreReadRounds, HasCopied, HasFinishedRead, HasReadBytes, HasWaitedCopy, HasWaitedRead, MayRound, MayWaitRead, ReadIn}
-use Rattle.sftp_client.proofs.Waiting.{fail_stays, finished, round_stays, faults_kept, round_unfaulted, stop_faults}
+use Rattle.sftp_client.proofs.Faults.{faults_kept, stop_faults}
+use Rattle.sftp_client.proofs.Waiting.{fail_stays, finished, round_stays, round_unfaulted}
 
 -- what a poll leaves
 record ReadLeaves {L : Type 0} (old new : SftpValue L) (p q : FsReadValue) : Type 0 where

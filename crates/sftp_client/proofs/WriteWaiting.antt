@@ -15,7 +15,8 @@ use Rattle.sftp_fs.proofs.OpenedWrites.{write_still}
 use Rattle.sftp_client.specs.Sessions.{SftpValue, with_core}
 use Rattle.sftp_client.specs.Waits.{RoundFails, SendsAndTakes}
 use Rattle.sftp_client.specs.WriteWaits.{AreWriteRounds, HasFinishedWrite, HasWaitedWrite, MayWaitWrite, WriteIn}
-use Rattle.sftp_client.proofs.Waiting.{fail_stays, round_stays, faults_kept, round_unfaulted, stop_faults}
+use Rattle.sftp_client.proofs.Faults.{faults_kept, stop_faults}
+use Rattle.sftp_client.proofs.Waiting.{fail_stays, round_stays, round_unfaulted}
 
 -- what a poll leaves
 record WriteLeaves {L : Type 0} (old new : SftpValue L) (p q : FsWriteValue) : Type 0 where

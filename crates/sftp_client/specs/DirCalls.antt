@@ -71,6 +71,12 @@ pub record StopsListing {L S : Type 0} (state : L → LinkView S) (old new : Sft
   pub given : AreEntries state count old mid before listing entries
   pub stops : EntriesStop state count mid new listing after e
 
+-- The result of a listing that is asked for all its entries.
+abbrev pub ListsEntries : {L S : Type 0} → (L → LinkView S) → SftpValue L → SftpValue L → ListingValue → ListingValue
+    → Result (Vec NameEntry Global) Error → Type 0
+ListsEntries state old new before after (Ok entries) = IsListedToEnd state old new before after entries.items
+ListsEntries state old new before after (Err e) = StopsListing state old new before after e
+
 -- A listing stopped, and was released; or it was complete, and closing it failed.
 abbrev pub EndsListing : {L S : Type 0} → (L → LinkView S) → SftpValue L → SftpValue L → SftpValue L → GrantValue
     → ListingValue → Error → Type 0

@@ -4,7 +4,7 @@ ghost use Rattle.sftp_model.specs.declared.error.Error.TheVariants as error;
 ghost use Rattle.plan_state.specs.Keeping.{KeepsHeld, SparesOthers};
 ghost use Rattle.sftp_fs.specs.Listings.{IsListing};
 ghost use Rattle.sftp_client.specs.Calls.{ClosesHandle, IsUsable, IsUsableAfter, OpensDirectory, ReleasesHandle};
-ghost use Rattle.sftp_client.specs.DirCalls.{ClosesListing, IsListedToEnd, IsNoneOfListing, ListsDirectory, StopsListing};
+ghost use Rattle.sftp_client.specs.DirCalls.{ClosesListing, IsNoneOfListing, ListsDirectory, ListsEntries};
 
 use super::Sftp;
 use sftp_fs::{Dir, DirEntry, ReadDir};
@@ -83,8 +83,7 @@ impl<L: Link> Sftp<L> {
     fn entries_of(&mut self, listing: &mut ReadDir) -> Result<Vec<DirEntry>, Error>
         requires usable { IsUsable L.LinkState.state self.old }
         requires listing { IsListing self.old.core listing.old }
-        ensures listed { IfOk result (λ entries. IsListedToEnd L.LinkState.state self.old self.new listing.old listing.new entries.items) }
-        ensures stopped { IfErr result (λ e. StopsListing L.LinkState.state self.old self.new listing.old listing.new e) }
+        ensures listed { ListsEntries L.LinkState.state self.old self.new listing.old listing.new result }
         ensures listing { IsListing self.new.core listing.new }
         ensures spares { SparesOthers self.old.core self.new.core (IsNoneOfListing listing.old) (IsNoneOfListing listing.new) }
         ensures usable { IsUsableAfter L.LinkState.state self.new result }

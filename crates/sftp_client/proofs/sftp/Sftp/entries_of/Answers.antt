@@ -17,8 +17,8 @@ returns-in-None-clause-spares g c =
     c.args.listing.now c.loop.listing c.next_entry.new.listing c.loop.entries.items _ c.loop.invariant
     c.in_ok-entry.ensures
 
-pub returns-in_err-entry-clause-stopped : goal.returns-in_err-entry-clause-stopped
-returns-in_err-entry-clause-stopped g c =
+pub returns-in_err-entry-clause-listed : goal.returns-in_err-entry-clause-listed
+returns-in_err-entry-clause-listed g c =
     rw (escaped c.from_residual.result c.in_err-entry.field-0.0 c.from_residual.ensures.1)
     (record {
       count = c.loop.counter;
@@ -29,8 +29,8 @@ returns-in_err-entry-clause-stopped g c =
       stops = inl c.in_err-entry.ensures;
     })
 
-pub returns-in_err-push-in-Some-clause-stopped : goal.returns-in_err-push-in-Some-clause-stopped
-returns-in_err-push-in-Some-clause-stopped g c =
+pub returns-in_err-push-in-Some-clause-listed : goal.returns-in_err-push-in-Some-clause-listed
+returns-in_err-push-in-Some-clause-listed g c =
     rw (escaped c.from_residual-in_err-push-in-Some.result c.in_err-push-in-Some.field-0.0
     c.from_residual-in_err-push-in-Some.ensures.1)
     (record {
@@ -61,8 +61,8 @@ returns-in_err-entry-clause-spares g c =
     c.args.listing.now c.loop.listing c.next_entry.new.listing c.loop.entries.items _ c.loop.invariant
     c.in_err-entry.ensures
 
-pub returns-clause-stopped : goal.returns-clause-stopped
-returns-clause-stopped g c =
+pub returns-clause-listed : goal.returns-clause-listed
+returns-clause-listed g c =
     let all : c.loop.counter ≡ 2 ^ 64 - 1 = search rules in
     record {
       count = c.loop.counter;

@@ -41,7 +41,7 @@ returns-in-Err-clause-lists g c =
       opens = c.in_ok-open_dir.ensures;
       ends = inl (
         subst (λ l. StopsListing g.L.LinkState.state c.open_dir.new.self c.entries_of.new.self l
-            c.entries_of.new.listing c.in-Err.e) c.read_dir-listing.ensures c.in-Err.ensures.stopped,
+            c.entries_of.new.listing c.in-Err.e) c.read_dir-listing.ensures c.in-Err.ensures.listed,
         c.release_dir.ensures,
       );
     })
