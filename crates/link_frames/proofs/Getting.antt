@@ -1,36 +1,9 @@
 -- What is got over several calls, and what is sent.
-use Rattle.std.proofs.Common.{
-  ◌≡◌,
-  ◌<◌,
-  ◌≤◌,
-  ◌+◌,
-  ◌-◌,
-  ℕ,
-  Bool,
-  true,
-  false,
-  List,
-  [],
-  ◌∷◌,
-  ◌++◌,
-  length,
-  length-append,
-  Option,
-  Some,
-  None,
-  refl,
-  ap,
-  sym,
-  ◌∙◌,
-  subst,
-  append_assoc,
-  arith,
-  inl,
-  inr,
-}
-use Rattle.std.specs.Prelude.{nat_lt, take, replicate}
+use Rattle.std.proofs.Common.{◌≡◌, ◌<◌, ◌≤◌, ◌+◌, ◌-◌, ℕ, true, false, List, [], ◌∷◌, ◌++◌, length, length-append, Option, Some, None, refl, ap, sym, ◌∙◌, subst, append_assoc, arith, inl, inr}
+use Rattle.std.specs.Prelude.{Ok, Err, nat_lt, take, replicate}
 use Rattle.std.proofs.lemmas.Bool.Decides.{nat_tests}
-use Rattle.std.proofs.lemmas.List.{append-nil, length-drop, length-replicate, nil_from_length, take_all, take-append-le, take-append_seam}
+use Rattle.std.proofs.lemmas.List.{append-nil, length-drop, length-replicate, nil_from_length, take_all, take-append-le}
+use Rattle.std.proofs.Math.Seq.{take-append_seam}
 use borrow.Rule.Slice.PartMut.{post_of}
 use Rattle.std.specs.Int.{w32, from_be_bytes}
 use Rattle.sftp_model.specs.declared.error.Error.{Error}
@@ -44,8 +17,9 @@ use Rattle.sftp_link.specs.Told.{GotLess}
 use Rattle.sftp_link.proofs.Telling.{put_from}
 use Rattle.sftp_model.specs.declared.error.Error.TheVariants as error
 use Rattle.sftp_wire.specs.FrameReader.{Received, nothing, need_of, need_where, fault_of, fault_of_len, missing_bytes, told_len}
-use Rattle.link_frames.specs.Causes.{fault_of_link}
-use Rattle.link_frames.specs.Reading.{BeginsFrame, IsFramePart, IsFramePrefix, IsUnfilled, IsWhole, ReadFails, TellsWhy}
+use Rattle.link_frames.specs.Causes.{IsCausedByLink, fault_of_link}
+use Rattle.sftp_link.specs.Views.{LinkView}
+use Rattle.link_frames.specs.Reading.{BeginsFrame, IsFramePart, IsFramePrefix, IsUnfilled, IsWhole, ReadFails, RefusesLength, TellsWhy}
 
 all_got_both : (late early : List Piece) (a b : List ℕ) → AllGot early a → AllGot late b
     → AllGot (late ++ early) (a ++ b)
@@ -213,13 +187,21 @@ body_fails e len frame room x y z four begun fits u got less =
     (only_length len four begun.unfaulted) (omega (arith, fits, all, long, four)) u less in
     (len ++ f.0, (f.1.0, got_both x y z len f.0 got f.1.1))
 
--- the length came, and it is wrong, or out of memory
-pub length_came : (e : Error) (len : List ℕ) (x y : List Piece) → TellsWhy e len → GotOn x y len → ReadFails e x y
-length_came e len x y why got = (len, (why, got))
+-- the length came, and it is wrong, or memory ran out
+pub length_came : (e : Error) (len : List ℕ) (x y : List Piece) → length len ≡ 4 → RefusesLength e len → GotOn x y len
+    → ReadFails e x y
+length_came error.OutOfMemory len x y four refuses got = (len, (inr four, got))
+length_came (error.FormatError kind) len x y four refuses got =
+    (len, ((kind, (refl, record { four = four; bad = refuses })), got))
+length_came other len x y four refuses got = absurd refuses
 
-pub bad_length : (kind : FormatKind) (len : List ℕ) → length len ≡ 4 → fault_of len ≡ Some kind
-    → TellsWhy (error.FormatError kind) len
-bad_length kind len four bad = (kind, (refl, record { four = four; bad = bad }))
+pub length_caused : {S T U : Type 0} (a b : LinkView S) (x : U) (e : Error) (len : List ℕ) → RefusesLength e len
+    → IsCausedByLink a b (Ok x) → IsCausedByLink {T = T} a b (Err e)
+length_caused a b x error.OutOfMemory len refuses c =
+    record { cause = c.cause; end = tt; only = tt; service = c.service }
+length_caused a b x (error.FormatError kind) len refuses c =
+    record { cause = c.cause; end = tt; only = tt; service = c.service }
+length_caused a b x other len refuses c = absurd refuses
 
 pub frame_begins : (len frame : List ℕ) (n : ℕ) → length len ≡ 4 → fault_of len ≡ None → n ≡ told_len len
     → frame ≡ take (4 + n) len ++ replicate ((4 + n) - length len) 0 → BeginsFrame len frame
@@ -227,7 +209,7 @@ frame_begins len frame n four unfaulted told is =
     let same : take (4 + n) len ≡ len = take_all (4 + n) len (omega (arith, four)) in
     let joined : frame ≡ len ++ replicate ((4 + n) - length len) 0 = is
     ∙ ap (λ (w : List ℕ). w ++ replicate ((4 + n) - length len) 0) same in
-    let zeros = length-replicate ((4 + n) - length len) 0 in
+    let zeros = length-replicate {A = ℕ} ((4 + n) - length len) 0 in
     let all = length-append len (replicate ((4 + n) - length len) 0) in
     let whole : length frame ≡ length (len ++ replicate ((4 + n) - length len) 0) = ap length joined in
     record {
@@ -247,6 +229,16 @@ filled_frame len frame room begun fits =
     let none : post_of 4 (length frame - 4) frame ≡ [] = nil_from_length (post_of 4 (length frame - 4) frame)
     (omega (arith, all, length-drop {A = ℕ})) in
     (λ i. begun.begins i ++ (room ++ none i)) ∙ ap (λ (w : List ℕ). len ++ w) (append-nil room)
+
+-- and so are the items of its vector
+pub filled_items : (len frame room rest : List ℕ) (n : ℕ) → length len ≡ 4 → BeginsFrame len frame
+    → length room ≡ length frame - 4 → n ≡ length frame → take n (put_from frame 4 room ++ rest) ≡ len ++ room
+filled_items len frame room rest n four begun fits is =
+    let all = begun.room in
+    let both = length-append len room in
+    let count : length (len ++ room) ≡ n = omega (arith, all, both, four, fits, is) in
+    ap (λ (w : List ℕ). take n (w ++ rest)) (filled_frame len frame room begun fits)
+    ∙ subst (λ (k : ℕ). take k ((len ++ room) ++ rest) ≡ len ++ room) count (take-append_seam (len ++ room) rest)
 
 -- all of a frame has come
 pub whole_frame : (len frame room : List ℕ) → length len ≡ 4 → BeginsFrame len frame → length room ≡ length frame - 4

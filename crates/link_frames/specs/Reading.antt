@@ -1,4 +1,4 @@
--- believed, except IsPartway, IsUnfilled, FilledOrNot, BeginsFrame
+-- believed, except IsPartway, IsUnfilled, FilledOrNot, BeginsFrame, RefusesLength
 -- The bytes of a frame that come over the calls of a link.
 use Rattle.std.specs.Prelude.{◌≡◌, ◌⊎◌, ◌<◌, ◌≤◌, ◌+◌, ℕ, List, length, take, Option, None, Some, Result, Ok, Err}
 use Rattle.sftp_model.specs.declared.error.Error.{Error}
@@ -68,3 +68,9 @@ pub record BeginsFrame (len frame : List ℕ) : Type 0 where
   pub unfaulted : fault_of len ≡ None
   pub begins : take 4 frame ≡ len
   pub room : length frame ≡ 4 + told_len len
+
+-- The errors of a frame whose length has come: out of memory, or a wrong length.
+abbrev pub RefusesLength : Error → List ℕ → Type 0
+RefusesLength error.OutOfMemory len = Unit {0}
+RefusesLength (error.FormatError kind) len = fault_of len ≡ Some kind
+RefusesLength other len = ⊥

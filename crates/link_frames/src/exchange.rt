@@ -2,7 +2,7 @@
 ghost use Rattle.std.specs.Prelude.{◌≡◌, ◌<◌, ◌^◌, ◌-◌, length, IfOk, IfErr};
 ghost use Rattle.sftp_link.specs.Told.{IfLogged, GotAll};
 ghost use Rattle.link_frames.specs.Causes.{IsCausedByLink, IsRunError, fault_of_link};
-ghost use Rattle.link_frames.specs.Reading.{BeginsFrame, FilledOrNot, IsWhole, ReadFails, TellsWhy};
+ghost use Rattle.link_frames.specs.Reading.{BeginsFrame, FilledOrNot, IsWhole, ReadFails, RefusesLength};
 ghost use Rattle.sftp_core.specs.Errors.{error_of};
 
 use sftp_core::TakeError;
@@ -48,7 +48,7 @@ fn fill<L: LinkIn>(link: &mut L, room: &mut [u8]) -> Result<(), Error>
 fn begun_frame(alloc: Global, len: &[u8]) -> Result<Vec<u8>, Error>
     requires { length len.now ≡ 4 }
     ensures begins { IfOk result (λ frame. BeginsFrame len.now frame.items) }
-    ensures why { IfErr result (λ e. TellsWhy e len.now) }
+    ensures refuses { IfErr result (λ e. RefusesLength e len.now) }
 {
     let body_len = match body_len(alloc, len) {
         Ok(body_len) => body_len as usize,

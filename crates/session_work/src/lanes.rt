@@ -14,7 +14,6 @@ ghost use Rattle.session_laws.specs.Lanes.{Held, Ticketed};
 ghost use Rattle.session_work.specs.Closing.{CanClose, ClosesDueGrants, HasClosed, IsClosing};
 ghost use Rattle.plan_runner.specs.Pending.{slots_times};
 ghost use Rattle.std.specs.Option.{option_map};
-ghost use Rattle.sftp_model.specs.ReplyReadings.{reply_at};
 ghost use Rattle.sftp_core.specs.Core.{failed_with};
 ghost use Rattle.sftp_core.specs.Pieces.{chunk_bytes, HasFrames};
 
@@ -28,7 +27,9 @@ use bitflags::Flags;
 use session_driver::Stepped;
 use session_model::{Call, Entry, Event, Lane, Owner};
 use sftp_core::{Chunk, Core, Ended, Fault, TakeError, Taken};
-use sftp_model::{Extensions, Facts, Outcome, Request, SftpOptions, Slot, TryCopy};
+use sftp_model::{
+    Extensions, Facts, FrameError, Outcome, Reply, Request, SftpOptions, Slot, TryCopy,
+};
 use sftp_values::Items;
 use ssh_encoding::OutOfMemory;
 use std::alloc::Global;
@@ -366,21 +367,21 @@ impl Lanes {
         Ok(Some(chunk))
     }
 
-    /// Takes the body of one frame.
+    /// Takes what `read_reply` returned for the body of one frame.
     ///
     /// # Errors
     ///
-    /// The first thing that is wrong with the body, which is kept and recorded in the journal, or `OutOfMemory` if an
-    /// allocation fails. The calls are unchanged.
-    pub fn take(&mut self, body: &[u8]) -> Result<(), TakeError>
+    /// The first thing that is wrong with the frame, which is kept and recorded in the journal, or `OutOfMemory` if an
+    /// allocation fails or failed while the frame was read. The calls are unchanged.
+    pub fn take(&mut self, read: Result<(Option<u32>, Reply), FrameError>) -> Result<(), TakeError>
         requires opened { IsOpened self.old }
         requires intact { IsIntact (length self.old.calls) self.old }
-        ensures takes { (s : Setting) → IsWorking s self.old → OnOk result (TakesBody s (reply_at body.now) self.old self.new) }
-        ensures refused { IfErr result (λ e. RefusesWhileOpen (reply_at body.now) e self.old self.new) }
+        ensures takes { (s : Setting) → IsWorking s self.old → OnOk result (TakesBody s read self.old self.new) }
+        ensures refused { IfErr result (λ e. RefusesWhileOpen read e self.old self.new) }
         ensures intact { IsIntact (length self.old.calls) self.new }
     {
         let before = self.core.queued();
-        match self.take_frame(body) {
+        match self.take_frame(read) {
             Ok(Taken::Answer { id, reply }) => {
                 add_entry(&mut self.journal, Entry::Event(Event::Take { id, reply }));
                 if note_close(&self.core, &mut self.journal, before) {
@@ -405,24 +406,27 @@ impl Lanes {
         self.core.fail(fault);
     }
 
-    /// Takes the body of one frame into the core; there is then room for two entries and that of a fault.
+    /// Takes what was read of one frame into the core; there is then room for two entries and that of a fault.
     ///
     /// # Errors
     ///
-    /// The first thing that is wrong with the body, which is kept and recorded in the journal, or `OutOfMemory` if an
-    /// allocation fails.
-    pub fn take_frame(&mut self, body: &[u8]) -> Result<Taken, TakeError>
+    /// The first thing that is wrong with the frame, which is kept and recorded in the journal, or `OutOfMemory` if an
+    /// allocation fails or failed while the frame was read.
+    pub fn take_frame(
+        &mut self,
+        read: Result<(Option<u32>, Reply), FrameError>,
+    ) -> Result<Taken, TakeError>
         requires unfailed { self.old.core.fault ≡ None }
         requires room { HasRoom self.old }
-        ensures takes { IfOk result (λ told. TakesFrame (reply_at body.now) told self.old self.new) }
+        ensures takes { IfOk result (λ told. TakesFrame read told self.old self.new) }
         ensures rest { self.new ≡ record self.old { core = self.new.core; journal = self.new.journal } }
-        ensures refused { IfErr result (λ e. RefusesFrame (reply_at body.now) e self.old self.new) }
+        ensures refused { IfErr result (λ e. RefusesFrame read e self.old self.new) }
         ensures room { HasRoom self.new }
     {
         if self.journal.reserve(3).is_err() {
             return Err(TakeError::OutOfMemory);
         }
-        match self.core.take(body) {
+        match self.core.take_read(read) {
             Ok(taken) => Ok(taken),
             Err(e) => {
                 if let Some(fault) = e.fault() {

@@ -1,6 +1,5 @@
 use Rattle.std.proofs.Common.{rules, ◌≡◌, ◌≤◌, Bool, true, false, refl, ap, sym, subst, ◌∙◌, [], ◌∷◌, ◌++◌, length}
 use Rattle.std.specs.Prelude.{reverse}
-use Rattle.sftp_model.specs.ReplyReadings.{reply_at}
 use Rattle.sftp_core.specs.Take.{TakenFrom}
 use Rattle.sftp_core.specs.declared.tokens.Taken.{Taken}
 use Rattle.session_model.specs.declared.event.Event.TheVariants.{Take}
@@ -18,7 +17,7 @@ pub returns-in-Err-clause-refused : goal.returns-in-Err-clause-refused
 returns-in-Err-clause-refused c =
     let o = c.requires.opened in
     record {
-      first = first_is o.0 (contents_of c.args.self.now) (reply_at c.args.body.now) c.in-Err.e
+      first = first_is o.0 (contents_of c.args.self.now) c.args.read c.in-Err.e
           c.take_frame.new.self.core
           o.1 c.in-Err.ensures.refused.error;
       stays = λ s k. refused_so_far s c.in-Err.e _ _ _ _ _ o.1.rest.between.tied.work.unfailed
@@ -38,27 +37,27 @@ overflow_add-self c =
 
 pub returns-after-note_close-clause-takes : goal.returns-after-note_close-clause-takes
 returns-after-note_close-clause-takes c = λ s w.
-    let told = subst (λ (t : Taken). TakenFrom (reply_at c.args.body.now) t c.args.self.now.core
+    let told = subst (λ (t : Taken). TakenFrom c.args.read t c.args.self.now.core
     c.take_frame.new.self.core) c.in-Ok-Answer.field-0-is c.in-Ok-Answer.ensures.takes.taken in
     let entered : c.add_entry.new.journal.items ≡ c.args.self.now.journal.items
     ++ entry.Event (Take c.in-Ok-Answer.id c.in-Ok-Answer.reply) ∷ [] =
     c.add_entry.ensures.items ∙ ap (λ xs. xs ++ entry.Event (Take c.in-Ok-Answer.id c.in-Ok-Answer.reply) ∷ [])
     c.in-Ok-Answer.ensures.takes.journal in
-    let takes = take_told s (contents_of c.args.self.now) (reply_at c.args.body.now) c.in-Ok-Answer.id
+    let takes = take_told s (contents_of c.args.self.now) c.args.read c.in-Ok-Answer.id
     c.in-Ok-Answer.reply c.take_frame.new.self.core c.queued-before.result c.args.self.now.journal.items
     c.add_entry.new.journal.items c.note_close.new.journal.items
     c.note_close.result w told c.in-Ok-Answer.ensures.takes.only (sym c.queued-before.ensures) refl entered
     c.note_close.ensures.none c.note_close.ensures.close in
-    let by : (b : Bool) → c.note_close.result ≡ b → TakesIn s (reply_at c.args.body.now) (contents_of c.args.self.now)
+    let by : (b : Bool) → c.note_close.result ≡ b → TakesIn s c.args.read (contents_of c.args.self.now)
     (contents_of (record c.take_frame.new.self {
       journal = c.note_close.new.journal;
       asked =
           counted_by b c.take_frame.new.self.asked;
     })) =
-    λ b is. subst (λ (x : Lanes). TakesIn s (reply_at c.args.body.now) (contents_of c.args.self.now)
+    λ b is. subst (λ (x : Lanes). TakesIn s c.args.read (contents_of c.args.self.now)
     (contents_of (record x { journal = c.note_close.new.journal; asked = counted_by b x.asked })))
     (sym c.take_frame.ensures.rest)
-    (subst (λ (n : Bool). TakesIn s (reply_at c.args.body.now) (contents_of c.args.self.now)
+    (subst (λ (n : Bool). TakesIn s c.args.read (contents_of c.args.self.now)
     (record (contents_of c.args.self.now) {
       core = c.take_frame.new.self.core;
       past =
@@ -66,8 +65,8 @@ returns-after-note_close-clause-takes c = λ s w.
       asked = counted_by n c.args.self.now.asked;
     })) is takes) in
     elim c.if-note_close.branch [
-      | then-note_close x ↦ subst (λ (y : Lanes). TakesIn s (reply_at c.args.body.now) (contents_of c.args.self.now)
+      | then-note_close x ↦ subst (λ (y : Lanes). TakesIn s c.args.read (contents_of c.args.self.now)
           (contents_of y)) (sym x.self-is) (by true x.if-note_close.true)
-      | else-note_close x ↦ subst (λ (y : Lanes). TakesIn s (reply_at c.args.body.now) (contents_of c.args.self.now)
+      | else-note_close x ↦ subst (λ (y : Lanes). TakesIn s c.args.read (contents_of c.args.self.now)
           (contents_of y)) (sym x.self-is) (by false x.if-note_close.false)
     ]
