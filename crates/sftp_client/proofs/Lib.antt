@@ -14,3 +14,4 @@ mod HandleCalling
 mod Faults
 mod FileCalling
 mod DirCalling
+mod TreeCalling

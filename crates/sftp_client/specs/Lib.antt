@@ -11,3 +11,4 @@ pub mod WriteWaits
 pub mod WaitRows
 pub mod Calls
 pub mod DirCalls
+pub mod TreeCalls

@@ -26,7 +26,7 @@
 //!
 //! # Calls
 //!
-//! - On paths: `metadata`, `set_metadata`, `set_permissions`, `create_dir`, `remove_dir`, `remove_file`, `rename`,
+//! - On paths: `metadata`, `set_metadata`, `set_permissions`, `create_dir`, `create_dir_all`, `remove_dir`, `remove_file`, `rename`,
 //!   `symlink`, `hard_link`, `read_link`, `canonicalize`, `read_file`, `write_file`, `read_dir` and their like are
 //!   methods of `Sftp`, each of which sends its request and waits for the reply.
 //! - On files: `open`, `create`, `read`, `write_all`, `copy`, `close_file`, `release_file`.
