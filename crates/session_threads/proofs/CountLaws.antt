@@ -3,6 +3,7 @@ use Rattle.std.proofs.Common.{◌≡◌, ◌<◌, ◌∙◌, ◌⊎◌, ⊎_elim
 use Rattle.std.specs.Prelude.{Bool, Option, Result}
 use Rattle.link_frames.specs.Causes.{CountsLinkFault, IsCausedByLink}
 use Rattle.sftp_core.specs.Errors.{error_of}
+use Rattle.plan_model.specs.declared.call.Lane.{Lane}
 use Rattle.session_seats.specs.Repeats.{IsChainOf, NotLast}
 use Rattle.sftp_core.specs.declared.errors.TakeError.{TakeError}
 use Rattle.sftp_core.specs.declared.errors.TakeError.TheVariants as take
@@ -11,6 +12,7 @@ use Rattle.sftp_link.specs.Views.{LinkView}
 use Rattle.sftp_model.specs.declared.error.Error.{Error}
 use Rattle.sftp_model.specs.declared.error.Error.TheVariants as error
 use Rattle.sftp_model.specs.declared.frame_error.FrameError.{FrameError}
+use Rattle.sftp_model.specs.declared.options.SftpOptions.{SftpOptions}
 use Rattle.sftp_model.specs.declared.reply.Reply.{Reply}
 use Rattle.sftp_model.specs.ReplyReadings.{reply_at}
 use Rattle.sftp_tasks.specs.declared.workers.Shift.{Shift}
@@ -19,7 +21,8 @@ use Rattle.sftp_tasks.specs.Rounds.{FlushStops, FlushesRound, ReadStops, ReadsRo
 use Rattle.sftp_tasks.specs.SessionEvents.{IsRefusedBy, IsUnawaited, RefusesCall, TakeStops}
 use Rattle.sftp_tasks.specs.Workers.{FlushShift, FlushWorks, WorkerState, ReadShift, ReadWorks, is_over}
 use Rattle.sftp_tasks.proofs.SentEvents.{whole_body}
-use Rattle.session_threads.specs.Reports.{OpeningStops, StopsBy, WorksOverHalf, WorkersStop}
+use Rattle.session_threads.specs.Failures.{WorksOverHalf}
+use Rattle.session_threads.specs.Reports.{OpeningStops, StopsBy, WorkersStop}
 
 not_refused : (e : TakeError) → error.LinkFault ≡ error_of e → ⊥
 not_refused take.OutOfMemory is = cc is
@@ -150,21 +153,28 @@ module _ {A B : Type 0} (out out' : LinkView A) (input input' : LinkView B) wher
   opening_rose (inl memory) = absurd (cc memory)
   opening_rose (inr h) = greet_rose h.1.0 h.1.1.0 h.1.1.1
 
-  workers_rose : WorkersStop out out' input input' error.LinkFault → Rose out out' ⊎ Rose input input'
-  workers_rose (inl memory) = absurd (cc memory)
-  workers_rose (inr h) = ⊎_elim (λ w. inl (flush_works_rose out out' w)) (λ w. inr (read_works_rose input input' w)) h.1
+  workers_rose : (lanes : List Lane) (options : SftpOptions)
+      → WorkersStop out out' input input' lanes options error.LinkFault → Rose out out' ⊎ Rose input input'
+  workers_rose lanes options (inl memory) = absurd (cc memory)
+  workers_rose lanes options (inr h) =
+      ⊎_elim (λ is. inl (flush_works_rose out out' (subst (λ (r : Result (Unit {0}) Error). WorksOverHalf FlushWorks r
+      out out') is h.1.sends)))
+      (λ is. inr (read_works_rose input input' (subst (λ (r : Result (Unit {0}) Error). WorksOverHalf ReadWorks r input
+      input') is h.1.reads)))
+      h.1.stops
 
-pub run_rose : {A B : Type 0} (out out' : LinkView A) (input input' : LinkView B)
-    → StopsBy out out' input input' error.LinkFault
+pub run_rose : {A B : Type 0} (lanes : List Lane) (options : SftpOptions) (out out' : LinkView A)
+    (input input' : LinkView B)
+    → StopsBy lanes options out out' input input' error.LinkFault
     → Rose out out' ⊎ Rose input input'
-run_rose out out' input input' (inl h) = opening_rose out out' input input' h
-run_rose {A} {B} out out' input input' (inr h) = behind h.1.1.1.0.0 h.0 h.1.0 h.1.1.0 h.1.1.1.0.1 h.1.1.1.1
+run_rose lanes options out out' input input' (inl h) = opening_rose out out' input input' h
+run_rose {A} {B} lanes options out out' input input' (inr h) = behind h.1.1.1.0.0 h.0 h.1.0 h.1.1.0 h.1.1.1.0.1 h.1.1.1.1
   where
     behind : (m n : Token) (out_then : LinkView A) (input_then : LinkView B)
         → HasGreeted m n out out_then input input_then
-        → WorkersStop out_then out' input_then input' error.LinkFault → Rose out out' ⊎ Rose input input'
+        → WorkersStop out_then out' input_then input' lanes options error.LinkFault → Rose out out' ⊎ Rose input input'
     behind m n out_then input_then g h =
         let sent : out_then.faults ≡ out.faults = g.sends.sent.caused.cause in
         let got : input_then.faults ≡ input.faults = g.gets.caused.cause in
         ⊎_elim (λ more. inl (omega (arith, sent, more))) (λ more. inr (omega (arith, got, more)))
-        (workers_rose out_then out' input_then input' h)
+        (workers_rose out_then out' input_then input' lanes options h)

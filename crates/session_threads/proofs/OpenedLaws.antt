@@ -1,5 +1,5 @@
 -- A run whose session was opened.
-use Rattle.std.proofs.Common.{◌≡◌, List, subst, inr, Ok, Err, ℕ}
+use Rattle.std.proofs.Common.{◌≡◌, ◌∙◌, List, subst, inr, Ok, Err, ℕ}
 use Rattle.std.specs.Prelude.{IfErr, IfOk, Result, reverse}
 use Rattle.plan_model.specs.declared.call.Lane.{Lane}
 use Rattle.session_seats.specs.declared.view.Sight.{Sight}
@@ -43,8 +43,12 @@ module _ {A B : Type 0} (out out_then out' : LinkView A) (input input_then input
   }
   ends_if m (Err e) o sees h = tt
 
-  pub stops_if : (r : Result SharedReport Error) → SendsHelloFirst home out out_then input input_then
-      → IfErr r (WorkersStop out_then out' input_then input')
-      → IfErr r (StopsBy out out' input input')
-  stops_if (Ok report) o h = tt
-  stops_if (Err e) o h = inr (home, (out_then, (input_then, (o, h))))
+  pub stops_if : (lanes : List Lane) (options : SftpOptions) (first last : Sight) (r : Result SharedReport Error)
+      → IsOf lanes options first → SameMade first last → SendsHelloFirst home out out_then input input_then
+      → IfErr r (WorkersStop out_then out' input_then input' last.lanes last.options)
+      → IfErr r (StopsBy lanes options out out' input input')
+  stops_if lanes options first last (Ok report) is same o h = tt
+  stops_if lanes options first last (Err e) is same o h =
+      let stops = subst (λ (x : List Lane × SftpOptions). WorkersStop out_then out' input_then input' x.0 x.1 e)
+      (λ i. ((same.0 ∙ is.0) i, (same.1 ∙ is.1) i)) h in
+      inr (home, (out_then, (input_then, (o, stops))))

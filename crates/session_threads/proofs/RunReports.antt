@@ -1,38 +1,5 @@
 -- The seats of a run from its home seat to its report.
-use Rattle.std.proofs.Common.{
-  ◌≡◌,
-  ◌≢◌,
-  ◌⊎◌,
-  ◌<◌,
-  ◌≤◌,
-  ◌+◌,
-  Bool,
-  true,
-  true≢false,
-  ℕ,
-  suc,
-  List,
-  [],
-  ◌∷◌,
-  ◌++◌,
-  None,
-  Some,
-  Ok,
-  Err,
-  inl,
-  inr,
-  length,
-  map,
-  append_assoc,
-  eqb-true,
-  length-append,
-  refl,
-  sym,
-  ap,
-  ◌∙◌,
-  subst,
-  arith,
-}
+use Rattle.std.proofs.Common.{◌≡◌, ◌≢◌, ◌<◌, ◌≤◌, ◌+◌, Bool, true, true≢false, ℕ, suc, List, [], ◌∷◌, ◌++◌, None, Some, Ok, Err, inl, inr, length, map, append_assoc, eqb-true, length-append, refl, sym, ap, ◌∙◌, subst, arith}
 use Rattle.std.specs.Prelude.{◌&&◌, Option, Result, is_some, remove, slice_index_or}
 use Rattle.std.proofs.lemmas.Bool.{and_parts}
 use Rattle.atomic_table.specs.Seated.{TableId}
@@ -59,12 +26,12 @@ use Rattle.sftp_tasks.specs.declared.report.SharedReport.{SharedReport}
 use Rattle.sftp_tasks.specs.Reported.{HaveLanes, Reported, lane_named}
 use Rattle.sftp_tasks.specs.Rounds.{Token}
 use Rattle.sftp_tasks.specs.Sent.{SeesVersion}
-use Rattle.sftp_tasks.specs.Workers.{FlushWorks, WorkerState, ReadWorks}
-use Rattle.session_threads.proofs.FaultLaws.{flush_works_first, read_works_first}
+use Rattle.sftp_tasks.specs.Workers.{WorkerState}
 use Rattle.session_threads.proofs.MoveLaws.{opening_moves}
 use Rattle.session_threads.proofs.RunLaws.{anything, ran_weaker, ran_append, ran_complete}
 use Rattle.session_threads.specs.Crews.{IsHome, lanes_below, named_in_order}
-use Rattle.session_threads.specs.Reports.{IsCause, IsFirstFault, RunsOf, RunsShared, WorksOverHalf, WorkersStop}
+use Rattle.session_threads.specs.Failures.{WorksOverHalf}
+use Rattle.session_threads.specs.Reports.{RunsOf, RunsShared}
 use Rattle.sftp_tasks.specs.Opening.{by_opening}
 use Rattle.session_threads.specs.Running.{
   AllRan,
@@ -295,26 +262,8 @@ runs_made lanes options first last r is same h =
     subst (λ (x : List Lane × SftpOptions). RunsShared x.0 x.1 r) (λ i. ((same.0 ∙ is.0) i, (same.1 ∙ is.1) i)) h
 
 -- a worker's last answer, with what its seat knew then
-works_of : {Service : Type 0} (Did : Result (Unit {0}) Error → WorkerState Service → WorkerState Service → Type 0)
-    (r : Result (Unit {0}) Error) (a b : WorkerState Service)
-    → WorkedUntilEnd Did r a b → WorksOverHalf Did r a.1 b.1
+pub works_of : {Service : Type 0}
+    (Did : Result (Unit {0}) Error → WorkerState Service → WorkerState Service → Type 0) (r : Result (Unit {0}) Error)
+    (a b : WorkerState Service) → WorkedUntilEnd Did r a b → WorksOverHalf Did r a.1 b.1
 works_of Did (Ok u) a b h = (a.0, (b.0, h))
 works_of Did (Err e) a b h = (a.0, (h.0, h.1))
-
-pub stops_by : {A B : Type 0} (a b : WorkerState A) (c d : WorkerState B) (sent got : Result (Unit {0}) Error)
-    (e : Error)
-    → WorkedUntilEnd FlushWorks sent a b → WorkedUntilEnd ReadWorks got c d → IsCause sent got e
-    → WorkersStop a.1 b.1 c.1 d.1 e
-stops_by a b c d sent got e s r (inl memory) = inl memory
-stops_by {A} {B} a b c d sent got e s r (inr h) = inr (by_worker h.1)
-  where
-    by_worker : (sent ≡ Err e) ⊎ (got ≡ Err e) → IsFirstFault e
-        × (WorksOverHalf FlushWorks (Err e) a.1 b.1 ⊎ WorksOverHalf ReadWorks (Err e) c.1 d.1)
-    by_worker (inl is) =
-        let w = subst (λ (x : Result (Unit {0}) Error). WorksOverHalf FlushWorks x a.1 b.1) is
-        (works_of FlushWorks sent a b s) in
-        (flush_works_first e h.0 a.1 b.1 w, inl w)
-    by_worker (inr is) =
-        let w = subst (λ (x : Result (Unit {0}) Error). WorksOverHalf ReadWorks x c.1 d.1) is
-        (works_of ReadWorks got c d r) in
-        (read_works_first e h.0 c.1 d.1 w, inr w)

@@ -1,5 +1,6 @@
 pub mod Running
 pub mod Crews
 pub mod Halves
+pub mod Failures
 pub mod Reports
 pub mod RunEnds

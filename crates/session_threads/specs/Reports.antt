@@ -26,8 +26,9 @@ use Rattle.sftp_tasks.specs.Opening.{GreetStops, HasGreeted}
 use Rattle.sftp_tasks.specs.Rounds.{HoldsOnce, Token, fault_for}
 use Rattle.sftp_tasks.specs.Sent.{SeesVersion}
 use Rattle.sftp_tasks.specs.SessionEvents.{HasFault, HasNoFault}
-use Rattle.sftp_tasks.specs.Workers.{FlushWorks, WorkerState, ReadWorks}
+use Rattle.sftp_tasks.specs.Workers.{FlushWorks, ReadWorks}
 use Rattle.session_threads.specs.Crews.{named_in_order}
+use Rattle.session_threads.specs.Failures.{FaultEnds, WorksOverHalf}
 use Rattle.session_threads.specs.Halves.{HalvesShow, WorkersShow}
 use Rattle.session_threads.specs.Running.{IsOf}
 
@@ -68,12 +69,6 @@ pub record IsFirstFault (e : Error) : Type 0 where
   pub is : fault_for e ≡ Some fault
   pub keeps : HoldsOnce (λ y z more. HasNoFault y.session × HasFault fault z.session) m n
 
--- The work of a worker over its half.
-abbrev pub WorksOverHalf : {Service : Type 0} → (Result (Unit {0}) Error → WorkerState Service → WorkerState Service
-    → Type 0)
-    → Result (Unit {0}) Error → LinkView Service → LinkView Service → Type 0
-WorksOverHalf Did r before now = (m : Token) × ((n : Token) × Did r (m, before) (n, now))
-
 -- The home seat sent the hello over the one half of the link, and took VERSION from the other.
 abbrev pub SendsHelloFirst : {A B : Type 0} → Token → LinkView A → LinkView A → LinkView B → LinkView B → Type 0
 SendsHelloFirst n out out' input input' = (m : Token) × HasGreeted m n out out' input input'
@@ -85,10 +80,10 @@ module _ {A B : Type 0} (out out' : LinkView A) (input input' : LinkView B) wher
       ⊎ (IsFirstFault e × ((m : Token) × ((n : Token) × GreetStops e m n out out' input input')))
 
   -- An allocation failed, or this error, the session's first fault, stopped one of the workers over its half of the
-  -- link.
-  abbrev pub WorkersStop : Error → Type 0
-  WorkersStop e = (e ≡ error.OutOfMemory)
-      ⊎ (IsFirstFault e × (WorksOverHalf FlushWorks (Err e) out out' ⊎ WorksOverHalf ReadWorks (Err e) input input'))
+  -- link: the journal of the run's own session ends by it.
+  abbrev pub WorkersStop : List Lane → SftpOptions → Error → Type 0
+  WorkersStop lanes options e = (e ≡ error.OutOfMemory)
+      ⊎ (IsFirstFault e × FaultEnds lanes options out out' input input' e)
 
   -- Both workers came to the end, each over its half of the link, which shows the journal's Sends or Takes. The report
   -- has the VERSION that the worker that sends had seen.
@@ -111,8 +106,10 @@ module _ {A B : Type 0} (out out' : LinkView A) (input input' : LinkView B) wher
 
 -- An allocation failed; or the session was not opened because of this error; or it was, and this error stopped one of
 -- the workers.
-abbrev pub StopsBy : {A B : Type 0} → LinkView A → LinkView A → LinkView B → LinkView B → Error → Type 0
-StopsBy {A} {B} out out' input input' e =
+abbrev pub StopsBy : {A B : Type 0} → List Lane → SftpOptions → LinkView A → LinkView A → LinkView B → LinkView B
+    → Error → Type 0
+StopsBy {A} {B} lanes options out out' input input' e =
     OpeningStops out out' input input' e
     ⊎ ((home : Token) × ((out_then : LinkView A) × ((input_then : LinkView B)
-    × (SendsHelloFirst home out out_then input input_then × WorkersStop out_then out' input_then input' e))))
+    × (SendsHelloFirst home out out_then input input_then
+    × WorkersStop out_then out' input_then input' lanes options e))))

@@ -34,12 +34,16 @@ moves_none (entry.Event Send) = false
 moves_none (entry.Event (Take id r)) = false
 moves_none other = true
 
--- The work of a worker until it ended. After an error its seat also gave the session up.
+abbrev pub adds_nothing : Entry → Bool
+adds_nothing e = false
+
+-- The work of a worker until it ended. After an error its seat also gave the session up, and added nothing.
 abbrev pub WorkedUntilEnd : {Service : Type 0} → (Result (Unit {0}) Error → WorkerState Service → WorkerState Service
     → Type 0)
     → Result (Unit {0}) Error → WorkerState Service → WorkerState Service → Type 0
 WorkedUntilEnd Works (Ok u) a b = Works (Ok u) a b
 WorkedUntilEnd Works (Err e) a b = (last : Token) × Works (Err e) a (last, b.1)
+    × AddsEntries adds_nothing (claim_of last) (claim_of b.0)
 
 -- Two sights have the same lanes and options.
 abbrev pub SameMade : Sight → Sight → Type 0

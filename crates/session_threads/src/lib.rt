@@ -10,7 +10,7 @@ mod seats;
 mod shared_run;
 
 pub use halves::{Halves, NoStop, Stop};
-pub use laws::link_faults_are_counted;
+pub use laws::{invalid_ids_are_unawaited, link_faults_are_counted};
 pub use run::{run_shared, run_stoppable};
 pub use seats::{
     Crew, open_session, run_home, run_reader, run_sender, spend, spend_crew, start, stop,

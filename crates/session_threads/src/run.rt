@@ -1,12 +1,14 @@
 //! The threads of a run, and its report.
-ghost use Rattle.std.specs.Prelude.{◌≡◌, ◌≢◌, ◌<◌, ◌-◌, ◌^◌, ◌&&◌, ◌∷◌, ◌++◌, [], true, is_some, length, map, reverse, Err, None, Ok, IfErr, IfOk, IfSome, MatchOption};
+ghost use Rattle.std.specs.Prelude.{◌≡◌, ◌≢◌, ◌<◌, ◌⊎◌, ◌-◌, ◌^◌, ◌&&◌, ◌∷◌, ◌++◌, [], true, is_some, length, map, reverse, Err, None, Ok, IfErr, IfOk, IfSome, MatchOption};
 ghost use Rattle.std.specs.Thread.{IsSync};
 ghost use Rattle.plan_model.specs.Lanes.{are_ok};
 ghost use Rattle.session_seats.specs.Closes.{AllOf, claims_of};
 ghost use Rattle.session_seats.specs.Covers.{HasAllSeats};
 ghost use Rattle.session_seats.specs.Holds.{sight_by};
 ghost use Rattle.sftp_model.specs.declared.reply.Reply.{Reply};
-ghost use Rattle.sftp_tasks.specs.Reported.{Reported, lane_named};
+ghost use Rattle.sftp_model.specs.declared.error.Error.TheVariants as error;
+ghost use Rattle.sftp_model.specs.declared.error.Fault.{Fault};
+ghost use Rattle.sftp_tasks.specs.Reported.{EndedByFault, Reported, lane_named};
 ghost use Rattle.sftp_tasks.specs.Rounds.{fault_for};
 ghost use Rattle.sftp_tasks.specs.Workers.{FlushWorks, ReadWorks};
 ghost use Rattle.session_threads.specs.Crews.{IsCrew, named_in_order};
@@ -227,14 +229,38 @@ fn close_run<R: Wait>(rt: &R, shared: SharedSftp, crew: Crew) -> Result<SharedRe
             Ok(report)
         }
         Err(refused) => {
-            let NotClosed {
-                error: _,
-                seat,
-                others,
-            } = refused;
-            drop(seat.into_receipts());
-            spend(others);
+            spend_refused(refused);
             Err(OutOfMemory)
+        }
+    }
+}
+
+/// Ends the seats of a session that could not be closed.
+fn spend_refused(refused: NotClosed) {
+    let NotClosed {
+        error: _,
+        seat,
+        others,
+    } = refused;
+    drop(seat.into_receipts());
+    spend(others);
+}
+
+/// Ends a session that this error stopped, and returns the error: the journal ends by a fault. Returns `OutOfMemory` if
+/// an allocation fails.
+fn close_failed<R: Wait>(rt: &R, shared: SharedSftp, crew: Crew, why: Error) -> Error
+    requires own { AllOf shared.shared.table.shared.table_id (crew.lanes.items ++ crew.home ∷ crew.sender ∷ crew.reader ∷ []) }
+    ensures { (result ≡ error.OutOfMemory)
+        ⊎ ((result ≡ why) × ((fault : Fault) × EndedByFault (crew.lanes.items ++ crew.home ∷ crew.sender ∷ crew.reader ∷ []) fault)) }
+{
+    let Ok((first, others)) = in_order(crew) else {
+        return Error::OutOfMemory;
+    };
+    match shared.close_failed(rt, first, others) {
+        Ok(_fault) => why,
+        Err(refused) => {
+            spend_refused(refused);
+            Error::OutOfMemory
         }
     }
 }
@@ -257,7 +283,7 @@ fn run_crew<
     ensures runs { IfOk result.0 (λ report. RunsOf (sight_by crew.home.inner.me) report) }
     ensures over { IfOk result.0 (λ report. IsEnded lanes (reverse report.journal.items)) }
     ensures ends { IfOk result.0 (WorkersEnd (O.LinkState.state halves.out) (O.LinkState.state result.1) (I.LinkState.state halves.input) (I.LinkState.state result.2) crew.sender.inner.me) }
-    ensures stops { IfErr result.0 (WorkersStop (O.LinkState.state halves.out) (O.LinkState.state result.1) (I.LinkState.state halves.input) (I.LinkState.state result.2)) }
+    ensures stops { IfErr result.0 (WorkersStop (O.LinkState.state halves.out) (O.LinkState.state result.1) (I.LinkState.state halves.input) (I.LinkState.state result.2) (sight_by crew.home.inner.me).lanes (sight_by crew.home.inner.me).options) }
 {
     let Halves { out, input, stop } = halves;
     let mut out = out;
@@ -271,8 +297,8 @@ fn run_crew<
     let SharedRun { shared, signals: _ } = run;
     match first_error(sent, got) {
         Some(e) => {
-            spend_crew(crew);
-            return (Err(e), out, input);
+            let why = close_failed(rt, shared, crew, e);
+            return (Err(why), out, input);
         }
         None => {}
     }
@@ -306,7 +332,9 @@ fn run_crew<
 ///
 /// `OutOfMemory` if an allocation failed, if no thread could be created for a worker, and also for a run whose journal
 /// isn't that of such an end. Any other error stopped the opening or one of the workers, and is the session's first
-/// fault.
+/// fault. If the session was opened, its journal ends by that fault, the halves show its Sends and Takes, and what came
+/// after the frames of the Takes shows why the worker that reads stopped: `InvalidResponseId`, for example, is returned
+/// only for a frame whose id no sent, unanswered request has.
 pub fn run_stoppable<
     O: LinkOut + Send,
     I: LinkIn + Send,
@@ -324,7 +352,7 @@ pub fn run_stoppable<
     ensures runs { IfOk result.0 (λ report. RunsShared lanes.now options.now report) }
     ensures over { IfOk result.0 (λ report. IsEnded (length lanes.now) (reverse report.journal.items)) }
     ensures ends { IfOk result.0 (Ended (O.LinkState.state halves.out) (O.LinkState.state result.1) (I.LinkState.state halves.input) (I.LinkState.state result.2)) }
-    ensures stops { IfErr result.0 (StopsBy (O.LinkState.state halves.out) (O.LinkState.state result.1) (I.LinkState.state halves.input) (I.LinkState.state result.2)) }
+    ensures stops { IfErr result.0 (StopsBy lanes.now options.now (O.LinkState.state halves.out) (O.LinkState.state result.1) (I.LinkState.state halves.input) (I.LinkState.state result.2)) }
 {
     let Halves { out, input, stop } = halves;
     let mut out = out;
@@ -362,7 +390,7 @@ pub fn run_shared<
     ensures runs { IfOk result.0 (λ report. RunsShared lanes.now options.now report) }
     ensures over { IfOk result.0 (λ report. IsEnded (length lanes.now) (reverse report.journal.items)) }
     ensures ends { IfOk result.0 (Ended (O.LinkState.state out) (O.LinkState.state result.1) (I.LinkState.state input) (I.LinkState.state result.2)) }
-    ensures stops { IfErr result.0 (StopsBy (O.LinkState.state out) (O.LinkState.state result.1) (I.LinkState.state input) (I.LinkState.state result.2)) }
+    ensures stops { IfErr result.0 (StopsBy lanes.now options.now (O.LinkState.state out) (O.LinkState.state result.1) (I.LinkState.state input) (I.LinkState.state result.2)) }
 {
     let halves = Halves {
         out,

@@ -3,13 +3,13 @@ ghost use Rattle.std.specs.Prelude.{◌≡◌, ◌<◌, ◌-◌, ◌^◌, [], So
 ghost use Rattle.plan_model.specs.Lanes.{are_ok};
 ghost use Rattle.session_seats.specs.Closes.{claim_by, claims_of};
 ghost use Rattle.session_seats.specs.Covers.{HomeGave};
-ghost use Rattle.session_seats.specs.Holds.{fits_lane, sight_by};
+ghost use Rattle.session_seats.specs.Holds.{AddsEntries, claim_of, fits_lane, sight_by};
 ghost use Rattle.sftp_tasks.specs.Reported.{lane_named};
 ghost use Rattle.sftp_tasks.specs.Workers.{FlushWorks, ReadWorks};
 ghost use Rattle.sftp_model.specs.declared.reply.Reply.{Reply};
 ghost use Rattle.sftp_tasks.specs.Sent.{SeesVersion};
 ghost use Rattle.session_threads.specs.Reports.{OpeningStops, SendsHelloFirst};
-ghost use Rattle.session_threads.specs.Running.{AllMadeNothing, AllReady, HasGiven, HasRun, IsReady, SameMade, WorkedUntilEnd, moves_none, sends_none, takes_none};
+ghost use Rattle.session_threads.specs.Running.{AllMadeNothing, AllReady, HasGiven, HasRun, IsReady, SameMade, WorkedUntilEnd, adds_nothing, moves_none, sends_none, takes_none};
 ghost use Rattle.session_threads.specs.Crews.{IsCrew, IsHome, lanes_below};
 ghost use Rattle.session_threads.specs.Running.{IsOf};
 
@@ -181,7 +181,8 @@ fn lane_seats<R: Wait>(
 /// Gives the session up, so that no other thread waits for this one, and ends the waits inside calls of the halves.
 pub fn stop<S: Stop, R: Wait>(rt: &R, run: &SharedRun<S>, seat: &mut Seat)
     requires { seat.old.inner.table_id ≡ run.now.shared.shared.table.shared.table_id }
-    ensures { HasRun moves_none run.now.shared.shared.table.shared.table_id seat.old seat.new }
+    ensures ran { HasRun moves_none run.now.shared.shared.table.shared.table_id seat.old seat.new }
+    ensures adds { AddsEntries adds_nothing (claim_of seat.old.inner.me) (claim_of seat.new.inner.me) }
 {
     run.shared.give_up(rt, seat);
     run.signals.stop_waits();

@@ -11,20 +11,39 @@ use Rattle.session_threads.specs.Running.{WorkedUntilEnd, moves_none}
 use Rattle.session_threads.proofs.EndLaws.{ended_run}
 use Rattle.session_threads.proofs.HalfLaws.{workers_end}
 use Rattle.session_threads.proofs.RunLaws.{ran_made, ran_names, ran_of}
-use Rattle.session_threads.proofs.RunReports.{crew_complete, crew_ran, runs_made, stops_by}
+use Rattle.session_threads.proofs.FailureLaws.{workers_stop}
+use Rattle.session_threads.proofs.RunReports.{crew_complete, crew_ran, runs_made}
 use Rattle.session_threads.proofs.run.run_crew.Goals as goal
+
+pub close_failed-why-requires : goal.close_failed-why-requires
+close_failed-why-requires g c =
+    let t = c.run_threads-sent.ensures in
+    let r = c.run_threads-sent.new in
+    let crew = c.args.crew in
+    let z = c.args.shared.shared.table.shared.table_id in
+    record {
+      own = ran_of _ z _ _ (crew_ran z crew.lanes.items r.crew.lanes.items crew.home r.crew.home crew.sender
+          r.crew.sender crew.reader r.crew.reader t.lanes.1 t.lanes.0 t.sender.0 t.reader.0);
+    }
 
 pub returns-in-Some-clause-stops : goal.returns-in-Some-clause-stops
 returns-in-Some-clause-stops g c =
     let t = c.run_threads-sent.ensures in
     let r = c.run_threads-sent.new in
     let crew = c.args.crew in
-    stops_by (crew.sender.inner.me, g.O.LinkState.state c.args.halves.out)
-    (r.crew.sender.inner.me, g.O.LinkState.state r.out)
-    (crew.reader.inner.me, g.I.LinkState.state c.args.halves.input)
-    (r.crew.reader.inner.me, g.I.LinkState.state r.input) _ _
-    c.in-Some.e t.sender.1 t.reader.1
-    c.in-Some.ensures
+    let is = c.requires.crew.0.1 in
+    let z = c.args.shared.shared.table.shared.table_id in
+    let all = crew_complete z crew.lanes.items r.crew.lanes.items crew.home r.crew.home crew.sender r.crew.sender
+    crew.reader
+    r.crew.reader t.lanes.1 t.lanes.0 t.sender.0
+    t.reader.0 is.gave in
+    workers_stop z c.requires.crew.0.0 crew.lanes.items r.crew.lanes.items crew.home r.crew.home crew.sender
+    r.crew.sender
+    crew.reader r.crew.reader t.lanes.1 is.made t.lanes.0 is.moved t.sender.0 t.reader.0 is.sender is.reader all
+    (g.O.LinkState.state c.args.halves.out) (g.O.LinkState.state r.out) (g.I.LinkState.state c.args.halves.input)
+    (g.I.LinkState.state r.input) c.run_threads-sent.result.0 c.run_threads-sent.result.1 t.sender.1 t.reader.1
+    (claim_by crew.home).sight.lanes (claim_by crew.home).sight.options c.close_failed-why.result c.in-Some.e
+    (ran_made moves_none z _ _ t.lanes.0) c.in-Some.ensures c.close_failed-why.ensures
 
 pub close_run-requires-clause-own : goal.close_run-requires-clause-own
 close_run-requires-clause-own g c =

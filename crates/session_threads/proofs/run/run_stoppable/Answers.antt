@@ -41,4 +41,6 @@ returns-clause-stops g c =
     (g.O.LinkState.state c.run_crew.result.1)
     (g.I.LinkState.state c.args.halves.input) (g.I.LinkState.state c.open_session.new.input)
     (g.I.LinkState.state c.run_crew.result.2)
-    c.in-Ok.opened.1.inner.me c.run_crew.result.0 c.in-Ok.ensures.opens c.run_crew.ensures.stops
+    c.in-Ok.opened.1.inner.me c.args.lanes.now c.args.options.now (claim_by c.in-Ok.opened.1).sight
+    (claim_by c.in-Ok-start.crew.home).sight c.run_crew.result.0 c.in-Ok.ensures.home.1 c.in-Ok-start.ensures.made
+    c.in-Ok.ensures.opens c.run_crew.ensures.stops

@@ -4,4 +4,4 @@ use Rattle.session_threads.proofs.seats.run_lane.Goals as goal
 
 pub returns : goal.returns
 returns g c = ran_on moves_none _ c.args.seat.now c.finish_lane.new.seat c.stop.new.seat c.finish_lane.ensures
-    c.stop.ensures
+    c.stop.ensures.ran
