@@ -26,9 +26,9 @@
 //!
 //! # Calls
 //!
-//! - On paths: `metadata`, `set_metadata`, `set_permissions`, `create_dir`, `create_dir_all`, `remove_dir`, `remove_file`, `rename`,
-//!   `symlink`, `hard_link`, `read_link`, `canonicalize`, `read_file`, `write_file`, `read_dir` and their like are
-//!   methods of `Sftp`, each of which sends its request and waits for the reply.
+//! - On paths: `metadata`, `set_metadata`, `set_permissions`, `create_dir`, `create_dir_all`, `remove_dir`,
+//!   `remove_file`, `rename`, `symlink`, `hard_link`, `read_link`, `canonicalize`, `read_file`, `write_file`,
+//!   `read_dir` and their like are methods of `Sftp`, each of which sends its request and waits for the reply.
 //! - On files: `open`, `create`, `read`, `write_all`, `copy`, `close_file`, `release_file`.
 //! - Many calls in flight: a `start_` call of `Fs` or `File` submits a request and returns a state; `flush` and `take`
 //!   move the frames, and `poll`, `wait` or `finish` return the result.
