@@ -35,6 +35,7 @@ use Rattle.sftp_share.specs.Shared.{
   RightFor,
   RunsOutOfMemory,
   StoppedOver,
+  StopsSome,
   differs_by,
   replay_text,
   report_text,
@@ -66,7 +67,7 @@ has_run out out' input input' last script lanes report same fresh input_fresh ba
 
 pub stopped_over : {A B : Type 0} (out out' : LinkView A) (input input' : LinkView B) (last : Option Halves) (e : Error)
     → IsNewHalf out
-    → IsNewHalf input → last ≡ Some (halves_of out' input') → StopsBy out out' input input' e → StoppedOver A B last e
+    → IsNewHalf input → last ≡ Some (halves_of out' input') → StopsSome out out' input input' e → StoppedOver A B last e
 stopped_over out out' input input' last e fresh input_fresh back stops = record {
   out = out;
   out_now = out';
@@ -91,12 +92,13 @@ ran_if out out' input input' last script lanes (Ok report) same fresh input_fres
     has_run out out' input input' last script lanes report same fresh input_fresh back runs over ends
 ran_if out out' input input' last script lanes (Err e) same fresh input_fresh back runs over ends = tt
 
-pub stopped_if : {A B : Type 0} (out out' : LinkView A) (input input' : LinkView B) (last : Option Halves)
+pub stopped_if : {A B : Type 0} (lanes : List Lane) (options : SftpOptions) (out out' : LinkView A)
+    (input input' : LinkView B) (last : Option Halves)
     (result : Result SharedReport Error) → IsNewHalf out → IsNewHalf input → last ≡ Some (halves_of out' input')
-    → IfErr result (StopsBy out out' input input') → IfErr result (λ e. StoppedOver A B last e)
-stopped_if out out' input input' last (Ok report) fresh input_fresh back stops = tt
-stopped_if out out' input input' last (Err e) fresh input_fresh back stops =
-    stopped_over out out' input input' last e fresh input_fresh back stops
+    → IfErr result (StopsBy lanes options out out' input input') → IfErr result (λ e. StoppedOver A B last e)
+stopped_if lanes options out out' input input' last (Ok report) fresh input_fresh back stops = tt
+stopped_if lanes options out out' input input' last (Err e) fresh input_fresh back stops =
+    stopped_over out out' input input' last e fresh input_fresh back (lanes, (options, stops))
 
 pub has_stopped_if : (A B : Type 0) (before last : Option Halves) (result : Result SharedReport Error)
     → IfErr result (λ e. StoppedOver A B last e) → IfErr result (λ e. HasStopped A B before last e)

@@ -19,6 +19,7 @@ use Rattle.std.specs.Prelude.{
   Err,
 }
 use Rattle.machine_model.specs.FirstTree.{first_tree}
+use Rattle.plan_model.specs.declared.call.Lane.{Lane}
 use Rattle.program_shell.specs.declared.ending.Answered.{Answered}
 use Rattle.program_shell.specs.declared.ending.Answered.TheVariants.{Done, Stopped, Refused}
 use Rattle.program_shell.specs.Ended.{ReadAs}
@@ -29,6 +30,7 @@ use Rattle.sftp_link.specs.Views.{LinkView}
 use Rattle.machine_answers.specs.MachineState.{MAX_HANDLES, MachineState}
 use Rattle.sftp_model.specs.declared.error.Error.{Error}
 use Rattle.sftp_model.specs.declared.error.Error.TheVariants as error
+use Rattle.sftp_model.specs.declared.options.SftpOptions.{SftpOptions}
 use Rattle.sftp_model.specs.declared.reply.Reply.{Reply}
 use Rattle.sftp_model.specs.Frames.{reply_body}
 use Rattle.script_grammar.specs.declared.script.Script.{Script}
@@ -91,10 +93,14 @@ pub record HasRun (A B : Type 0) (last : Option Halves) (script : Script) (repor
   pub over : IsEnded (length script.lanes) (reverse report.journal.items)
   pub halves : PutBack A B (λ out out_now input input_now. Ended out out_now input input_now report) last
 
--- Halves were given, this error stopped the run over them, in the opening or by one of the workers, and they were put
--- back.
+-- This error stopped a run of some lanes over two halves, in the opening or by one of the workers.
+abbrev pub StopsSome : {A B : Type 0} → LinkView A → LinkView A → LinkView B → LinkView B → Error → Type 0
+StopsSome out out_now input input_now e =
+    (lanes : List Lane) × ((options : SftpOptions) × StopsBy lanes options out out_now input input_now e)
+
+-- Halves were given, this error stopped the run over them, and they were put back.
 abbrev pub StoppedOver : (A B : Type 0) → Option Halves → Error → Type 0
-StoppedOver A B last e = PutBack A B (λ out out_now input input_now. StopsBy out out_now input input_now e) last
+StoppedOver A B last e = PutBack A B (λ out out_now input input_now. StopsSome out out_now input input_now e) last
 
 -- An error stopped the run. Either an allocation failed, and the pair is unchanged; or halves were given, and put back
 -- after it.
