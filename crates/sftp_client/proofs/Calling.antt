@@ -1,7 +1,8 @@
 -- What calls that are started and run in one leave to others.
 use Rattle.std.proofs.Common.{◌≡◌, ◌⊎◌, ◌<◌, ◌-◌, ◌^◌, ◌∙◌, ℕ, [], ap, refl, sym, subst, inl, inr}
-use Rattle.std.specs.Prelude.{None, Result, Ok, Err, OnOk}
+use Rattle.std.specs.Prelude.{None, Result, Ok, Err}
 use Rattle.sftp_model.specs.declared.error.Error.{Error}
+use Rattle.sftp_model.specs.declared.error.Error.TheVariants as error
 use Rattle.sftp_model.specs.declared.slot.Site.{Site}
 use Rattle.plan_model.specs.Moves.{Answers, Plan}
 use Rattle.sftp_core.specs.Core.{Core}
@@ -14,9 +15,10 @@ use Rattle.plan_state.specs.declared.stage.Stage.TheVariants.{Ready}
 use Rattle.plan_state.proofs.Keeping.{keeps_same}
 use Rattle.plan_state.proofs.Sparing.{spares_as, spares_both, submitted_spares}
 use Rattle.sftp_fs.specs.PathStarts.{PathPlan, StartsFrom}
-use Rattle.sftp_client.specs.Calls.{CallsOnPath, HasNoId, IfIdLeft, IsUsable, OnCore, RunsCall, RunsInOne, StartsThenRuns}
+use Rattle.sftp_client.specs.Calls.{CallsOnPath, HasNoId, IfIdLeft, IsUsable, IsUsableAfter, OnCore, RunsCall, RunsInOne, StartsThenRuns}
 use Rattle.sftp_client.specs.Sessions.{SftpValue, with_core}
-use Rattle.sftp_client.specs.Waits.{HasFinished, IsReadyOr}
+use Rattle.sftp_client.specs.Waits.{HasFinished, IsReadyOr, KeepsFaults}
+use Rattle.sftp_client.proofs.Waiting.{faults_kept}
 
 -- ---- what others hold
 
@@ -50,20 +52,33 @@ started_apart s w plan answers old new q (inr ready) keeps =
 
 pub usable_after : {L S V : Type 0} (state : L → LinkView S) (old new : SftpValue L) (result : Result V Error)
     → IsUsable state old → StaysOpen old.core new.core
-    → OnOk result ((state new.link).faults ≡ (state old.link).faults) → OnOk result (IsUsable state new)
+    → KeepsFaults (state old.link).faults (state new.link).faults result → IsUsableAfter state new result
 usable_after state old new (Ok value) usable stays same =
     record {
       opened = stays usable.opened;
       count = subst (λ (n : ℕ). n < 2 ^ 64 - 1) (sym same) usable.count;
     }
-usable_after state old new (Err e) usable stays same = tt
+usable_after state old new (Err error.LinkFault) usable stays same = tt
+usable_after state old new (Err other) usable stays same =
+    record {
+      opened = stays usable.opened;
+      count = subst (λ (n : ℕ). n < 2 ^ 64 - 1) (sym same) usable.count;
+    }
 
-pub finish_unfaulted : {W M V L S : Type 0} (s : Meaning W M V) (state : L → LinkView S) (old started new : SftpValue L)
+-- the count of faults from a start to the end of what was run after it
+pub faults_since : {L S V : Type 0} (state : L → LinkView S) (old started mid new : SftpValue L)
+    (result : Result V Error) → started.link ≡ old.link → new.link ≡ mid.link
+    → KeepsFaults (state started.link).faults (state mid.link).faults result
+    → KeepsFaults (state old.link).faults (state new.link).faults result
+faults_since state old started mid new result same left faults =
+    subst (λ l. KeepsFaults (state old.link).faults (state l).faults result) (sym left)
+    (subst (λ l. KeepsFaults (state l).faults (state mid.link).faults result) same faults)
+
+pub finish_faults : {W M V L S : Type 0} (s : Meaning W M V) (state : L → LinkView S) (old started new : SftpValue L)
     (p : CallValue M) (result : Result V Error) → started.link ≡ old.link → HasFinished s state started new p result
-    → OnOk result ((state new.link).faults ≡ (state old.link).faults)
-finish_unfaulted s state old started new p (Ok value) same h =
-    ap (λ (x : SftpValue _). (state x.link).faults) h.left ∙ (h.waited.unfaulted ∙ ap (λ l. (state l).faults) same)
-finish_unfaulted s state old started new p (Err e) same h = tt
+    → KeepsFaults (state old.link).faults (state new.link).faults result
+finish_faults s state old started new p result same h =
+    faults_since state old started h.mid new result same (ap (λ (x : SftpValue _). x.link) h.left) h.waited.faults
 
 -- ---- the ways of a call
 
@@ -75,25 +90,33 @@ as_run Starts Runs old new (Err e) h = inr h
 
 pub refused : {L S C V : Type 0} (Starts : SftpValue L → SftpValue L → Result C Error → Type 0)
     (Runs : SftpValue L → SftpValue L → C → Result V Error → Type 0) (state : L → LinkView S) (old new : SftpValue L)
-    (e : Error) → Starts old new (Err e) → KeepsHeld old.core new.core → RunsCall Starts Runs state old new (Err e)
-refused Starts Runs state old new e h keeps = record { runs = inl h; keeps = keeps; usable = tt }
+    (e : Error) → IsUsable state old → Starts old new (Err e) → KeepsHeld old.core new.core → new.link ≡ old.link
+    → RunsCall Starts Runs state old new (Err e)
+refused {V = V} Starts Runs state old new e usable h keeps same =
+    record {
+      runs = inl h;
+      keeps = keeps;
+      usable = usable_after {V = V} state old new (Err e) usable keeps.grants.opened
+          (faults_kept {V = V} (Err e) _ _ (ap (λ l. (state l).faults) same));
+    }
 
 pub without_id : {L : Type 0} (old : SftpValue L) (e : Error) → IsReadyOr old.core (Err e) → HasNoId old old e
 without_id old e h = record { all = h.1; error = h.0; unchanged = refl }
 
 pub no_id : {L S C V : Type 0} (Starts : SftpValue L → SftpValue L → Result C Error → Type 0)
     (Runs : SftpValue L → SftpValue L → C → Result V Error → Type 0) (state : L → LinkView S) (old : SftpValue L)
-    (e : Error) → IsReadyOr old.core (Err e) → RunsCall (IfIdLeft Starts) Runs state old old (Err e)
-no_id Starts Runs state old e h =
-    refused (IfIdLeft Starts) Runs state old old e (inl (without_id old e h)) (keeps_same old.core)
+    (e : Error) → IsUsable state old → IsReadyOr old.core (Err e)
+    → RunsCall (IfIdLeft Starts) Runs state old old (Err e)
+no_id Starts Runs state old e usable h =
+    refused (IfIdLeft Starts) Runs state old old e usable (inl (without_id old e h)) (keeps_same old.core) refl
 
 pub ran : {L S C V : Type 0} (Starts : SftpValue L → SftpValue L → Result C Error → Type 0)
     (Runs : SftpValue L → SftpValue L → C → Result V Error → Type 0) (state : L → LinkView S)
     (old started new : SftpValue L) (call : C) (result : Result V Error) → IsUsable state old
     → Starts old started (Ok call) → Runs started new call result
     → SparesOthers old.core new.core (λ id. Unit {0}) (λ id. Unit {0})
-    → OnOk result ((state new.link).faults ≡ (state old.link).faults) → RunsCall Starts Runs state old new result
-ran Starts Runs state old started new call result usable starts runs spares unfaulted =
+    → KeepsFaults (state old.link).faults (state new.link).faults result → RunsCall Starts Runs state old new result
+ran Starts Runs state old started new call result usable starts runs spares faults =
     let keeps = all_kept old.core new.core spares in
     record {
       runs = as_run Starts Runs old new result (record {
@@ -103,7 +126,7 @@ ran Starts Runs state old started new call result usable starts runs spares unfa
         runs = runs;
       });
       keeps = keeps;
-      usable = usable_after state old new result usable spares.opened unfaulted;
+      usable = usable_after state old new result usable spares.opened faults;
     }
 
 -- ---- a call that is finished
@@ -125,7 +148,7 @@ pub called : {W M V L S : Type 0} (Starts : SftpValue L → SftpValue L → Resu
 called Starts s state old started new call result usable starts same apart h =
     ran (IfIdLeft Starts) (HasFinished s state) state old started new call result usable starts h
     (finish_all s state old started new call result apart h)
-    (finish_unfaulted s state old started new call result same h)
+    (finish_faults s state old started new call result same h)
 
 -- ---- calls on paths
 
@@ -134,14 +157,16 @@ abbrev pub nowhere : Site
 nowhere = record { slots = []; directory = [] }
 
 pub path_no_id : {M V L S : Type 0} (s : Meaning Site M V) (plan : PathPlan) (state : L → LinkView S) (old : SftpValue L)
-    (e : Error) → IsReadyOr old.core (Err e) → CallsOnPath s plan state old old (Err e)
-path_no_id s plan state old e h = no_id (OnCore (StartsFrom s plan [])) (HasFinished s state) state old e h
+    (e : Error) → IsReadyOr old.core (Err e) → IsUsable state old → CallsOnPath s plan state old old (Err e)
+path_no_id s plan state old e h usable =
+    no_id (OnCore (StartsFrom s plan [])) (HasFinished s state) state old e usable h
 
 path_refused_at : {M V L S : Type 0} (s : Meaning Site M V) (plan : PathPlan) (state : L → LinkView S)
     (old new : SftpValue L) (e : Error) → StartsFrom s plan [] old.core new.core (Err e) → new ≡ with_core old new.core
-    → CallsOnPath s plan state old new (Err e)
-path_refused_at s plan state old new e h left =
-    refused (IfIdLeft (OnCore (StartsFrom s plan []))) (HasFinished s state) state old new e (inr (h, left)) h.keeps
+    → IsUsable state old → CallsOnPath s plan state old new (Err e)
+path_refused_at s plan state old new e h left usable =
+    refused (IfIdLeft (OnCore (StartsFrom s plan []))) (HasFinished s state) state old new e usable (inr (h, left))
+    h.keeps (ap (λ (x : SftpValue _). x.link) left)
 
 path_called_at : {M V L S : Type 0} (s : Meaning Site M V) (plan : PathPlan) (state : L → LinkView S)
     (old started new : SftpValue L) (call : CallValue M) (result : Result V Error) → IsUsable state old
@@ -157,10 +182,11 @@ path_called_at s plan state old started new call result usable starts left h =
 
 pub path_refused : {M V L S : Type 0} (s : Meaning Site M V) (plan : PathPlan) (state : L → LinkView S)
     (old inside new : SftpValue L) (e : Error) → inside ≡ old → StartsFrom s plan [] inside.core new.core (Err e)
-    → new ≡ with_core inside new.core → CallsOnPath s plan state old new (Err e)
-path_refused s plan state old inside new e same h left =
+    → new ≡ with_core inside new.core → IsUsable state old → CallsOnPath s plan state old new (Err e)
+path_refused s plan state old inside new e same h left usable =
     subst (λ (x : SftpValue _). CallsOnPath s plan state x new (Err e)) same
-    (path_refused_at s plan state inside new e h left)
+    (path_refused_at s plan state inside new e h left
+    (subst (λ (x : SftpValue _). IsUsable state x) (sym same) usable))
 
 pub path_called : {M V L S : Type 0} (s : Meaning Site M V) (plan : PathPlan) (state : L → LinkView S)
     (old inside started new : SftpValue L) (call : CallValue M) (result : Result V Error) → IsUsable state old

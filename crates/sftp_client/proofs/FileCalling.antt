@@ -29,31 +29,32 @@ use Rattle.sftp_client.specs.Sessions.{SftpValue, with_core}
 use Rattle.sftp_client.specs.Waits.{HasFinishedOn, IsReadyOr}
 use Rattle.sftp_client.specs.WholeWaits.{HasCopied, HasFinishedRead}
 use Rattle.sftp_client.specs.WriteWaits.{HasFinishedWrite}
-use Rattle.sftp_client.proofs.Calling.{finish_all, finish_unfaulted, no_id, ran, refused, started_apart, without_id}
+use Rattle.sftp_client.proofs.Calling.{faults_since, finish_all, finish_faults, no_id, ran, refused, started_apart, without_id}
 use Rattle.sftp_client.proofs.HandleCalling.{held_inside, usable_inside}
 
 -- ---- calls on a file
 
 pub file_no_id : {W M V L S : Type 0} (s : Meaning W M V) (w : W) (at : M → FileAt) (plan : FilePlan)
     (state : L → LinkView S) (file : FileValue) (old : SftpValue L) (e : Error) → IsReadyOr old.core (Err e)
-    → IsGrant old.core file.grant → CallsOnFile s w at plan state file file old old (Err e)
-file_no_id s w at plan state file old e h held =
+    → IsGrant old.core file.grant → IsUsable state old → CallsOnFile s w at plan state file file old old (Err e)
+file_no_id s w at plan state file old e h held usable =
     record {
       calls = refused (StartsOr s w plan file file)
           (λ started new call result. HasFinishedOn s at state started new call file file result) state old old e
-          (inl (without_id old e h), refl) (keeps_same old.core);
+          usable (inl (without_id old e h), refl) (keeps_same old.core) refl;
       held = held;
     }
 
 file_refused_at : {W M V L S : Type 0} (s : Meaning W M V) (w : W) (at : M → FileAt) (plan : FilePlan)
     (state : L → LinkView S) (before after : FileValue) (old new : SftpValue L) (e : Error) → after ≡ before
     → StartsOnFile s w plan before old.core new.core (Err e) → new ≡ with_core old new.core
-    → IsGrant old.core before.grant → CallsOnFile s w at plan state before after old new (Err e)
-file_refused_at s w at plan state before after old new e same h left held =
+    → IsGrant old.core before.grant → IsUsable state old
+    → CallsOnFile s w at plan state before after old new (Err e)
+file_refused_at s w at plan state before after old new e same h left held usable =
     record {
       calls = refused (StartsOr s w plan before after)
           (λ started last call result. HasFinishedOn s at state started last call before after result) state old new e
-          (inr (h, left), same) h.keeps;
+          usable (inr (h, left), same) h.keeps (ap (λ (x : SftpValue _). x.link) left);
       held = subst (λ (f : FileValue). IsGrant new.core f.grant) (sym same)
           (grant_kept old.core new.core before.grant h.keeps.grants held);
     }
@@ -72,7 +73,7 @@ file_called_at s w at plan state before after old started new call result usable
     result usable
     ((starts, left), tt) h
     (finish_all s state old started new call result apart h.finished)
-    (finish_unfaulted s state old started new call result (ap (λ (x : SftpValue _). x.link) left) h.finished) in
+    (finish_faults s state old started new call result (ap (λ (x : SftpValue _). x.link) left) h.finished) in
     record {
       calls = calls;
       held = subst (λ (g : GrantValue). IsGrant new.core g) (sym (ap (λ (f : FileValue). f.grant) h.moved.rest))
@@ -82,25 +83,26 @@ file_called_at s w at plan state before after old started new call result usable
 -- ---- copies
 
 pub copy_no_id : {L S : Type 0} (n : ℕ) (state : L → LinkView S) (f g : FileValue) (old : SftpValue L) (e : Error)
-    → IsReadyOr old.core (Err e) → IsGrant old.core f.grant → IsGrant old.core g.grant
+    → IsReadyOr old.core (Err e) → IsGrant old.core f.grant → IsGrant old.core g.grant → IsUsable state old
     → CopiesFile n state f f g g old old (Err e)
-copy_no_id n state f g old e h source target =
+copy_no_id n state f g old e h source target usable =
     record {
       calls = refused (CopyStartsOr n f f g g)
           (λ started last call done. HasCopied state started last call f f g g done) state old old e
-          (inl (without_id old e h), (refl, refl)) (keeps_same old.core);
+          usable (inl (without_id old e h), (refl, refl)) (keeps_same old.core) refl;
       source = source;
       target = target;
     }
 
 copy_refused_at : {L S : Type 0} (n : ℕ) (state : L → LinkView S) (f f' g : FileValue) (old new : SftpValue L)
     (e : Error) → f' ≡ f → CopyStarts f g n old.core new.core (Err e) → new ≡ with_core old new.core
-    → IsGrant old.core f.grant → IsGrant old.core g.grant → CopiesFile n state f f' g g old new (Err e)
-copy_refused_at n state f f' g old new e same h left source target =
+    → IsGrant old.core f.grant → IsGrant old.core g.grant → IsUsable state old
+    → CopiesFile n state f f' g g old new (Err e)
+copy_refused_at n state f f' g old new e same h left source target usable =
     record {
       calls = refused (CopyStartsOr n f f' g g)
           (λ started last call done. HasCopied state started last call f f' g g done) state old new e
-          (inr (h, left), (same, refl)) h.keeps;
+          usable (inr (h, left), (same, refl)) h.keeps (ap (λ (x : SftpValue _). x.link) left);
       source = subst (λ (x : FileValue). IsGrant new.core x.grant) (sym same)
           (grant_kept old.core new.core f.grant h.keeps.grants source);
       target = grant_kept old.core new.core g.grant h.keeps.grants target;
@@ -125,7 +127,7 @@ copy_called_at n state f f' g g' old started new call result usable source targe
     (λ first last begun done. HasCopied state first last begun f f' g g' done) state old started new call result usable
     ((starts, left), tt) h
     (finish_all copy_meaning state old started new call result apart h.finished)
-    (finish_unfaulted copy_meaning state old started new call result (ap (λ (x : SftpValue _). x.link) left)
+    (finish_faults copy_meaning state old started new call result (ap (λ (x : SftpValue _). x.link) left)
     h.finished) in
     record {
       calls = calls;
@@ -138,21 +140,16 @@ copy_called_at n state f f' g g' old started new call result usable source targe
 -- ---- files of a path, whole
 
 pub read_path_no_id : {L S : Type 0} (path : List ℕ) (state : L → LinkView S) (old : SftpValue L) (e : Error)
-    → IsReadyOr old.core (Err e) → ReadsPath path state old old (Err e)
-read_path_no_id path state old e h = no_id (OnCore (ReadsFrom path [])) (HasFinishedRead state) state old e h
+    → IsReadyOr old.core (Err e) → IsUsable state old → ReadsPath path state old old (Err e)
+read_path_no_id path state old e h usable =
+    no_id (OnCore (ReadsFrom path [])) (HasFinishedRead state) state old e usable h
 
 read_path_refused_at : {L S : Type 0} (path : List ℕ) (state : L → LinkView S) (old new : SftpValue L) (e : Error)
     → ReadsFrom path [] old.core new.core (Err e) → new ≡ with_core old new.core
-    → ReadsPath path state old new (Err e)
-read_path_refused_at path state old new e h left =
-    refused (IfIdLeft (OnCore (ReadsFrom path []))) (HasFinishedRead state) state old new e (inr (h, left)) h.keeps
-
-read_unfaulted : {L S : Type 0} (state : L → LinkView S) (old started new : SftpValue L) (p : FsReadValue)
-    (result : Result Filled Error) → started.link ≡ old.link → HasFinishedRead state started new p result
-    → OnOk result ((state new.link).faults ≡ (state old.link).faults)
-read_unfaulted state old started new p (Ok value) same h =
-    ap (λ (x : SftpValue _). (state x.link).faults) h.left ∙ (h.waited.unfaulted ∙ ap (λ l. (state l).faults) same)
-read_unfaulted state old started new p (Err e) same h = tt
+    → IsUsable state old → ReadsPath path state old new (Err e)
+read_path_refused_at path state old new e h left usable =
+    refused (IfIdLeft (OnCore (ReadsFrom path []))) (HasFinishedRead state) state old new e usable (inr (h, left))
+    h.keeps (ap (λ (x : SftpValue _). x.link) left)
 
 read_path_called_at : {L S : Type 0} (path : List ℕ) (state : L → LinkView S) (old started new : SftpValue L)
     (call : FsReadValue) (result : Result Filled Error) → IsUsable state old
@@ -163,26 +160,20 @@ read_path_called_at path state old started new call result usable starts left h 
     (starts, left) h
     (spares_both old.core started.core new.core (λ id. Unit {0}) (IsNoneOfRead call.stage) (λ id. Unit {0})
     starts.spares h.spares)
-    (read_unfaulted state old started new call result (ap (λ (x : SftpValue _). x.link) left) h)
+    (faults_since state old started h.mid new result (ap (λ (x : SftpValue _). x.link) left)
+    (ap (λ (x : SftpValue _). x.link) h.left) h.waited.faults)
 
 pub write_path_no_id : {L S : Type 0} (path content : List ℕ) (state : L → LinkView S) (old : SftpValue L) (e : Error)
-    → IsReadyOr old.core (Err e) → WritesPath path content state old old (Err e)
-write_path_no_id path content state old e h =
-    no_id (OnCore (WritesFrom path content [])) (HasFinishedWrite state) state old e h
+    → IsReadyOr old.core (Err e) → IsUsable state old → WritesPath path content state old old (Err e)
+write_path_no_id path content state old e h usable =
+    no_id (OnCore (WritesFrom path content [])) (HasFinishedWrite state) state old e usable h
 
 write_path_refused_at : {L S : Type 0} (path content : List ℕ) (state : L → LinkView S) (old new : SftpValue L)
     (e : Error) → WritesFrom path content [] old.core new.core (Err e) → new ≡ with_core old new.core
-    → WritesPath path content state old new (Err e)
-write_path_refused_at path content state old new e h left =
-    refused (IfIdLeft (OnCore (WritesFrom path content []))) (HasFinishedWrite state) state old new e (inr (h, left))
-    h.keeps
-
-write_unfaulted : {L S : Type 0} (state : L → LinkView S) (old started new : SftpValue L) (p : FsWriteValue)
-    (result : Result (Unit {0}) Error) → started.link ≡ old.link → HasFinishedWrite state started new p result
-    → OnOk result ((state new.link).faults ≡ (state old.link).faults)
-write_unfaulted state old started new p (Ok value) same h =
-    ap (λ (x : SftpValue _). (state x.link).faults) h.left ∙ (h.waited.unfaulted ∙ ap (λ l. (state l).faults) same)
-write_unfaulted state old started new p (Err e) same h = tt
+    → IsUsable state old → WritesPath path content state old new (Err e)
+write_path_refused_at path content state old new e h left usable =
+    refused (IfIdLeft (OnCore (WritesFrom path content []))) (HasFinishedWrite state) state old new e usable
+    (inr (h, left)) h.keeps (ap (λ (x : SftpValue _). x.link) left)
 
 write_path_called_at : {L S : Type 0} (path content : List ℕ) (state : L → LinkView S)
     (old started new : SftpValue L) (call : FsWriteValue) (result : Result (Unit {0}) Error) → IsUsable state old
@@ -193,7 +184,8 @@ write_path_called_at path content state old started new call result usable start
     usable (starts, left) h
     (spares_both old.core started.core new.core (λ id. Unit {0}) (IsNoneOfWrite call.stage) (λ id. Unit {0})
     starts.spares h.spares)
-    (write_unfaulted state old started new call result (ap (λ (x : SftpValue _). x.link) left) h)
+    (faults_since state old started h.mid new result (ap (λ (x : SftpValue _). x.link) left)
+    (ap (λ (x : SftpValue _). x.link) h.left) h.waited.faults)
 
 -- ---- whole reads and writes that were just started have not answered
 
@@ -215,11 +207,12 @@ write_begun site plan answers old new content facts writing.Ended h = absurd h
 pub file_refused : {W M V L S : Type 0} (s : Meaning W M V) (w : W) (at : M → FileAt) (plan : FilePlan)
     (state : L → LinkView S) (before after : FileValue) (old inside new : SftpValue L) (e : Error) → after ≡ before
     → inside ≡ old → StartsOnFile s w plan before inside.core new.core (Err e) → new ≡ with_core inside new.core
-    → IsGrant old.core before.grant → CallsOnFile s w at plan state before after old new (Err e)
-file_refused s w at plan state before after old inside new e moved same h left held =
+    → IsGrant old.core before.grant → IsUsable state old
+    → CallsOnFile s w at plan state before after old new (Err e)
+file_refused s w at plan state before after old inside new e moved same h left held usable =
     subst (λ (x : SftpValue _). CallsOnFile s w at plan state before after x new (Err e)) same
     (file_refused_at s w at plan state before after inside new e moved h left
-    (held_inside old inside before.grant same held))
+    (held_inside old inside before.grant same held) (usable_inside state old inside same usable))
 
 pub file_called : {W M V L S : Type 0} (s : Meaning W M V) (w : W) (at : M → FileAt) (plan : FilePlan)
     (state : L → LinkView S) (before after : FileValue) (old inside started new : SftpValue L) (call : CallValue M)
@@ -234,12 +227,12 @@ file_called s w at plan state before after old inside started new call result us
 
 pub copy_refused : {L S : Type 0} (n : ℕ) (state : L → LinkView S) (f f' g : FileValue) (old inside new : SftpValue L)
     (e : Error) → f' ≡ f → inside ≡ old → CopyStarts f g n inside.core new.core (Err e)
-    → new ≡ with_core inside new.core → IsGrant old.core f.grant → IsGrant old.core g.grant
+    → new ≡ with_core inside new.core → IsGrant old.core f.grant → IsGrant old.core g.grant → IsUsable state old
     → CopiesFile n state f f' g g old new (Err e)
-copy_refused n state f f' g old inside new e moved same h left source target =
+copy_refused n state f f' g old inside new e moved same h left source target usable =
     subst (λ (x : SftpValue _). CopiesFile n state f f' g g x new (Err e)) same
     (copy_refused_at n state f f' g inside new e moved h left (held_inside old inside f.grant same source)
-    (held_inside old inside g.grant same target))
+    (held_inside old inside g.grant same target) (usable_inside state old inside same usable))
 
 pub copy_called : {L S : Type 0} (n : ℕ) (state : L → LinkView S) (f f' g g' : FileValue)
     (old inside started new : SftpValue L) (call : CallValue CopyValue) (result : Result (Unit {0}) Error)
@@ -253,10 +246,10 @@ copy_called n state f f' g g' old inside started new call result usable source t
 
 pub read_path_refused : {L S : Type 0} (path : List ℕ) (state : L → LinkView S) (old inside new : SftpValue L)
     (e : Error) → inside ≡ old → ReadsFrom path [] inside.core new.core (Err e) → new ≡ with_core inside new.core
-    → ReadsPath path state old new (Err e)
-read_path_refused path state old inside new e same h left =
+    → IsUsable state old → ReadsPath path state old new (Err e)
+read_path_refused path state old inside new e same h left usable =
     subst (λ (x : SftpValue _). ReadsPath path state x new (Err e)) same
-    (read_path_refused_at path state inside new e h left)
+    (read_path_refused_at path state inside new e h left (usable_inside state old inside same usable))
 
 pub read_path_called : {L S : Type 0} (path : List ℕ) (state : L → LinkView S) (old inside started new : SftpValue L)
     (call : FsReadValue) (result : Result Filled Error) → IsUsable state old → inside ≡ old
@@ -269,10 +262,10 @@ read_path_called path state old inside started new call result usable same start
 
 pub write_path_refused : {L S : Type 0} (path content : List ℕ) (state : L → LinkView S) (old inside new : SftpValue L)
     (e : Error) → inside ≡ old → WritesFrom path content [] inside.core new.core (Err e)
-    → new ≡ with_core inside new.core → WritesPath path content state old new (Err e)
-write_path_refused path content state old inside new e same h left =
+    → new ≡ with_core inside new.core → IsUsable state old → WritesPath path content state old new (Err e)
+write_path_refused path content state old inside new e same h left usable =
     subst (λ (x : SftpValue _). WritesPath path content state x new (Err e)) same
-    (write_path_refused_at path content state inside new e h left)
+    (write_path_refused_at path content state inside new e h left (usable_inside state old inside same usable))
 
 pub write_path_called : {L S : Type 0} (path content : List ℕ) (state : L → LinkView S)
     (old inside started new : SftpValue L) (call : FsWriteValue) (result : Result (Unit {0}) Error)

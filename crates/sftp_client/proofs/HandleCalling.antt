@@ -35,7 +35,7 @@ use Rattle.sftp_client.specs.Calls.{ClosesHandle, IfIdLeft, IsNoneOfFile, IsUsab
 use Rattle.sftp_client.specs.Opening.{OpensFile, OpensUnless}
 use Rattle.sftp_client.specs.Sessions.{SftpValue, with_core}
 use Rattle.sftp_client.specs.Waits.{ArePollRounds, HasFinished, IsReadyOr, PolledIn, WaitStops, WaitsIn}
-use Rattle.sftp_client.proofs.Calling.{called, finish_unfaulted, nowhere, refused, started_apart, usable_after, without_id}
+use Rattle.sftp_client.proofs.Calling.{called, finish_faults, nowhere, refused, started_apart, usable_after, without_id}
 use Rattle.sftp_client.proofs.Waiting.{ended_by, nothing_left, round_stays}
 
 -- ---- the grant that a call returns is none that others have
@@ -106,23 +106,29 @@ refused_keeps (Some fault) options path old new e h =
     keeps_unchanged old.core new.core (ap (λ (x : SftpValue _). x.core) h.1)
 refused_keeps None options path old new e h = h.0.keeps
 
+refused_link : {L : Type 0} (f : Option Fault) (options : OpenOptions) (path : List ℕ) (old new : SftpValue L)
+    (e : Error) → OpensUnless f options path old new (Err e) → new.link ≡ old.link
+refused_link (Some fault) options path old new e h = ap (λ (x : SftpValue _). x.link) h.1
+refused_link None options path old new e h = ap (λ (x : SftpValue _). x.link) h.1
+
 pub open_no_id : {W M V L S : Type 0} (Starts : SftpValue L → SftpValue L → Result (CallValue M) Error → Type 0)
     (s : Meaning W M V) (grant : V → GrantValue) (state : L → LinkView S) (old : SftpValue L) (e : Error)
-    → IsReadyOr old.core (Err e) → OpensHandle Starts s grant state old old (Err e)
-open_no_id Starts s grant state old e h =
+    → IsReadyOr old.core (Err e) → IsUsable state old → OpensHandle Starts s grant state old old (Err e)
+open_no_id Starts s grant state old e h usable =
     record {
-      calls = refused (IfIdLeft Starts) (HasFinished s state) state old old e (inl (without_id old e h))
-          (keeps_same old.core);
+      calls = refused (IfIdLeft Starts) (HasFinished s state) state old old e usable (inl (without_id old e h))
+          (keeps_same old.core) refl;
       held = tt;
       apart = tt;
     }
 
 pub open_refused : {W M V L S : Type 0} (Starts : SftpValue L → SftpValue L → Result (CallValue M) Error → Type 0)
     (s : Meaning W M V) (grant : V → GrantValue) (state : L → LinkView S) (old new : SftpValue L) (e : Error)
-    → Starts old new (Err e) → KeepsHeld old.core new.core → OpensHandle Starts s grant state old new (Err e)
-open_refused Starts s grant state old new e h keeps =
+    → Starts old new (Err e) → KeepsHeld old.core new.core → new.link ≡ old.link → IsUsable state old
+    → OpensHandle Starts s grant state old new (Err e)
+open_refused Starts s grant state old new e h keeps same usable =
     record {
-      calls = refused (IfIdLeft Starts) (HasFinished s state) state old new e (inr h) keeps;
+      calls = refused (IfIdLeft Starts) (HasFinished s state) state old new e usable (inr h) keeps same;
       held = tt;
       apart = tt;
     }
@@ -162,10 +168,11 @@ opened Starts s grant state old started new call result is usable starts same ap
 
 pub file_unopened : {L S : Type 0} (options : OpenOptions) (path : List ℕ) (state : L → LinkView S)
     (old new : SftpValue L) (e : Error) → OpensFile options path old new (Err e)
-    → OpensPath options path state old new (Err e)
-file_unopened options path state old new e h =
+    → IsUsable state old → OpensPath options path state old new (Err e)
+file_unopened options path state old new e h usable =
     open_refused (OpensFile options path) open_meaning (λ file. file.grant) state old new e h
-    (refused_keeps old.core.fault options path old new e h)
+    (refused_keeps old.core.fault options path old new e h) (refused_link old.core.fault options path old new e h)
+    usable
 
 pub file_opened : {L S : Type 0} (options : OpenOptions) (path : List ℕ) (state : L → LinkView S)
     (old started new : SftpValue L) (call : CallValue Opening) (result : Result FileValue Error) → IsUsable state old
@@ -180,9 +187,10 @@ file_opened options path state old started new call result usable starts h =
 
 dir_unopened_at : {L S : Type 0} (path : List ℕ) (state : L → LinkView S) (old new : SftpValue L) (e : Error)
     → OpensFrom path [] old.core new.core (Err e) → new ≡ with_core old new.core
-    → OpensDirectory path state old new (Err e)
-dir_unopened_at path state old new e h left =
+    → IsUsable state old → OpensDirectory path state old new (Err e)
+dir_unopened_at path state old new e h left usable =
     open_refused (OnCore (OpensFrom path [])) opening_dir (λ dir. dir) state old new e (h, left) h.keeps
+    (ap (λ (x : SftpValue _). x.link) left) usable
 
 dir_opened_at : {L S : Type 0} (path : List ℕ) (state : L → LinkView S) (old started new : SftpValue L)
     (call : CallValue OpeningDir) (result : Result GrantValue Error) → IsUsable state old
@@ -247,7 +255,7 @@ closed Ends P state old new core call result usable releases first h =
       runs = h;
       spares = spares;
       usable = usable_after state old new result usable spares.opened
-          (finish_unfaulted settle_meaning state old (with_core old core) new call result refl h);
+          (finish_faults settle_meaning state old (with_core old core) new call result refl h);
     }
 
 pub let_off : {L : Type 0} (Ends : Core → Core → CallValue Settling → Type 0) (P : ℕ → Type 0) (old new : SftpValue L)
@@ -293,10 +301,10 @@ held_inside old inside grant same held = subst (λ (x : SftpValue _). IsGrant x.
 
 pub dir_unopened : {L S : Type 0} (path : List ℕ) (state : L → LinkView S) (old inside new : SftpValue L) (e : Error)
     → inside ≡ old → OpensFrom path [] inside.core new.core (Err e) → new ≡ with_core inside new.core
-    → OpensDirectory path state old new (Err e)
-dir_unopened path state old inside new e same h left =
+    → IsUsable state old → OpensDirectory path state old new (Err e)
+dir_unopened path state old inside new e same h left usable =
     subst (λ (x : SftpValue _). OpensDirectory path state x new (Err e)) same
-    (dir_unopened_at path state inside new e h left)
+    (dir_unopened_at path state inside new e h left (usable_inside state old inside same usable))
 
 pub dir_opened : {L S : Type 0} (path : List ℕ) (state : L → LinkView S) (old inside started new : SftpValue L)
     (call : CallValue OpeningDir) (result : Result GrantValue Error) → IsUsable state old → inside ≡ old

@@ -21,7 +21,7 @@ use Rattle.sftp_fs.specs.Listings.{AsksReaddir, ListingAnswer, GivesAt, HearsOf,
 use Rattle.sftp_client.specs.Listed.{AwaitsEntry, HasListed, ListedIn, MayWaitFor, given_by}
 use Rattle.sftp_client.specs.Sessions.{SftpValue, with_core}
 use Rattle.sftp_client.specs.Waits.{ArePollRounds, RoundFails, SendsAndTakes}
-use Rattle.sftp_client.proofs.Waiting.{AwaitsOne, fail_stays, round_stays, round_takes, round_unfaulted, where_ok}
+use Rattle.sftp_client.proofs.Waiting.{AwaitsOne, fail_stays, round_stays, round_takes, faults_kept, round_unfaulted, stop_faults}
 
 -- a listing stays what it is over what keeps a core
 awaits_still : (old new : Core) (asked : Option ℕ) → KeepsHeld old new → IsAwaiting old asked → IsAwaiting new asked
@@ -188,7 +188,7 @@ lists_end state count old mid new p m q result w listed =
       held = left.may.listing;
       grants = grants_both old.core mid.core new.core w.grants left.grants;
       spares = entries_spare old.core mid.core new.core p m q w.spares left.spares;
-      unfaulted = where_ok result (ap (λ l. (state l).faults) left.link ∙ w.unfaulted);
+      faults = faults_kept result _ _ (ap (λ l. (state l).faults) left.link ∙ w.unfaulted);
     }
 
 -- or no round was left
@@ -204,7 +204,7 @@ lists_out state count old new p q w all =
       held = w.may.listing;
       grants = w.grants;
       spares = w.spares;
-      unfaulted = tt;
+      faults = w.unfaulted;
     }
 
 -- or a round went wrong
@@ -226,7 +226,8 @@ lists_stop state count old mid polled new p m q e w waits fails =
           left.grants) stays.grants;
       spares = spares_then old.core polled.core new.core (IsNoneAsked p.asked) (IsNoneAsked q.asked)
           (entries_spare old.core mid.core polled.core p m q w.spares left.spares) stays;
-      unfaulted = tt;
+      faults = stop_faults (Option NameEntry) state (state old.link).faults polled new e (ap (λ l. (state l).faults) left.link
+          ∙ w.unfaulted) fails;
     }
 
 pub lists_count : {L S : Type 0} (state : L → LinkView S) (count : ℕ) (old mid polled : SftpValue L)

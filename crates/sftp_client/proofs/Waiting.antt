@@ -27,6 +27,7 @@ use Rattle.sftp_file.proofs.Steps.{cancelled_keeps}
 use Rattle.sftp_client.specs.Sessions.{
   FlushesQueue,
   FlushesUnfailed,
+  IsCaused,
   IsKept,
   SendStops,
   SftpValue,
@@ -44,6 +45,7 @@ use Rattle.sftp_client.specs.Waits.{
   ArePollRounds,
   HasFinished,
   HasWaited,
+  KeepsFaults,
   MayWait,
   PolledIn,
   RoundFails,
@@ -315,9 +317,54 @@ waits_next s state count old mid polled new p m q w pending round =
       unfaulted = round_unfaulted state polled new round ∙ (ap (λ l. (state l).faults) left.link ∙ w.unfaulted);
     })
 
-pub where_ok : {V : Type 0} {P : Type 0} (result : Result V Error) → P → OnOk result P
-where_ok (Ok value) h = h
-where_ok (Err e) h = tt
+-- the count of faults is the same, whatever the result
+pub faults_kept : {V : Type 0} (result : Result V Error) (before now : ℕ) → now ≡ before
+    → KeepsFaults before now result
+faults_kept (Ok value) before now same = same
+faults_kept (Err error.LinkFault) before now same = tt
+faults_kept (Err other) before now same = same
+
+-- ---- the faults of the link after a round that went wrong
+
+kept_faults : {L S : Type 0} (V : Type 0) (state : L → LinkView S) (old new : SftpValue L) (e : Error) → IsKept old new e
+    → KeepsFaults {V = V} (state old.link).faults (state new.link).faults (Err e)
+kept_faults V state old new (error.BackgroundTaskFailure fault) kept =
+    ap (λ (x : SftpValue _). (state x.link).faults) kept.1
+kept_faults V state old new other kept = absurd kept
+
+caused_faults : {S : Type 0} (V : Type 0) (before now : LinkView S) (e : Error) → IsCaused before now e
+    → KeepsFaults {V = V} before.faults now.faults (Err e)
+caused_faults V before now error.LinkFault caused = tt
+caused_faults V before now other caused = caused.cause
+
+take_faults : {L S : Type 0} (V : Type 0) (state : L → LinkView S) (old new : SftpValue L) (e : Error)
+    → TakesOrKept state old new (Err e)
+    → KeepsFaults {V = V} (state old.link).faults (state new.link).faults (Err e)
+take_faults V state old new e (inl kept) = kept_faults V state old new e kept
+take_faults V state old new e (inr (none, inl stops)) = caused_faults V (state old.link) (state new.link) e stops.caused
+take_faults V state old new e (inr (none, inr (due, inl stops))) =
+    caused_faults V (state old.link) (state new.link) e stops.caused
+take_faults V state old new e (inr (none, inr (due, inr refuses))) =
+    caused_faults V (state old.link) (state new.link) e refuses.caused
+
+round_faults : {L S : Type 0} (V : Type 0) (state : L → LinkView S) (old new : SftpValue L) (e : Error)
+    → RoundFails state old new e
+    → KeepsFaults {V = V} (state old.link).faults (state new.link).faults (Err e)
+round_faults V state old new e (inl (inl kept)) = kept_faults V state old new e kept
+round_faults V state old new e (inl (inr (none, inl stops))) =
+    caused_faults V (state old.link) (state new.link) e stops.caused
+round_faults V state old new e (inl (inr (none, inr stops))) =
+    caused_faults V (state old.link) (state new.link) e stops.caused
+round_faults V state old new e (inr (mid, (sends, takes))) =
+    subst (λ (n : ℕ). KeepsFaults {V = V} n (state new.link).faults (Err e)) sends.1.unfaulted.cause
+    (take_faults V state mid new e takes)
+
+-- and before that round the count was that of the beginning
+pub stop_faults : {L S : Type 0} (V : Type 0) (state : L → LinkView S) (first : ℕ) (old new : SftpValue L) (e : Error)
+    → (state old.link).faults ≡ first → RoundFails state old new e
+    → KeepsFaults {V = V} first (state new.link).faults (Err e)
+stop_faults V state first old new e same fails =
+    subst (λ (n : ℕ). KeepsFaults {V = V} n (state new.link).faults (Err e)) same (round_faults V state old new e fails)
 
 -- the call answered
 pub waits_end : {W M V L S : Type 0} (s : Meaning W M V) (state : L → LinkView S) (count : ℕ)
@@ -338,7 +385,7 @@ waits_end s state count old mid new p m q result w polled =
       others = others_both old.core mid.core new.core p.stage m.stage q.stage w.others left.others;
       spares = spares_both old.core mid.core new.core (IsNoneOfCall p.stage) (IsNoneOfCall m.stage)
           (IsNoneOfCall q.stage) w.spares left.spares;
-      unfaulted = where_ok result (ap (λ l. (state l).faults) left.link ∙ w.unfaulted);
+      faults = faults_kept result _ _ (ap (λ l. (state l).faults) left.link ∙ w.unfaulted);
     }
 
 -- or no round was left
@@ -357,7 +404,7 @@ waits_out s state count old new p q w all =
       grants = w.grants;
       others = w.others;
       spares = w.spares;
-      unfaulted = tt;
+      faults = w.unfaulted;
     }
 
 -- or a round went wrong
@@ -365,7 +412,7 @@ pub waits_stop : {W M V L S : Type 0} (s : Meaning W M V) (state : L → LinkVie
     (old mid polled new : SftpValue L)
     (p m q : CallValue M) (e : Error) → WaitsOn s state count old mid p m → PolledIn s mid polled m q poll.Pending
     → RoundFails state polled new e → HasWaited s state old new p q (Err e)
-waits_stop s state count old mid polled new p m q e w pending fails =
+waits_stop {V = V} s state count old mid polled new p m q e w pending fails =
     let left = poll_leaves s mid polled m q poll.Pending w.may pending in
     let stays = fail_stays state polled new e left.opened fails in
     let on = still_under_way s polled.core new.core q stays (pending_on s mid polled m q pending) in
@@ -385,7 +432,8 @@ waits_stop s state count old mid polled new p m q e w pending fails =
           (spares_both old.core mid.core polled.core (IsNoneOfCall p.stage) (IsNoneOfCall m.stage)
           (IsNoneOfCall q.stage) w.spares left.spares)
           stays;
-      unfaulted = tt;
+      faults = stop_faults V state (state old.link).faults polled new e (ap (λ l. (state l).faults) left.link
+          ∙ w.unfaulted) fails;
     }
 
 pub waits_count : {W M V L S : Type 0} (s : Meaning W M V) (state : L → LinkView S) (count : ℕ)

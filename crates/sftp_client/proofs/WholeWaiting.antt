@@ -34,7 +34,7 @@ use Rattle.sftp_client.specs.WholeWaits.{
   MayWaitRead,
   ReadIn,
 }
-use Rattle.sftp_client.proofs.Waiting.{fail_stays, finished, round_stays, round_unfaulted, where_ok}
+use Rattle.sftp_client.proofs.Waiting.{fail_stays, finished, round_stays, faults_kept, round_unfaulted, stop_faults}
 
 -- what a poll leaves
 record ReadLeaves {L : Type 0} (old new : SftpValue L) (p q : FsReadValue) : Type 0 where
@@ -151,7 +151,7 @@ reads_end state count old mid new p m q result w polled =
       stops = inl polled;
       held = left.held;
       spares = reads_spare old.core mid.core new.core p m q w.spares left.spares;
-      unfaulted = where_ok result (ap (λ l. (state l).faults) left.link ∙ w.unfaulted);
+      faults = faults_kept result _ _ (ap (λ l. (state l).faults) left.link ∙ w.unfaulted);
     }
 
 -- or no round was left
@@ -166,7 +166,7 @@ reads_out state count old new p q w all =
       stops = inr (inr (all, (refl, (refl, refl))));
       held = w.may.held;
       spares = w.spares;
-      unfaulted = tt;
+      faults = w.unfaulted;
     }
 
 -- or a round went wrong
@@ -186,7 +186,8 @@ reads_stop state count old mid polled new p m q e w waits fails =
       held = read_still polled.core new.core q.stage stays left.held;
       spares = spares_then old.core polled.core new.core (IsNoneOfRead p.stage) (IsNoneOfRead q.stage)
           (reads_spare old.core mid.core polled.core p m q w.spares left.spares) stays;
-      unfaulted = tt;
+      faults = stop_faults Filled state (state old.link).faults polled new e (ap (λ l. (state l).faults) left.link
+          ∙ w.unfaulted) fails;
     }
 
 pub reads_count : {L S : Type 0} (state : L → LinkView S) (count : ℕ) (old mid polled : SftpValue L)

@@ -15,7 +15,7 @@ use Rattle.sftp_fs.proofs.OpenedWrites.{write_still}
 use Rattle.sftp_client.specs.Sessions.{SftpValue, with_core}
 use Rattle.sftp_client.specs.Waits.{RoundFails, SendsAndTakes}
 use Rattle.sftp_client.specs.WriteWaits.{AreWriteRounds, HasFinishedWrite, HasWaitedWrite, MayWaitWrite, WriteIn}
-use Rattle.sftp_client.proofs.Waiting.{fail_stays, round_stays, round_unfaulted, where_ok}
+use Rattle.sftp_client.proofs.Waiting.{fail_stays, round_stays, faults_kept, round_unfaulted, stop_faults}
 
 -- what a poll leaves
 record WriteLeaves {L : Type 0} (old new : SftpValue L) (p q : FsWriteValue) : Type 0 where
@@ -112,7 +112,7 @@ writes_end state count old mid new p m q result w polled =
       stops = inl polled;
       held = left.held;
       spares = writes_spare old.core mid.core new.core p m q w.spares left.spares;
-      unfaulted = where_ok result (ap (λ l. (state l).faults) left.link ∙ w.unfaulted);
+      faults = faults_kept result _ _ (ap (λ l. (state l).faults) left.link ∙ w.unfaulted);
     }
 
 -- or no round was left
@@ -127,7 +127,7 @@ writes_out state count old new p q w all =
       stops = inr (inr (all, (refl, (refl, refl))));
       held = w.may.held;
       spares = w.spares;
-      unfaulted = tt;
+      faults = w.unfaulted;
     }
 
 -- or a round went wrong
@@ -147,7 +147,8 @@ writes_stop state count old mid polled new p m q e w waits fails =
       held = write_still polled.core new.core q.stage stays left.held;
       spares = spares_then old.core polled.core new.core (IsNoneOfWrite p.stage) (IsNoneOfWrite q.stage)
           (writes_spare old.core mid.core polled.core p m q w.spares left.spares) stays;
-      unfaulted = tt;
+      faults = stop_faults (Unit {0}) state (state old.link).faults polled new e (ap (λ l. (state l).faults) left.link
+          ∙ w.unfaulted) fails;
     }
 
 pub writes_count : {L S : Type 0} (state : L → LinkView S) (count : ℕ) (old mid polled : SftpValue L)

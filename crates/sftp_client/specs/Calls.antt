@@ -72,14 +72,19 @@ abbrev pub RunsInOne : {L C V : Type 0} → (SftpValue L → SftpValue L → Res
 RunsInOne Starts Runs old new (Ok value) = StartsThenRuns Starts Runs old new (Ok value)
 RunsInOne Starts Runs old new (Err e) = Starts old new (Err e) ⊎ StartsThenRuns Starts Runs old new (Err e)
 
+-- The session may be used further, unless its link failed.
+abbrev pub IsUsableAfter : {L S V : Type 0} → (L → LinkView S) → SftpValue L → Result V Error → Type 0
+IsUsableAfter state new (Err error.LinkFault) = Unit {0}
+IsUsableAfter state new other = IsUsable state new
+
 -- A call was run in one. Whatever its result, the core still holds each ticket and each grant that it held, and the
--- session stays open. After a value the session may be used further.
+-- session stays open.
 pub record RunsCall {L S C V : Type 0} (Starts : SftpValue L → SftpValue L → Result C Error → Type 0)
     (Runs : SftpValue L → SftpValue L → C → Result V Error → Type 0) (state : L → LinkView S) (old new : SftpValue L)
     (result : Result V Error) : Type 0 where
   pub runs : RunsInOne Starts Runs old new result
   pub keeps : KeepsHeld old.core new.core
-  pub usable : OnOk result (IsUsable state new)
+  pub usable : IsUsableAfter state new result
 
 -- ---- On paths
 
@@ -131,7 +136,7 @@ pub record ClosesHandle {L S : Type 0} (Ends : Core → Core → CallValue Settl
   pub releases : Ends old.core core call
   pub runs : HasFinished settle_meaning state (with_core old core) new call result
   pub spares : SparesOthers old.core new.core IsTheirs (λ id. Unit {0})
-  pub usable : OnOk result (IsUsable state new)
+  pub usable : IsUsableAfter state new result
 
 -- It was closed without waiting: the CLOSE is queued, and its reply counts for nothing.
 pub record ReleasesHandle {L : Type 0} (Ends : Core → Core → CallValue Settling → Type 0) (IsTheirs : ℕ → Type 0)

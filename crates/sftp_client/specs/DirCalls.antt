@@ -1,5 +1,8 @@
 -- Directories that a session lists in one.
-use Rattle.std.specs.Prelude.{◌≡◌, ◌≢◌, ℕ, zero, suc, List, [], ◌∷◌, ◌++◌, None, Some, Ok}
+use Rattle.std.specs.Prelude.{◌≡◌, ◌≢◌, ◌⊎◌, ◌-◌, ◌^◌, ℕ, zero, suc, List, [], ◌∷◌, ◌++◌, Vec, None, Some, Result, Ok, Err}
+use Rattle.std.specs.declared.alloc.Global.{Global}
+use Rattle.sftp_model.specs.declared.error.Error.{Error}
+use Rattle.sftp_model.specs.declared.error.Error.TheVariants as error
 use Rattle.sftp_model.specs.declared.reply.NameEntry.{NameEntry}
 use Rattle.sftp_core.specs.Core.{Core}
 use Rattle.sftp_core.specs.Grant.{GrantValue}
@@ -8,7 +11,7 @@ use Rattle.plan_state.specs.Calls.{CallValue}
 use Rattle.sftp_file.specs.declared.short_calls.Settling.{Settling}
 use Rattle.sftp_fs.specs.Directories.{ClosesDir}
 use Rattle.sftp_fs.specs.Listings.{IsNoneAsked, ListingValue, fresh_listing, given_up}
-use Rattle.sftp_client.specs.Calls.{ClosesHandle, OpensDirectory}
+use Rattle.sftp_client.specs.Calls.{ClosesHandle, OpensDirectory, ReleasesHandle}
 use Rattle.sftp_client.specs.Listed.{HasListed}
 use Rattle.sftp_client.specs.Sessions.{SftpValue}
 
@@ -47,3 +50,48 @@ pub record ListsWhole {L S : Type 0} (path : List ℕ) (state : L → LinkView S
   pub opens : OpensDirectory path state old opened (Ok dir)
   pub lists : IsListedToEnd state opened listed (fresh_listing dir) after entries
   pub closes : ClosesHandle (ClosesListing after) (IsNoneOfListing after) state listed new (Ok tt)
+
+-- ---- Errors
+
+-- The reason why no further entry was returned: the listing failed; an allocation failed for an entry that came; or the
+-- greatest count of entries is reached.
+abbrev pub EntriesStop : {L S : Type 0} → (L → LinkView S) → ℕ → SftpValue L → SftpValue L → ListingValue → ListingValue
+    → Error → Type 0
+EntriesStop state count old new before after e = HasListed state old new before after (Err e)
+    ⊎ (((entry : NameEntry) × (HasListed state old new before after (Ok (Some entry)) × (e ≡ error.OutOfMemory)))
+    ⊎ ((count ≡ 2 ^ 64 - 1) × ((e ≡ error.OutOfMemory) × ((new ≡ old) × (after ≡ before)))))
+
+-- Some entries were returned, and then no further one.
+pub record StopsListing {L S : Type 0} (state : L → LinkView S) (old new : SftpValue L) (before after : ListingValue)
+    (e : Error) : Type 0 where
+  pub count : ℕ
+  pub mid : SftpValue L
+  pub listing : ListingValue
+  pub entries : List NameEntry
+  pub given : AreEntries state count old mid before listing entries
+  pub stops : EntriesStop state count mid new listing after e
+
+-- A listing stopped, and was released; or it was complete, and closing it failed.
+abbrev pub EndsListing : {L S : Type 0} → (L → LinkView S) → SftpValue L → SftpValue L → SftpValue L → GrantValue
+    → ListingValue → Error → Type 0
+EndsListing state opened listed new dir after e = (StopsListing state opened listed (fresh_listing dir) after e
+    × ReleasesHandle (ClosesListing after) (IsNoneOfListing after) listed new)
+    ⊎ ((entries : List NameEntry) × (IsListedToEnd state opened listed (fresh_listing dir) after entries
+    × ClosesHandle (ClosesListing after) (IsNoneOfListing after) state listed new (Err e)))
+
+-- A directory was opened, and not listed or not closed.
+pub record ListsInPart {L S : Type 0} (path : List ℕ) (state : L → LinkView S) (old new : SftpValue L) (e : Error) :
+    Type 0 where
+  pub opened : SftpValue L
+  pub listed : SftpValue L
+  pub dir : GrantValue
+  pub after : ListingValue
+  pub opens : OpensDirectory path state old opened (Ok dir)
+  pub ends : EndsListing state opened listed new dir after e
+
+-- The result of a directory that is listed in one: all its entries; or the error of its open, or of what came after it.
+abbrev pub ListsDirectory : {L S : Type 0} → List ℕ → (L → LinkView S) → SftpValue L → SftpValue L
+    → Result (Vec NameEntry Global) Error → Type 0
+ListsDirectory path state old new (Ok entries) = ListsWhole path state old new entries.items
+ListsDirectory path state old new (Err e) = OpensDirectory path state old new (Err e)
+    ⊎ ListsInPart path state old new e

@@ -1,5 +1,5 @@
 -- Entries of a directory that a session waits for.
-use Rattle.std.specs.Prelude.{◌≡◌, ◌⊎◌, ◌≤◌, ◌-◌, ◌^◌, ℕ, Option, Some, None, Result, Ok, Err, IsSome, OnOk}
+use Rattle.std.specs.Prelude.{◌≡◌, ◌⊎◌, ◌≤◌, ◌-◌, ◌^◌, ℕ, Option, Some, None, Result, Ok, Err, IsSome}
 use Rattle.sftp_model.specs.declared.error.Error.{Error}
 use Rattle.sftp_model.specs.declared.error.Error.TheVariants as error
 use Rattle.sftp_model.specs.declared.reply.NameEntry.{NameEntry}
@@ -10,7 +10,7 @@ use Rattle.plan_state.specs.Keeping.{KeepsGrants, SparesOthers}
 use Rattle.plan_state.specs.declared.poll.Poll.TheVariants.{Pending, Ready}
 use Rattle.sftp_fs.specs.Listings.{ListingAnswer, IsListing, IsNoneAsked, ListingValue, PollsEntries}
 use Rattle.sftp_client.specs.Sessions.{SftpValue, with_core}
-use Rattle.sftp_client.specs.Waits.{ArePollRounds, RoundFails}
+use Rattle.sftp_client.specs.Waits.{ArePollRounds, KeepsFaults, RoundFails}
 
 -- A listing may be waited for: the session is open, and counts what the listing holds.
 pub record MayWaitFor (core : Core) (p : ListingValue) : Type 0 where
@@ -54,4 +54,4 @@ pub record HasListed {L S : Type 0} (state : L → LinkView S) (old new : SftpVa
   pub held : IsListing new.core q
   pub grants : KeepsGrants old.core new.core
   pub spares : SparesOthers old.core new.core (IsNoneAsked p.asked) (IsNoneAsked q.asked)
-  pub unfaulted : OnOk result ((state new.link).faults ≡ (state old.link).faults)
+  pub faults : KeepsFaults (state old.link).faults (state new.link).faults result

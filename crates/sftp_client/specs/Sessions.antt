@@ -1,4 +1,4 @@
--- believed, except kept_by, SendsRest, IsWholeFrame, PullsFrame, TakesHere, RefusesHere, TakesPulled
+-- believed, except with_link, kept_by, SendsRest, IsWholeFrame, PullsFrame, TakesHere, RefusesHere, TakesPulled
 -- A session over a link, and the effects of its calls.
 use Rattle.std.specs.Prelude.{
   ◌≡◌,
@@ -51,6 +51,10 @@ pub record SftpValue (L : Type 0) : Type 0 where
 -- The session with another core, and otherwise as it was.
 abbrev pub with_core : {L : Type 0} → SftpValue L → Core → SftpValue L
 with_core s core = record s { core = core }
+
+-- The session with another link, and otherwise as it was.
+abbrev pub with_link : {L : Type 0} → SftpValue L → L → SftpValue L
+with_link s link = record s { link = link }
 
 -- ---- Bytes that move
 

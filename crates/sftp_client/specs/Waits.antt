@@ -95,9 +95,14 @@ abbrev pub WaitStops : {W M V L S : Type 0} → Meaning W M V → (L → LinkVie
 WaitStops s state count old new p q result = WaitEnds s state old new p q result
     ⊎ ((count ≡ 2 ^ 64 - 1) × ((result ≡ Err error.OutOfMemory) × ((new ≡ old) × (q ≡ p))))
 
+-- The link's count of faults is unchanged, unless the error is that of a link that failed.
+abbrev pub KeepsFaults : {V : Type 0} → ℕ → ℕ → Result V Error → Type 0
+KeepsFaults before now (Err error.LinkFault) = Unit {0}
+KeepsFaults before now other = now ≡ before
+
 -- A call was polled, and round after round the queue was sent and a frame taken, until it returned its result or a
 -- round failed. Then it may be run further or given up. The core holds what belongs to its value, each grant stays,
--- what others have is still theirs, and the session is open. The link did not fail if the call returned a value.
+-- what others have is still theirs, and the session is open.
 pub record HasWaited {W M V L S : Type 0} (s : Meaning W M V) (state : L → LinkView S) (old new : SftpValue L)
     (p q : CallValue M) (result : Result V Error) : Type 0 where
   pub count : ℕ
@@ -110,7 +115,7 @@ pub record HasWaited {W M V L S : Type 0} (s : Meaning W M V) (state : L → Lin
   pub grants : KeepsGrants old.core new.core
   pub others : KeepsOtherTickets old.core new.core p.stage q.stage
   pub spares : SparesOthers old.core new.core (IsNoneOfCall p.stage) (IsNoneOfCall q.stage)
-  pub unfaulted : OnOk result ((state new.link).faults ≡ (state old.link).faults)
+  pub faults : KeepsFaults (state old.link).faults (state new.link).faults result
 
 -- A call was run to its end and given up there, so that nothing is left of it. If it returned a value the core holds
 -- what belongs to that, and each grant stays. What others have stays in any case, and the session is open.

@@ -16,7 +16,6 @@ use Rattle.std.specs.Prelude.{
   Ok,
   Err,
   IsSome,
-  OnOk,
 }
 use Rattle.bytes.specs.Filled.{Filled}
 use Rattle.sftp_model.specs.declared.error.Error.{Error}
@@ -41,7 +40,7 @@ use Rattle.sftp_fs_read.specs.WholeReads.{
   is_over,
 }
 use Rattle.sftp_client.specs.Sessions.{SftpValue, with_core}
-use Rattle.sftp_client.specs.Waits.{HasFinished, HasWaited, MayWait, RoundFails, SendsAndTakes}
+use Rattle.sftp_client.specs.Waits.{HasFinished, HasWaited, KeepsFaults, MayWait, RoundFails, SendsAndTakes}
 
 -- ---- Copies
 
@@ -142,7 +141,7 @@ pub record HasWaitedRead {L S : Type 0} (state : L → LinkView S) (old new : Sf
   pub stops : ReadStops state count mid new call q result
   pub held : IsReadHeld new.core q.stage
   pub spares : SparesOthers old.core new.core (IsNoneOfRead p.stage) (IsNoneOfRead q.stage)
-  pub unfaulted : OnOk result ((state new.link).faults ≡ (state old.link).faults)
+  pub faults : KeepsFaults (state old.link).faults (state new.link).faults result
 
 -- The read was run to its end and given up there, so that nothing is left of it. What others have stays in any case,
 -- and the session is open.

@@ -1,5 +1,5 @@
 -- Whole writes that are run to their end over a session's link.
-use Rattle.std.specs.Prelude.{◌≡◌, ◌⊎◌, ◌≤◌, ◌-◌, ◌^◌, ℕ, zero, suc, false, Result, Ok, Err, IsSome, OnOk}
+use Rattle.std.specs.Prelude.{◌≡◌, ◌⊎◌, ◌≤◌, ◌-◌, ◌^◌, ℕ, zero, suc, false, Result, Ok, Err, IsSome}
 use Rattle.sftp_model.specs.declared.error.Error.{Error}
 use Rattle.sftp_model.specs.declared.error.Error.TheVariants as error
 use Rattle.sftp_core.specs.Core.{Core, kept_of}
@@ -17,7 +17,7 @@ use Rattle.sftp_fs.specs.WholeWrites.{
   is_over,
 }
 use Rattle.sftp_client.specs.Sessions.{SftpValue, with_core}
-use Rattle.sftp_client.specs.Waits.{RoundFails, SendsAndTakes}
+use Rattle.sftp_client.specs.Waits.{KeepsFaults, RoundFails, SendsAndTakes}
 
 -- The write can be run to its end: it has not returned its result, and the session is open.
 pub record MayWaitWrite (core : Core) (p : FsWriteValue) : Type 0 where
@@ -63,7 +63,7 @@ pub record HasWaitedWrite {L S : Type 0} (state : L → LinkView S) (old new : S
   pub stops : WriteStops state count mid new call q result
   pub held : IsWriteHeld new.core q.stage
   pub spares : SparesOthers old.core new.core (IsNoneOfWrite p.stage) (IsNoneOfWrite q.stage)
-  pub unfaulted : OnOk result ((state new.link).faults ≡ (state old.link).faults)
+  pub faults : KeepsFaults (state old.link).faults (state new.link).faults result
 
 -- The write was run to its end and given up there, so that nothing is left of it. What others have stays in any case,
 -- and the session is open.

@@ -11,7 +11,7 @@ ghost use Rattle.sftp_file.specs.Files.{facts_of};
 ghost use Rattle.sftp_model.specs.Numbers.{COPY_DATA, EXPAND_PATH, FSYNC, HARDLINK, POSIX_RENAME};
 ghost use Rattle.sftp_model.specs.OpenOptions.{nothing_chosen};
 ghost use Rattle.sftp_client.specs.Rounds.{ClosesSession, DrainsReplies, ExchangeEnds, OpenEnds, OpensSftp, fresh_sftp};
-ghost use Rattle.sftp_client.specs.Sessions.{FlushesQueue, FlushesUnfailed, IsWholeFrame, PullsFrame, SendsRest, TakesOrKept, TakesPulled, TakesUnfailed, TakesWhole, fault_by, kept_after, with_core};
+ghost use Rattle.sftp_client.specs.Sessions.{FlushesQueue, FlushesUnfailed, IsWholeFrame, PullsFrame, SendsRest, TakesOrKept, TakesPulled, TakesUnfailed, TakesWhole, fault_by, kept_after, with_core, with_link};
 ghost use Rattle.sftp_client.specs.Waits.{IsReadyOr};
 
 mod calls;
@@ -129,6 +129,15 @@ impl<L: Link> Sftp<L> {
         ensures { result.now ≡ self.now.link }
     {
         &self.link
+    }
+
+    /// Returns the link, for example to flush the bytes that it holds back. The session then has the link as the caller
+    /// leaves it, and nothing else changes.
+    pub fn link_mut(&mut self) -> &mut L
+        ensures value { result.now ≡ self.old.link }
+        ensures* writes_back { sem 𝓛 (Lends (the_row L.row) L.row self.entry result (with_link self.old)) }
+    {
+        &mut self.link
     }
 
     /// Sends all that is queued, in order, after the bytes that an earlier call left unsent.

@@ -1,13 +1,13 @@
 -- Replies are heard one after another.
 use Rattle.std.proofs.Common.{◌≡◌, ◌≢◌, ◌∙◌, refl, sym, ap, subst, ℕ, List, [], ◌∷◌, ◌++◌, Option, Some, None}
+use Rattle.std.specs.List.{zip}
 use Rattle.std.proofs.lemmas.List.{append_assoc}
 use Rattle.sftp_model.specs.declared.answers.Expected.TheVariants as expected
+use Rattle.sftp_model.specs.declared.error.Error.{Error}
 use Rattle.sftp_model.specs.declared.reply.Reply.{Reply}
-use Rattle.sftp_model.specs.declared.slot.Facts.{Facts}
-use Rattle.sftp_model.specs.declared.slot.Site.{Site}
-use Rattle.plan_model.specs.Moves.{Answers, Own}
-use Rattle.plan_window.specs.Windows.{Window, answered_more, first_of, window_plan}
-use Rattle.plan_window.specs.declared.window.Answered.{Answered}
+use Rattle.sftp_model.specs.declared.reply.Reply.TheVariants as reply
+use Rattle.plan_model.specs.Moves.{Answers}
+use Rattle.plan_window.specs.Windows.{answered_more, first_of, window_plan}
 use Rattle.plan_window.specs.declared.window.ReadAt.{ReadAt}
 use Rattle.plan_window.proofs.PlanLaws.{after_reply}
 use Rattle.sftp_core.specs.Core.{Core, after_poll, record_at, reply_in}
@@ -20,10 +20,10 @@ use Rattle.plan_state.proofs.Keeping.{grants_both, keeps_same}
 use Rattle.plan_state.proofs.OthersKept.{polled_keeps_grants}
 use Rattle.plan_state.proofs.Sparing.{spares_both, spares_kept}
 use Rattle.sftp_fs.proofs.OpenedWrites.{ready_polled}
-use Rattle.sftp_fs_read.specs.Hearing.{TakesReplies}
-use Rattle.sftp_fs_read.specs.Reads.{ReadsValue}
-use Rattle.sftp_fs_read.specs.Tickets.{AreUnderWay, IsNoneOf, TellsReads, polled_all}
-use Rattle.sftp_fs_read.proofs.TicketLaws.{heard_spares, others_under_way, polled_last}
+use Rattle.sftp_fs_read.specs.Hearing.{IsOverFor, TakesReplies}
+use Rattle.sftp_fs_read.specs.Reads.{EndsBy, IsWhyOver, ReadsValue, refusal_of}
+use Rattle.sftp_fs_read.specs.Tickets.{AreUnderWay, IsNoneOf, TellsReads}
+use Rattle.sftp_fs_read.proofs.TicketLaws.{heard_spares, others_under_way, taken_last}
 
 pub hears_none : (core : Core) (s : ReadsValue) (tickets : List ℕ) → AreUnderWay core s.window.waiting tickets
     → IsReady core
@@ -42,7 +42,7 @@ hears_none core s tickets h ready =
     }
 
 -- the first READ is under way under the first ticket
-first_there : (core : Core) (waiting : List ReadAt) (ticket : ℕ) (left : List ℕ)
+pub first_there : (core : Core) (waiting : List ReadAt) (ticket : ℕ) (left : List ℕ)
     → AreUnderWay core waiting (ticket ∷ left)
     → (r : ReadAt) × (rest : List ReadAt) × (waiting ≡ r ∷ rest)
 first_there core [] ticket left h = absurd h
@@ -73,6 +73,14 @@ tells_others core ticket answers (r ∷ rest) (other ∷ later) apart h = (
   tells_others core ticket answers rest later apart.1 h.1,
 )
 
+-- the first READ is one of those that are done
+pub split_first : (done all : List (ℕ × ReadAt)) (ticket : ℕ) (r : ReadAt) (left : List ℕ) (waiting rest : List ReadAt)
+    → waiting ≡ r ∷ rest → all ≡ done ++ zip (ticket ∷ left) waiting
+    → all ≡ (done ++ (ticket, r) ∷ []) ++ zip left rest
+split_first done all ticket r left waiting rest is split =
+    split ∙ (ap (λ (l : List ReadAt). done ++ zip (ticket ∷ left) l) is
+    ∙ sym (append_assoc done ((ticket, r) ∷ []) (zip left rest)))
+
 -- one reply more
 pub hears_more : (old core new : Core) (s now next : ReadsValue) (tickets : List ℕ) (ticket : ℕ) (left : List ℕ)
     (y : Reply)
@@ -90,9 +98,10 @@ hears_more old core new s now next tickets ticket left y h came is polled =
     there.2 in
     let first : first_of now.window.waiting ≡ Some r = ap (λ (l : List ReadAt). first_of l) there.2 in
     record {
-      done = h.done ++ ticket ∷ [];
-      split = h.split ∙ sym (append_assoc h.done (ticket ∷ []) left);
-      core = polled ∙ (ap (λ (c : Core). after_poll c ticket) h.core ∙ sym (polled_last old h.done ticket));
+      done = h.done ++ (ticket, r) ∷ [];
+      split = split_first h.done (zip tickets s.window.waiting) ticket r left now.window.waiting rest there.2 h.split
+          ∙ ap (λ (l : List ReadAt). (h.done ++ (ticket, r) ∷ []) ++ zip left l) (sym waits);
+      core = taken_last old core new h.done ticket r h.core polled;
       rest = is ∙ ((λ i. record (h.rest i) { window = answered_more now.window y })
           ∙ (λ i. record s { window = (sym (ap (λ (x : ReadsValue). x.window) is)) i }));
       under_way = subst (λ (c : Core). AreUnderWay c next.window.waiting left) (sym polled)
@@ -116,3 +125,20 @@ hears_more old core new s now next tickets ticket left y h came is polled =
                 ∙ ap (λ (x : ReadsValue). window_plan s.handle None x.window site s.facts later answers) (sym is)),
           ));
     }
+
+-- ---- a refusal
+
+pub over_for : (core : Core) (s : ReadsValue) (ticket : ℕ) (y : Reply) (e : Error)
+    → reply_in (record_at core ticket) ≡ Some y → IsWhyOver s y e → IsOverFor core s ticket e
+over_for core s ticket y e came why =
+    subst (IsOverFor core s ticket) (sym why.0) (by_reply y came (subst (EndsBy s y) why.0 why.1))
+  where
+    by_reply : (y : Reply) → reply_in (record_at core ticket) ≡ Some y → EndsBy s y (refusal_of y)
+        → IsOverFor core s ticket (refusal_of y)
+    by_reply (reply.Status code message language) came ends = (reply.Status code message language, (came, ends))
+    by_reply (reply.Version version extensions) came ends = (reply.Version version extensions, (came, ends))
+    by_reply (reply.Handle handle) came ends = (reply.Handle handle, (came, ends))
+    by_reply (reply.Content bytes) came ends = (reply.Content bytes, (came, ends))
+    by_reply (reply.Names names) came ends = (reply.Names names, (came, ends))
+    by_reply (reply.Attrs attrs) came ends = (reply.Attrs attrs, (came, ends))
+    by_reply (reply.Extended content) came ends = (reply.Extended content, (came, ends))

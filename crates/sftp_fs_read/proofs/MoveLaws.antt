@@ -1,117 +1,26 @@
 -- What the window of a whole read asks and awaits next.
-use Rattle.std.proofs.Common.{
-  ◌≡◌,
-  ◌≢◌,
-  ◌∙◌,
-  ◌<◌,
-  ◌≤◌,
-  ◌+◌,
-  ◌-◌,
-  ◌^◌,
-  refl,
-  sym,
-  ap,
-  subst,
-  arith,
-  ℕ,
-  Bool,
-  true,
-  false,
-  List,
-  [],
-  ◌∷◌,
-  ◌++◌,
-  length,
-  suc,
-  Option,
-  Some,
-  None,
-  inl,
-  inr,
-  if◌then◌else◌,
-}
-use Rattle.std.specs.Prelude.{◌⊎◌, ◌||◌, map, nat_lt, IfSome, slice_get}
+use Rattle.std.proofs.Common.{◌≡◌, ◌≢◌, ◌∙◌, ◌≤◌, refl, sym, subst, arith, ℕ, Bool, true, false, List, [], ◌∷◌, length, Option, Some, None, inl, inr, if◌then◌else◌}
+use Rattle.std.specs.Prelude.{◌⊎◌, map, nat_lt, IsSome}
 use Rattle.std.proofs.lemmas.Bool.Decides.{nat_tests}
-use Rattle.std.proofs.lemmas.Bool.{cases_eq, cases_lt}
-use Rattle.std.proofs.lemmas.List.{append-nil, append_assoc, get_or_append_left, length-append, map-append}
-use Rattle.std.proofs.lemmas.Option.{slice_get-get_or, slice_get_past, slice_get_within}
-use Rattle.std.proofs.Math.ListN.{get_or}
-use Rattle.std.proofs.Math.Seq.{get_or-append_seam}
-use Rattle.sftp_model.specs.Answers.{MayAnswer, allows_reply, is_end_of_file}
-use Rattle.sftp_model.specs.declared.answers.Expected.TheVariants as expected
-use Rattle.sftp_model.specs.declared.error.Error.{Error}
+use Rattle.std.proofs.lemmas.List.{length-map}
 use Rattle.sftp_model.specs.declared.reply.Reply.{Reply}
-use Rattle.sftp_model.specs.declared.reply.Reply.TheVariants as reply
 use Rattle.sftp_model.specs.declared.request.Request.{Request}
-use Rattle.sftp_model.specs.declared.request.Request.TheVariants as request
 use Rattle.sftp_model.specs.declared.slot.Facts.{Facts}
 use Rattle.sftp_model.specs.declared.slot.Move.{Move}
-use Rattle.sftp_model.specs.declared.slot.Move.TheVariants.{Ask, Done, Wait}
+use Rattle.sftp_model.specs.declared.slot.Move.TheVariants.{Done, Wait}
 use Rattle.sftp_model.specs.declared.outcome.Outcome.{Outcome}
 use Rattle.sftp_model.specs.declared.outcome.Outcome.TheVariants as outcome
 use Rattle.sftp_model.specs.declared.slot.Site.{Site}
-use Rattle.plan_model.specs.FilePlans.{open_request}
-use Rattle.plan_model.specs.GoodMoves.{FitsFacts, ReadsWithin}
-use Rattle.plan_model.specs.Moves.{Answers, Own, Plan, refusal_move}
-use Rattle.plan_model.specs.OwnRequests.{AreAsked, ExtendsAnswers, MayBeAnswered, oldest_first}
-use Rattle.plan_model.specs.WindowPlans.{
-  ask_more,
-  await_first,
-  brings_content,
-  contents,
-  ends_or,
-  first_refusal,
-  fs_read_next,
-  gaps,
-  go_on,
-  least,
-  least_end,
-  reaches,
-  to_read,
-  unless_refused,
-  whole_content,
-}
-use Rattle.plan_model.specs.PathPlans.{from_directory}
+use Rattle.plan_model.specs.GoodMoves.{ReadsWithin}
+use Rattle.plan_model.specs.Moves.{Own}
+use Rattle.plan_model.specs.WindowPlans.{ask_more, await_first, contents, ends_or, first_refusal, gaps, go_on, least, least_end, reaches, unless_refused, whole_content}
 use Rattle.plan_model.proofs.AskedReads.{whole_range}
 use Rattle.plan_state.specs.Calls.{IsUnfinished}
-use Rattle.sftp_file.proofs.BodyLens.{long_by_path}
-use Rattle.plan_window.specs.Windows.{
-  AsksInRange,
-  FitsRead,
-  IsSound,
-  Window,
-  answered_more,
-  as_request,
-  asked_more,
-  empty_window,
-  first_of,
-  move_by,
-  reads_of,
-  replies_of,
-  under_way,
-  window_move,
-  window_plan,
-}
+use Rattle.plan_window.specs.Windows.{AsksInRange, Window, as_request, first_of, move_by, reads_of, replies_of, under_way, window_move}
 use Rattle.plan_window.specs.declared.next_move.WindowMove.{WindowMove}
 use Rattle.plan_window.specs.declared.next_move.WindowMove.TheVariants as step
-use Rattle.plan_window.specs.declared.window.Answered.{Answered}
 use Rattle.plan_window.specs.declared.window.ReadAt.{ReadAt}
-use Rattle.plan_window.proofs.PlanLaws.{after_asking, after_refusal, after_reply, move_missing, none_under_way, while_missing}
-use Rattle.sftp_fs_read.specs.Reads.{
-  AreBelow,
-  AreNumbered,
-  AreRead,
-  AreThere,
-  EndsBy,
-  IsOnlyAt,
-  IsWhyOver,
-  ReadsValue,
-  any_read,
-  anywhere,
-  no_reads,
-  refusal_of,
-  replies_of_window,
-}
+use Rattle.sftp_fs_read.specs.Reads.{AreRead, ReadsValue, anywhere, refusal_of, replies_of_window}
 use Rattle.sftp_fs_read.proofs.ReadsLaws.{any_moves, refused_as}
 
 -- ---- a bound that is not reached changes nothing
@@ -277,3 +186,32 @@ waits_none handle w site facts place none is =
         never (least (gaps (reads_of handle v) (replies_of v) [])) (least_end (replies_of v))
         (nat_lt 0 facts.read_window)
         (sym (goes (going handle None v site facts)) ∙ e)
+
+-- and only if no further READ may be asked
+pub waits_full : (handle : List ℕ) (w : Window) (site : Site) (facts : Facts) (place : ℕ)
+    → window_move handle None w site facts ≡ Wait place
+    → (facts.read_window ≤ length w.waiting) ⊎ IsSome (least_end (replies_of w))
+waits_full handle w site facts place is = by_part (goes_or handle w site)
+  where
+    long : length (under_way handle w) ≡ length w.waiting
+    long = length-map w.waiting (as_request handle)
+
+    full : (gap end : Option ℕ) (room : Bool) → nat_lt (length (under_way handle w)) facts.read_window ≡ room
+        → least_end (replies_of w) ≡ end
+        → (if room then ask_more handle (reads_of handle w) (replies_of w) (under_way handle w) site facts gap end else
+        await_first (under_way handle w) site) ≡ Wait place
+        → (facts.read_window ≤ length w.waiting) ⊎ IsSome (least_end (replies_of w))
+    full (Some p) end true at known e = absurd cc
+    full None None true at known e = absurd cc
+    full None (Some end) true at known e = inr (subst IsSome (sym known) refl)
+    full gap end false at known e = inl (grind (arith, nat_tests, at, long))
+
+    by_part : (((o : Outcome) × ((go : Move) → before_going handle w site go ≡ Done o site))
+        ⊎ ((go : Move) → before_going handle w site go ≡ go))
+        → (facts.read_window ≤ length w.waiting) ⊎ IsSome (least_end (replies_of w))
+    by_part (inl same) =
+        (let clash : Done same.0 site ≡ Wait place = sym (same.1 (going handle None w site facts)) ∙ is in absurd cc)
+    by_part (inr goes) =
+        full (least (gaps (reads_of handle w) (replies_of w) (under_way handle w))) (least_end (replies_of w))
+        (nat_lt (length (under_way handle w)) facts.read_window) refl refl
+        (sym (goes (going handle None w site facts)) ∙ is)

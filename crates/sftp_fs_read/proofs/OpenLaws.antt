@@ -1,9 +1,9 @@
 -- How whole reads begin, and go on behind their OPEN.
-use Rattle.std.proofs.Common.{◌≡◌, ◌≢◌, ◌∙◌, refl, sym, ap, subst, ℕ, true, false, List, [], ◌∷◌, Option, Some, None, Result, Ok, Err, inl, inr}
+use Rattle.std.proofs.Common.{◌≡◌, ◌≢◌, ◌∙◌, refl, sym, ap, subst, ℕ, true, false, List, [], Option, Some, None, Result, Ok, Err, inl, inr}
 use Rattle.std.specs.Prelude.{IsTrue}
+use Rattle.std.specs.List.{zip}
 use Rattle.std.specs.Global.{Global}
 use Rattle.std.specs.declared.collections.VecDeque.{VecDeque}
-use Rattle.bytes.specs.Filled.{Filled}
 use Rattle.sftp_model.specs.Paths.{joined_path}
 use Rattle.sftp_model.specs.declared.error.Error.{Error}
 use Rattle.sftp_model.specs.declared.error.Error.TheVariants as error
@@ -17,7 +17,8 @@ use Rattle.plan_model.specs.GoodMoves.{FitsFacts}
 use Rattle.plan_model.specs.Moves.{Answers, Own, Plan, ask_path}
 use Rattle.plan_model.specs.WindowPlans.{fs_read_next, to_read}
 use Rattle.plan_window.specs.Windows.{empty_window, window_move, window_plan}
-use Rattle.sftp_core.specs.Core.{Core, after_poll, record_at, is_ticket, poll_leaves, reply_in}
+use Rattle.plan_window.specs.declared.window.ReadAt.{ReadAt}
+use Rattle.sftp_core.specs.Core.{Core, record_at, is_ticket, poll_leaves, reply_in}
 use Rattle.sftp_core.specs.declared.id_record.IdRecord.{IdRecord}
 use Rattle.sftp_core.specs.declared.id_record.IdRecord.TheVariants as places
 use Rattle.sftp_core.specs.Grant.{GrantValue}
@@ -46,7 +47,7 @@ use Rattle.plan_state.specs.Calls.{
 use Rattle.plan_state.proofs.Grants.{ended_brings}
 use Rattle.plan_state.proofs.Sparing.{given_spares, spares_as, spares_both, spares_from, spares_same, stepped_spares}
 use Rattle.sftp_file.specs.Files.{facts_of}
-use Rattle.sftp_fs.specs.Directories.{WithHandle, granted_left}
+use Rattle.sftp_fs.specs.Directories.{WithHandle}
 use Rattle.sftp_fs.specs.Grants.{grant_meaning}
 use Rattle.sftp_fs.specs.WholeWrites.{closed_if}
 use Rattle.sftp_fs.specs.PathStarts.{AsksFirst, FirstAsks}
@@ -54,7 +55,7 @@ use Rattle.sftp_fs.specs.declared.grants.Granting.{Granting}
 use Rattle.sftp_fs.proofs.CallSteps.{ended_leaves}
 use Rattle.sftp_fs.proofs.WriteOpens.{granted_goes, granted_same, left_later, left_now, still}
 use Rattle.sftp_fs_read.specs.Reads.{ReadsValue, no_reads}
-use Rattle.sftp_fs_read.specs.Tickets.{IsNoneOf}
+use Rattle.sftp_fs_read.specs.Tickets.{IsNoneOf, TellsReads}
 use Rattle.sftp_fs_read.specs.WholeReads.{
   DecidesNextMove,
   IsReadOver,
@@ -70,6 +71,7 @@ use Rattle.sftp_fs_read.specs.WholeReads.{
 use Rattle.sftp_fs_read.specs.declared.fs_read.Whole.{Whole}
 use Rattle.sftp_fs_read.specs.declared.fs_read.Whole.TheVariants as whole
 use Rattle.sftp_fs_read.proofs.ReadsLaws.{moves_now}
+use Rattle.sftp_fs_read.proofs.FsReadLaws.{facts_from}
 
 abbrev Deque : Type 0
 Deque = VecDeque ℕ Global
@@ -182,6 +184,8 @@ open_wrote facts old new call next Pending site plan answers held h on over left
       unfailed = subst (λ (c : Core). c.fault ≡ None) same s.unfailed;
       core = s.core ∙ same;
       left = subst (λ (x : CallValue Granting). IsLeft grant_meaning w plan answers x) (sym s.same) left;
+      reads = refl;
+      full = tt;
     })
 open_wrote facts old new call next (Ready (Err error.OutOfMemory)) site plan answers held h on over left tells =
     went (h.polled (reads_by_window site facts answers) plan answers left tells)
@@ -192,7 +196,7 @@ open_wrote facts old new call next (Ready (Err error.OutOfMemory)) site plan ans
         (whole.Opening next facts) []
         (Ready (Err error.OutOfMemory))
     went (inl w) = absurd (let clash : ◌≡◌ {A = Opened} (Ready (Err error.OutOfMemory)) Pending = w.pending in cc)
-    went (inr w) = inl (w.0, w.1, refl)
+    went (inr w) = record { core = w.1; left = w.0; tells = w.2; reads = refl }
 open_wrote facts old new call next (Ready (Ok grant)) site plan answers held h on over left tells =
     absurd (let clash : true ≡ false = sym over ∙ on in cc)
 open_wrote facts old new call next (Ready (Err e)) site plan answers held h on over left tells =
@@ -201,7 +205,7 @@ open_wrote facts old new call next (Ready (Err e)) site plan answers held h on o
 open_over : (s : Stage) (next : CallValue Granting) (facts : Facts) (told : Opened) → is_ended s ≡ false
     → IsOver s told → IsReadOver (whole.Opening next facts) (read_answer_of told)
 open_over s next facts Pending on over = refl
-open_over s next facts (Ready (Err error.OutOfMemory)) on over = tt
+open_over s next facts (Ready (Err error.OutOfMemory)) on over = refl
 open_over s next facts (Ready (Ok grant)) on over = absurd (let clash : true ≡ false = sym over ∙ on in cc)
 open_over s next facts (Ready (Err e)) on over = absurd (let clash : true ≡ false = sym over ∙ on in cc)
 
@@ -223,6 +227,7 @@ open_on facts old new call next told held fits h on =
       );
       held = (record { over = on; held = h.held }, fits);
       over = open_over next.stage next facts told on h.over;
+      facts = refl;
       spares = stepped_spares grant_meaning old new call next told h;
     }
 
@@ -249,7 +254,7 @@ open_failed facts old mid call next e site plan answers ended over none (inr h) 
 
 failed_over : (s : Stage) (e : Error) → is_ended s ≡ true → IsOver {V = GrantValue} s (Ready (Err e))
     → IsReadOver whole.Ended (Ready (Err e))
-failed_over s error.OutOfMemory ended over = tt
+failed_over s error.OutOfMemory ended over = absurd (let clash : true ≡ false = sym ended ∙ over in cc)
 failed_over s e ended over = refl
 
 pub open_end : (facts : Facts) (old mid new : Core) (call next : CallValue Granting) (e : Error)
@@ -275,6 +280,7 @@ open_end facts old mid new call next e h ended left =
       );
       held = tt;
       over = failed_over next.stage e ended h.over;
+      facts = tt;
       spares = spares_same old mid new (IsNoneOfCall call.stage) (λ id. Unit {0}) (sym same)
           (spares_as old mid (IsNoneOfCall call.stage) (IsNoneOfCall next.stage) (λ id. Unit {0}) (λ id x. tt)
           (stepped_spares grant_meaning old mid call next (Ready (Err e)) h));
@@ -288,7 +294,7 @@ pub open_begun : (facts : Facts) (old mid late new : Core) (call next : CallValu
     → StepsByPlan grant_meaning old mid call next (Ready (Ok grant)) → is_ended next.stage ≡ true → late
     ≡ core_after_cancel mid next.stage
     → reads ≡ no_reads facts grant.handle → tickets.items ≡ []
-    → DecidesNextMove late new (whole.Open grant reads tickets) q tickets.items result
+    → DecidesNextMove late new (whole.Open grant reads tickets) q result
     → ReadOn old new (whole.Opening call facts) q result
 open_begun facts old mid late new call next grant reads tickets q result held h ended left is none d =
     record {
@@ -309,19 +315,25 @@ open_begun facts old mid late new call next grant reads tickets q result held h 
           in
           let untold : plan [] answers ≡ window_move reads.handle None reads.window site reads.facts =
           goes [] ∙ (moves_now grant.handle empty_window site facts answers (λ r first. absurd cc)
-          ∙ ap (λ (x : ReadsValue). window_move x.handle None x.window site x.facts) (sym is)) in (
+          ∙ ap (λ (x : ReadsValue). window_move x.handle None x.window site x.facts) (sym is)) in
+          let tells : TellsReads late answers reads.window.waiting tickets.items =
+          subst (λ (l : List ℕ). TellsReads late answers reads.window.waiting l) (sym none)
+          (subst (λ (x : ReadsValue). TellsReads late answers x.window.waiting []) (sym is) tt) in
+          let rest : List (ℕ × ReadAt) = zip tickets.items reads.window.waiting in (
             late,
             (
-              tickets.items,
+              rest,
               (
-                (same, none),
-                subst (λ (o : Option GrantValue). ReadBy site plan answers late new o q tickets.items result) h.brings
-                    (d.polled site plan answers stands untold),
+                (same, ap (λ (l : List ℕ). zip l reads.window.waiting) none),
+                subst (λ (o : Option GrantValue). ReadBy site plan answers late new o q rest result) h.brings
+                    (d.polled site plan answers stands tells untold),
               ),
             ),
           ));
       held = d.held;
       over = d.over;
+      facts = facts_from (whole.Open grant reads tickets) (whole.Opening call facts) q
+          (ap (λ (x : ReadsValue). Some x.facts) is) d.facts;
       spares = spares_both old late new (IsNoneOfCall call.stage) (λ id. id ≢ grant.id) (IsNoneOfRead q)
           (spares_same old mid late (IsNoneOfCall call.stage) (λ id. id ≢ grant.id)
           (left ∙ ended_leaves mid next.stage ended)

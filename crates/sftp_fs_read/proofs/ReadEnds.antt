@@ -1,7 +1,7 @@
 -- How whole reads continue after a reply, end, and are given up.
-use Rattle.std.proofs.Common.{◌≡◌, ◌≢◌, ◌∙◌, refl, sym, ap, subst, ℕ, List, [], ◌∷◌, ◌++◌, Option, Some, None, Err, inr}
+use Rattle.std.proofs.Common.{◌≡◌, ◌≢◌, ◌∙◌, refl, sym, ap, subst, ℕ, List, [], ◌∷◌, ◌++◌, Option, Some, None, Err}
 use Rattle.std.specs.Prelude.{IsTrue}
-use Rattle.std.proofs.lemmas.List.{append_assoc}
+use Rattle.std.specs.List.{zip}
 use Rattle.sftp_model.specs.declared.error.Error.{Error}
 use Rattle.sftp_model.specs.declared.error.Error.TheVariants as error
 use Rattle.sftp_model.specs.declared.error.Fault.{Fault}
@@ -28,9 +28,10 @@ use Rattle.sftp_fs.specs.WholeWrites.{IsOwned, core_after_close}
 use Rattle.sftp_fs.specs.declared.grants.Granting.{Granting}
 use Rattle.sftp_fs_read.specs.Hearing.{TakesReplies, IsFirstMissing, IsOverFor}
 use Rattle.sftp_fs_read.specs.Reads.{ReadsValue}
-use Rattle.sftp_fs_read.specs.Tickets.{AreTickets, IsNoneOf, TellsReads, core_without_tickets}
+use Rattle.sftp_fs_read.specs.Tickets.{AreTickets, AreUnderWay, IsNoneOf, TellsReads, core_without_tickets}
 use Rattle.sftp_fs_read.specs.WholeReads.{
   CancelsRead,
+  ClosesRead,
   DecidesNextMove,
   IsNoneOfRead,
   IsReadHeld,
@@ -42,8 +43,9 @@ use Rattle.sftp_fs_read.specs.WholeReads.{
 use Rattle.sftp_fs_read.specs.declared.fs_read.Whole.{Whole}
 use Rattle.sftp_fs_read.specs.declared.fs_read.Whole.TheVariants as whole
 use Rattle.sftp_fs_read.proofs.ReadsLaws.{moves_now}
-use Rattle.sftp_fs_read.proofs.TicketLaws.{heard_spares, keeps_reads, polled_last, read_tickets}
-use Rattle.sftp_fs_read.proofs.FsReadLaws.{Deque, Apart, finished_spares, dropped_spares}
+use Rattle.sftp_fs_read.proofs.TicketLaws.{heard_spares, keeps_reads, read_tickets, taken_last, tickets_zip}
+use Rattle.sftp_fs_read.proofs.HearLaws.{first_there, split_first}
+use Rattle.sftp_fs_read.proofs.FsReadLaws.{Deque, Apart, dropped_spares, facts_from, finished_spares}
 
 -- ---- behind the replies that came
 
@@ -58,7 +60,7 @@ first_untold core answers (q ∷ rest) (ticket ∷ later) tells missing r is =
 pub heard_on : (old mid new : Core) (grant : GrantValue) (reads now : ReadsValue) (tickets left : Deque) (q : Whole)
     (result : ReadAnswer)
     → TakesReplies old mid reads now tickets.items left.items → IsFirstMissing mid left.items
-    → DecidesNextMove mid new (whole.Open grant now left) q left.items result
+    → DecidesNextMove mid new (whole.Open grant now left) q result
     → ReadOn old new (whole.Open grant reads tickets) q result
 heard_on old mid new grant reads now tickets left q result h missing d =
     record {
@@ -73,15 +75,17 @@ heard_on old mid new grant reads now tickets left q result h missing d =
           (first_untold mid answers now.window.waiting left.items g.0 missing) in (
             mid,
             (
-              left.items,
+              zip left.items now.window.waiting,
               (
                 (h.done, (h.split, h.core)),
-                d.polled site plan answers goes untold,
+                d.polled site plan answers goes g.0 untold,
               ),
             ),
           ));
       held = d.held;
       over = d.over;
+      facts = facts_from (whole.Open grant now left) (whole.Open grant reads tickets) q
+          (ap (λ (x : ReadsValue). Some x.facts) h.rest) d.facts;
       spares = spares_both old mid new (Apart grant tickets.items) (Apart grant left.items) (IsNoneOfRead q)
           (spares_also old mid (λ id. id ≢ grant.id) (λ id. IsNoneOf id tickets.items) (λ id. IsNoneOf id left.items)
           h.spares) d.spares;
@@ -154,19 +158,18 @@ only_first answers waiting r is none q at =
     let same : r ≡ q = (let e : (let p : Option ReadAt = Some r in p) ≡ Some q = sym is ∙ at in cc) in
     ap (λ (x : ReadAt). answers x.place) (sym same) ∙ none
 
-over_by : (old mid after new : Core) (grant : GrantValue) (reads now : ReadsValue) (tickets : Deque) (ticket : ℕ)
-    (left : List ℕ) (e : Error)
-    (site : Site) (plan : Plan) (answers : Answers) → TakesReplies old mid reads now tickets.items (ticket ∷ left)
+over_by : (mid after new : Core) (grant : GrantValue) (now : ReadsValue) (ticket : ℕ) (left : List ℕ)
+    (rest : List (ℕ × ReadAt)) (e : Error)
+    (site : Site) (plan : Plan) (answers : Answers)
     → IsOverFor mid now ticket e
-    → after ≡ after_poll mid ticket → new ≡ core_after_close (core_without_tickets after left) grant
+    → after ≡ after_poll mid ticket → ClosesRead after new (Some grant) rest
     → TellsReads mid answers now.window.waiting (ticket ∷ left)
     → ((later : Own) → plan later answers ≡ window_plan now.handle None now.window site now.facts later answers)
-    → ReadBy site plan answers after new (Some grant) whole.Ended left (Ready (Err e))
-over_by old mid after new grant reads now tickets ticket left error.OutOfMemory site plan answers h over polled close
+    → ReadBy site plan answers after new (Some grant) whole.Ended rest (Ready (Err e))
+over_by mid after new grant now ticket left rest error.OutOfMemory site plan answers over polled close tells goes =
+    absurd over
+over_by mid after new grant now ticket left rest (error.BackgroundTaskFailure fault) site plan answers over polled close
     tells goes =
-    inr (refl, (after, (left, close)))
-over_by old mid after new grant reads now tickets ticket left (error.BackgroundTaskFailure fault) site plan answers h
-    over polled close tells goes =
     let f = first_told mid answers now.window.waiting ticket left tells in
     let moves : plan [] answers ≡ window_move now.handle None now.window site now.facts =
     goes [] ∙ moves_now now.handle now.window site now.facts answers
@@ -175,13 +178,14 @@ over_by old mid after new grant reads now tickets ticket left (error.BackgroundT
       unfinished_by (plan [] answers) (window_move now.handle None now.window site now.facts) moves (over.2 site),
       close,
     )
-over_by old mid after new grant reads now tickets ticket left e site plan answers h over polled close tells goes =
+over_by mid after new grant now ticket left rest e site plan answers over polled close tells goes =
     let f = first_told mid answers now.window.waiting ticket left tells in
     (goes [] ∙ over.1.1 f.0 site [] answers f.1 (f.2 ∙ over.1.0), close)
 
-over_stage : (e : Error) → IsReadOver whole.Ended (Ready (Err e))
-over_stage error.OutOfMemory = tt
-over_stage e = refl
+over_stage : (core : Core) (s : ReadsValue) (ticket : ℕ) (e : Error) → IsOverFor core s ticket e
+    → IsReadOver whole.Ended (Ready (Err e))
+over_stage core s ticket error.OutOfMemory over = absurd over
+over_stage core s ticket e over = refl
 
 pub heard_over : (old mid after new : Core) (grant : GrantValue) (reads now : ReadsValue) (tickets : Deque) (ticket : ℕ)
     (left : List ℕ)
@@ -190,6 +194,13 @@ pub heard_over : (old mid after new : Core) (grant : GrantValue) (reads now : Re
     → after ≡ after_poll mid ticket → new ≡ core_after_close (core_without_tickets after left) grant
     → ReadOn old new (whole.Open grant reads tickets) whole.Ended (Ready (Err e))
 heard_over old mid after new grant reads now tickets ticket left e owned h over polled close =
+    let there = first_there mid now.window.waiting ticket left h.under_way in
+    let r : ReadAt = there.0 in
+    let rest : List ReadAt = there.1 in
+    let held : AreUnderWay mid (r ∷ rest) (ticket ∷ left) =
+    subst (λ (l : List ReadAt). AreUnderWay mid l (ticket ∷ left)) there.2 h.under_way in
+    let closes : ClosesRead after new (Some grant) (zip left rest) =
+    close ∙ (λ i. core_after_close (core_without_tickets after (sym (tickets_zip mid rest left held.2) i)) grant) in
     record {
       polled = λ site plan answers here tells.
           (let g = h.goes answers tells in
@@ -199,22 +210,24 @@ heard_over old mid after new grant reads now tickets ticket left e owned h over 
           ∙ ap (λ (x : ReadsValue). window_plan x.handle None now.window site x.facts later answers) (sym h.rest)) in (
             after,
             (
-              left,
+              zip left rest,
               (
                 (
-                  h.done ++ ticket ∷ [],
+                  h.done ++ (ticket, r) ∷ [],
                   (
-                    h.split ∙ sym (append_assoc h.done (ticket ∷ []) left),
-                    polled ∙ (ap (λ (c : Core). after_poll c ticket) h.core ∙ sym (polled_last old h.done ticket)),
+                    split_first h.done (zip tickets.items reads.window.waiting) ticket r left now.window.waiting rest
+                        there.2 h.split,
+                    taken_last old mid after h.done ticket r h.core polled,
                   ),
                 ),
-                over_by old mid after new grant reads now tickets ticket left e site plan answers h over polled close
-                    g.0 goes,
+                over_by mid after new grant now ticket left (zip left rest) e site plan answers over polled closes g.0
+                    goes,
               ),
             ),
           ));
       held = tt;
-      over = over_stage e;
+      over = over_stage mid now ticket e over;
+      facts = tt;
       spares = finished_spares old after new grant left (Apart grant tickets.items)
           (spares_also old after (λ id. id ≢ grant.id) (λ id. IsNoneOf id tickets.items) (λ id. IsNoneOf id left)
           (over_spares old mid after reads now tickets.items ticket left h polled))

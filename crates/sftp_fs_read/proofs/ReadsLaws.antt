@@ -1,36 +1,6 @@
 -- The READs of a whole read stay those that its plan asked.
-use Rattle.std.proofs.Common.{
-  ◌≡◌,
-  ◌≢◌,
-  ◌∙◌,
-  ◌<◌,
-  ◌≤◌,
-  ◌+◌,
-  ◌-◌,
-  ◌^◌,
-  refl,
-  sym,
-  ap,
-  subst,
-  arith,
-  ℕ,
-  Bool,
-  true,
-  false,
-  List,
-  [],
-  ◌∷◌,
-  ◌++◌,
-  length,
-  suc,
-  Option,
-  Some,
-  None,
-  inl,
-  inr,
-  if◌then◌else◌,
-}
-use Rattle.std.specs.Prelude.{◌⊎◌, ◌||◌, map, nat_lt, IfSome, slice_get}
+use Rattle.std.proofs.Common.{◌≡◌, ◌≢◌, ◌∙◌, ◌<◌, ◌≤◌, ◌+◌, ◌-◌, ◌^◌, refl, sym, ap, subst, arith, ℕ, true, false, List, [], ◌∷◌, ◌++◌, length, suc, Option, Some, None, inl, inr}
+use Rattle.std.specs.Prelude.{◌⊎◌, ◌||◌, map, IfSome, slice_get}
 use Rattle.std.proofs.lemmas.Bool.Decides.{nat_tests}
 use Rattle.std.proofs.lemmas.Bool.{cases_eq, cases_lt}
 use Rattle.std.proofs.lemmas.List.{append-nil, append_assoc, get_or_append_left, length-append, map-append}
@@ -45,55 +15,17 @@ use Rattle.sftp_model.specs.declared.reply.Reply.TheVariants as reply
 use Rattle.sftp_model.specs.declared.request.Request.{Request}
 use Rattle.sftp_model.specs.declared.request.Request.TheVariants as request
 use Rattle.sftp_model.specs.declared.slot.Facts.{Facts}
-use Rattle.sftp_model.specs.declared.slot.Move.{Move}
-use Rattle.sftp_model.specs.declared.slot.Move.TheVariants.{Ask, Done, Wait}
-use Rattle.sftp_model.specs.declared.outcome.Outcome.{Outcome}
+use Rattle.sftp_model.specs.declared.slot.Move.TheVariants.{Ask, Done}
 use Rattle.sftp_model.specs.declared.outcome.Outcome.TheVariants as outcome
 use Rattle.sftp_model.specs.declared.slot.Site.{Site}
 use Rattle.plan_model.specs.FilePlans.{open_request}
-use Rattle.plan_model.specs.GoodMoves.{FitsFacts, ReadsWithin}
+use Rattle.plan_model.specs.GoodMoves.{FitsFacts}
 use Rattle.plan_model.specs.Moves.{Answers, Own, Plan, refusal_move}
 use Rattle.plan_model.specs.OwnRequests.{AreAsked, ExtendsAnswers, MayBeAnswered, oldest_first}
-use Rattle.plan_model.specs.WindowPlans.{
-  ask_more,
-  await_first,
-  brings_content,
-  contents,
-  ends_or,
-  first_refusal,
-  fs_read_next,
-  gaps,
-  go_on,
-  least,
-  least_end,
-  reaches,
-  to_read,
-  unless_refused,
-  whole_content,
-}
+use Rattle.plan_model.specs.WindowPlans.{brings_content, to_read}
 use Rattle.plan_model.specs.PathPlans.{from_directory}
-use Rattle.plan_model.proofs.AskedReads.{whole_range}
-use Rattle.plan_state.specs.Calls.{IsUnfinished}
 use Rattle.sftp_file.proofs.BodyLens.{long_by_path}
-use Rattle.plan_window.specs.Windows.{
-  AsksInRange,
-  FitsRead,
-  IsSound,
-  Window,
-  answered_more,
-  as_request,
-  asked_more,
-  empty_window,
-  first_of,
-  move_by,
-  reads_of,
-  replies_of,
-  under_way,
-  window_move,
-  window_plan,
-}
-use Rattle.plan_window.specs.declared.next_move.WindowMove.{WindowMove}
-use Rattle.plan_window.specs.declared.next_move.WindowMove.TheVariants as step
+use Rattle.plan_window.specs.Windows.{FitsRead, IsSound, Window, answered_more, asked_more, empty_window, first_of, window_move, window_plan}
 use Rattle.plan_window.specs.declared.window.Answered.{Answered}
 use Rattle.plan_window.specs.declared.window.ReadAt.{ReadAt}
 use Rattle.plan_window.proofs.PlanLaws.{after_asking, after_refusal, after_reply, move_missing, none_under_way, while_missing}
@@ -444,21 +376,14 @@ refused_as (reply.Names names) site = refl
 refused_as (reply.Attrs attrs) site = refl
 refused_as (reply.Extended content) site = refl
 
-over_by : (s : ReadsValue) (y : Reply) → EndsBy s y (refusal_of y) → IsWhyOver s y (refusal_of y)
-over_by s (reply.Status code message language) h = h
-over_by s (reply.Version version extensions) h = h
-over_by s (reply.Handle handle) h = h
-over_by s (reply.Content bytes) h = h
-over_by s (reply.Names names) h = h
-over_by s (reply.Attrs attrs) h = h
-over_by s (reply.Extended content) h = h
-
 pub refused_read : (s : ReadsValue) (y : Reply) (e : Error) → AreRead s → (brings_content y || is_end_of_file y) ≡ false
     → e ≡ refusal_of y → IsWhyOver s y e
-refused_read s y e h bad is =
-    subst (λ (x : Error). IsWhyOver s y x) (sym is) (over_by s y (λ r site later answers first came.
-    after_refusal s.handle None s.window site s.facts later answers r y first came h.sound.unrefused bad
-    ∙ refused_as y site))
+refused_read s y e h bad is = (
+  is,
+  subst (EndsBy s y) (sym is) (λ r site later answers first came.
+      after_refusal s.handle None s.window site s.facts later answers r y first came h.sound.unrefused bad
+      ∙ refused_as y site),
+)
 
 -- a DATA has at most the bytes that were asked
 pub fits_read : (r : ReadAt) (y : Reply) → allows_reply (expected.Content r.len) y ≡ true → FitsRead r y

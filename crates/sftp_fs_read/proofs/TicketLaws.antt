@@ -1,6 +1,8 @@
 -- The tickets of READs under way, over what a core does.
-use Rattle.std.proofs.Common.{◌≡◌, ◌≢◌, ◌∙◌, refl, sym, ap, subst, ℕ, true, false, List, [], ◌∷◌, ◌++◌, Option, Some, None, Ok, Err}
+use Rattle.std.proofs.Common.{◌≡◌, ◌≢◌, ◌∙◌, refl, sym, ap, subst, ℕ, true, false, List, [], ◌∷◌, ◌++◌, Option, Some, None, Ok, Err, length, suc}
 use Rattle.std.specs.Prelude.{Bool, IsTrue}
+use Rattle.std.specs.List.{zip}
+use Rattle.std.proofs.lemmas.List.{map-append}
 use Rattle.sftp_model.specs.Answers.{allows_reply}
 use Rattle.sftp_model.specs.declared.answers.Expected.TheVariants as expected
 use Rattle.sftp_model.specs.declared.error.Fault.{Fault}
@@ -24,7 +26,7 @@ use Rattle.plan_state.proofs.Keeping.{grants_both, keeps_same}
 use Rattle.plan_state.proofs.OthersKept.{cancelled_keeps_grants, polled_on}
 use Rattle.plan_state.proofs.Sparing.{abandoned_spares, polled_spares, spares_kept}
 use Rattle.sftp_fs_read.specs.declared.tickets.Answer.TheVariants as answer
-use Rattle.sftp_fs_read.specs.Tickets.{AreTickets, AreUnderWay, IsAnswer, IsNoneOf, polled_all, core_without_tickets}
+use Rattle.sftp_fs_read.specs.Tickets.{AreTickets, AreUnderWay, IsAnswer, IsNoneOf, polled_all, core_without_tickets, tickets_of}
 
 -- ---- they are given up
 
@@ -169,12 +171,45 @@ read_more old new ticket r reads tickets free k held h =
     put_last new ticket r reads tickets (keeps_reads old new reads tickets k h)
     (new_apart old ticket reads tickets free h) held
 
+-- ---- with their READs
+
+pub tickets_zip : (core : Core) (reads : List ReadAt) (tickets : List ℕ) → AreUnderWay core reads tickets
+    → tickets_of (zip tickets reads) ≡ tickets
+tickets_zip core [] [] h = refl
+tickets_zip core [] (ticket ∷ later) h = absurd h
+tickets_zip core (r ∷ rest) [] h = absurd h
+tickets_zip core (r ∷ rest) (ticket ∷ later) h = ap (λ (l : List ℕ). ticket ∷ l) (tickets_zip core rest later h.2)
+
+pub zip_length : (core : Core) (reads : List ReadAt) (tickets : List ℕ) → AreUnderWay core reads tickets
+    → length (zip tickets reads) ≡ length reads
+zip_length core [] [] h = refl
+zip_length core [] (ticket ∷ later) h = absurd h
+zip_length core (r ∷ rest) [] h = absurd h
+zip_length core (r ∷ rest) (ticket ∷ later) h = ap suc (zip_length core rest later h.2)
+
+pub zip_last : (core : Core) (new : ℕ) (r : ReadAt) (reads : List ReadAt) (tickets : List ℕ)
+    → AreUnderWay core reads tickets
+    → zip (tickets ++ new ∷ []) (reads ++ r ∷ []) ≡ zip tickets reads ++ (new, r) ∷ []
+zip_last core new r [] [] h = refl
+zip_last core new r [] (ticket ∷ later) h = absurd h
+zip_last core new r (q ∷ rest) [] h = absurd h
+zip_last core new r (q ∷ rest) (ticket ∷ later) h =
+    ap (λ (l : List (ℕ × ReadAt)). (ticket, q) ∷ l) (zip_last core new r rest later h.2)
+
 -- ---- polled one after another
 
 pub polled_last : (core : Core) (done : List ℕ) (ticket : ℕ) → polled_all core (done ++ ticket ∷ [])
     ≡ after_poll (polled_all core done) ticket
 polled_last core [] ticket = refl
 polled_last core (first ∷ done) ticket = polled_last (after_poll core first) done ticket
+
+pub taken_last : (old core new : Core) (done : List (ℕ × ReadAt)) (ticket : ℕ) (r : ReadAt)
+    → core ≡ polled_all old (tickets_of done) → new ≡ after_poll core ticket
+    → new ≡ polled_all old (tickets_of (done ++ (ticket, r) ∷ []))
+taken_last old core new done ticket r is polled =
+    polled ∙ (ap (λ (c : Core). after_poll c ticket) is
+    ∙ (sym (polled_last old (tickets_of done) ticket)
+    ∙ ap (polled_all old) (sym (map-append (λ (x : ℕ × ReadAt). x.0) done ((ticket, r) ∷ [])))))
 
 -- ---- what a core tells
 

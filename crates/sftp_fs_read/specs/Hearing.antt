@@ -1,17 +1,19 @@
 -- Replies to the READs under way, in their order.
 use Rattle.std.specs.Prelude.{◌≡◌, ℕ, List, [], ◌∷◌, ◌++◌, Some, None}
+use Rattle.std.specs.List.{zip}
 use Rattle.sftp_model.specs.declared.error.Error.{Error}
 use Rattle.sftp_model.specs.declared.error.Error.TheVariants as error
 use Rattle.sftp_model.specs.declared.reply.Reply.{Reply}
 use Rattle.sftp_model.specs.declared.slot.Site.{Site}
 use Rattle.plan_model.specs.Moves.{Answers, Own}
 use Rattle.plan_window.specs.Windows.{answered_more, window_move, window_plan}
+use Rattle.plan_window.specs.declared.window.ReadAt.{ReadAt}
 use Rattle.sftp_core.specs.Core.{Core, after_poll, record_at, reply_in}
 use Rattle.plan_state.specs.Asked.{IsReady}
 use Rattle.plan_state.specs.Calls.{IsUnfinished}
 use Rattle.plan_state.specs.Keeping.{KeepsGrants, SparesOthers}
 use Rattle.sftp_fs_read.specs.Reads.{EndsBy, ReadsValue}
-use Rattle.sftp_fs_read.specs.Tickets.{AreUnderWay, IsNoneOf, TellsReads, polled_all}
+use Rattle.sftp_fs_read.specs.Tickets.{AreUnderWay, IsNoneOf, TellsReads, polled_all, tickets_of}
 use Rattle.sftp_fs_read.specs.declared.replies.First.{First}
 use Rattle.sftp_fs_read.specs.declared.replies.First.TheVariants as first
 use Rattle.sftp_fs_read.specs.declared.replies.Heard.{Heard}
@@ -19,10 +21,10 @@ use Rattle.sftp_fs_read.specs.declared.replies.Heard.TheVariants as heard
 
 -- ---- The first reply
 
--- The reason that a read is over that awaits this ticket first: out of memory; a recorded fault, if there is no reply;
--- or a reply that refuses it.
+-- The reason that a read is over that awaits this ticket first: a recorded fault, if there is no reply; or a reply that
+-- refuses it.
 abbrev pub IsOverFor : Core → ReadsValue → ℕ → Error → Type 0
-IsOverFor core s ticket error.OutOfMemory = Unit {0}
+IsOverFor core s ticket error.OutOfMemory = ⊥
 IsOverFor core s ticket (error.BackgroundTaskFailure fault) = (reply_in (record_at core ticket) ≡ None)
     × (core.fault ≡ Some fault)
     × ((site : Site) → IsUnfinished (window_move s.handle None s.window site s.facts))
@@ -38,12 +40,12 @@ IsFirst old new s ticket (first.Over e) = IsOverFor old s ticket e × (new ≡ a
 
 -- ---- All replies that came
 
--- These replies were taken, one after another. What was left of each plan is now what the READs that are still under
+-- These replies were taken, in the order of their READs. What was left of each plan is now what the READs that are still under
 -- way leave.
 pub record TakesReplies (old new : Core) (s now : ReadsValue) (tickets left : List ℕ) : Type 0 where
-  pub done : List ℕ
-  pub split : tickets ≡ done ++ left
-  pub core : new ≡ polled_all old done
+  pub done : List (ℕ × ReadAt)
+  pub split : zip tickets s.window.waiting ≡ done ++ zip left now.window.waiting
+  pub core : new ≡ polled_all old (tickets_of done)
   pub rest : now ≡ record s { window = now.window }
   pub under_way : AreUnderWay new now.window.waiting left
   pub ready : IsReady new

@@ -1,23 +1,5 @@
 -- READs of a whole read of a path, as its plan asked them.
-use Rattle.std.specs.Prelude.{
-  ℕ,
-  ◌≡◌,
-  ◌<◌,
-  ◌≤◌,
-  ◌+◌,
-  ◌-◌,
-  ◌^◌,
-  List,
-  [],
-  ◌∷◌,
-  ◌++◌,
-  length,
-  map,
-  Option,
-  Some,
-  None,
-  slice_get,
-}
+use Rattle.std.specs.Prelude.{ℕ, ◌≡◌, ◌<◌, ◌≤◌, ◌+◌, ◌-◌, ◌^◌, List, [], ◌∷◌, ◌++◌, length, map, Some, None, slice_get}
 use Rattle.sftp_model.specs.declared.error.Error.{Error}
 use Rattle.sftp_model.specs.declared.error.Error.TheVariants as error
 use Rattle.sftp_model.specs.declared.outcome.Outcome.TheVariants as outcome
@@ -112,8 +94,6 @@ EndsBy s y e = (r : ReadAt) (site : Site) (later : Own) (answers : Answers) → 
     → answers r.place ≡ Some y
     → window_plan s.handle None s.window site s.facts later answers ≡ Done (outcome.Refused e) site
 
--- Out of memory, or the plan ends with this error.
+-- The error with which a reply ends the read.
 abbrev pub IsWhyOver : ReadsValue → Reply → Error → Type 0
-IsWhyOver s y error.OutOfMemory = Unit {0}
-IsWhyOver s y (error.BackgroundTaskFailure fault) = ⊥
-IsWhyOver s y e = EndsBy s y e
+IsWhyOver s y e = (e ≡ refusal_of y) × EndsBy s y e

@@ -1,5 +1,5 @@
 -- Tickets of READs under way.
-use Rattle.std.specs.Prelude.{◌≡◌, ◌≢◌, ℕ, List, [], ◌∷◌, true, Some, None, IsTrue}
+use Rattle.std.specs.Prelude.{◌≡◌, ◌≢◌, ℕ, List, [], ◌∷◌, map, true, Some, None, IsTrue}
 use Rattle.sftp_model.specs.declared.answers.Expected.TheVariants as expected
 use Rattle.sftp_model.specs.Answers.{allows_reply}
 use Rattle.sftp_model.specs.declared.reply.Reply.{Reply}
@@ -36,6 +36,10 @@ TellsReads core answers [] [] = Unit {0}
 TellsReads core answers (r ∷ rest) (ticket ∷ later) = (answers r.place ≡ reply_in (record_at core ticket))
     × TellsReads core answers rest later
 TellsReads core answers reads tickets = ⊥
+
+-- The tickets of READs under way.
+abbrev pub tickets_of : List (ℕ × ReadAt) → List ℕ
+tickets_of reads = map (λ x. x.0) reads
 
 -- The core after these tickets were polled, the first one first.
 abbrev pub polled_all : Core → List ℕ → Core

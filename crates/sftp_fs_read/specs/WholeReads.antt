@@ -3,7 +3,7 @@ use Rattle.std.specs.Prelude.{
   ◌≡◌,
   ◌≢◌,
   ◌⊎◌,
-  ◌+◌,
+  ◌≤◌,
   ℕ,
   Bool,
   true,
@@ -19,20 +19,23 @@ use Rattle.std.specs.Prelude.{
   Ok,
   Err,
   IfOk,
+  IsSome,
+  length,
 }
+use Rattle.std.specs.List.{zip}
 use Rattle.bytes.specs.Filled.{Filled}
 use Rattle.sftp_model.specs.declared.error.Error.{Error}
 use Rattle.sftp_model.specs.declared.error.Error.TheVariants as error
 use Rattle.sftp_model.specs.declared.outcome.Outcome.{Outcome}
 use Rattle.sftp_model.specs.declared.outcome.Outcome.TheVariants as outcome
-use Rattle.sftp_model.specs.declared.request.Request.{Request}
 use Rattle.sftp_model.specs.declared.slot.Facts.{Facts}
 use Rattle.sftp_model.specs.declared.slot.Move.TheVariants.{Ask, Done, Wait}
 use Rattle.sftp_model.specs.declared.slot.Site.{Site}
 use Rattle.plan_model.specs.GoodMoves.{FitsFacts}
 use Rattle.plan_model.specs.Moves.{Answers, Own, Plan}
-use Rattle.plan_model.specs.WindowPlans.{fs_read_next}
-use Rattle.plan_window.specs.Windows.{empty_window, window_move, window_plan}
+use Rattle.plan_model.specs.WindowPlans.{fs_read_next, least_end}
+use Rattle.plan_window.specs.Windows.{as_request, empty_window, replies_of, window_move, window_plan}
+use Rattle.plan_window.specs.declared.window.ReadAt.{ReadAt}
 use Rattle.sftp_core.specs.Core.{Core}
 use Rattle.sftp_core.specs.Grant.{GrantValue}
 use Rattle.plan_state.specs.declared.submission.Asking.TheVariants.{Whole as WholeRequest}
@@ -55,8 +58,7 @@ use Rattle.sftp_file.specs.Files.{facts_of}
 use Rattle.sftp_fs.specs.Directories.{WithHandle}
 use Rattle.sftp_fs.specs.Grants.{grant_meaning}
 use Rattle.sftp_fs.specs.WholeWrites.{IsOwned, core_after_close, closed_if}
-use Rattle.sftp_fs_read.specs.Reads.{ReadsValue}
-use Rattle.sftp_fs_read.specs.Tickets.{AreUnderWay, IsNoneOf, TellsReads, polled_all, core_without_tickets}
+use Rattle.sftp_fs_read.specs.Tickets.{AreUnderWay, IsNoneOf, TellsReads, polled_all, core_without_tickets, tickets_of}
 use Rattle.sftp_fs_read.specs.declared.fs_read.Whole.{Whole}
 use Rattle.sftp_fs_read.specs.declared.fs_read.Whole.TheVariants as whole
 
@@ -98,6 +100,11 @@ IsReadHeld core (whole.Open grant reads tickets) = IsOwned core grant
     × AreUnderWay core reads.window.waiting tickets.items
     × (reads.handle ≡ grant.handle)
 
+-- The READs under way, in the order in which they were asked, each with the ticket of its reply.
+abbrev pub under_way : Whole → List (ℕ × ReadAt)
+under_way (whole.Open grant reads tickets) = zip tickets.items reads.window.waiting
+under_way other = []
+
 -- The number is none of the read's: neither its file's, nor that of a reply that it awaits.
 abbrev pub IsNoneOfRead : Whole → ℕ → Type 0
 IsNoneOfRead (whole.Opening call facts) id = IsNoneOfCall call.stage id
@@ -109,6 +116,24 @@ abbrev pub read_grant : Core → Whole → Option GrantValue
 read_grant core (whole.Opening call facts) = grant_brought core call.stage
 read_grant core (whole.Open grant reads tickets) = Some grant
 read_grant core whole.Ended = None
+
+-- The facts of the session by which the read asks.
+abbrev pub facts_in : Whole → Option Facts
+facts_in (whole.Opening call facts) = Some facts
+facts_in (whole.Open grant reads tickets) = Some reads.facts
+facts_in whole.Ended = None
+
+-- A read that is not over has the facts that it had.
+abbrev pub KeepsFacts : Whole → Whole → Type 0
+KeepsFacts p whole.Ended = Unit {0}
+KeepsFacts p q = facts_in q ≡ facts_in p
+
+-- No further READ may be asked: the session's `read_window` of them is under way, or the end of the file is known.
+abbrev pub AsksNoMore : Whole → Type 0
+AsksNoMore (whole.Open grant reads tickets) =
+    (reads.facts.read_window ≤ length (under_way (whole.Open grant reads tickets)))
+    ⊎ IsSome (least_end (replies_of reads.window))
+AsksNoMore other = Unit {0}
 
 -- ---- Starts
 
@@ -142,37 +167,51 @@ pub record ReadsFrom (path cwd : List ℕ) (old new : Core) (result : Result FsR
 abbrev pub ReadAnswer : Type 0
 ReadAnswer = Poll (Result Filled Error)
 
--- The replies that came were taken in their order, and these tickets are left.
-abbrev pub HeardAll : Core → Core → Whole → List ℕ → Type 0
-HeardAll old mid (whole.Opening call facts) left = (mid ≡ polled_core old call.stage) × (left ≡ [])
-HeardAll old mid (whole.Open grant reads tickets) left =
-    (done : List ℕ) × ((tickets.items ≡ done ++ left) × (mid ≡ polled_all old done))
-HeardAll old mid whole.Ended left = ⊥
+-- The replies that came were taken in the order of their READs, and these READs are left.
+abbrev pub HeardAll : Core → Core → Whole → List (ℕ × ReadAt) → Type 0
+HeardAll old mid (whole.Opening call facts) rest = (mid ≡ polled_core old call.stage) × (rest ≡ [])
+HeardAll old mid (whole.Open grant reads tickets) rest =
+    (done : List (ℕ × ReadAt)) × ((under_way (whole.Open grant reads tickets) ≡ done ++ rest)
+    × (mid ≡ polled_all old (tickets_of done)))
+HeardAll old mid whole.Ended rest = ⊥
 
 -- The requests under way were dropped, and the grant closed, if there is one.
-abbrev pub ClosesRead : Core → Core → Option GrantValue → List ℕ → Type 0
-ClosesRead core new grant left = new ≡ closed_if (core_without_tickets core left) grant
+abbrev pub ClosesRead : Core → Core → Option GrantValue → List (ℕ × ReadAt) → Type 0
+ClosesRead core new grant rest = new ≡ closed_if (core_without_tickets core (tickets_of rest)) grant
 
--- Another READ was submitted, and its reply is awaited.
-pub record AsksRead (site : Site) (plan : Plan) (answers : Answers) (old new : Core) (q : Whole) : Type 0 where
-  pub asked : ℕ × Request
+-- Another READ was submitted, and its reply is awaited after those to these READs.
+pub record AsksRead (site : Site) (plan : Plan) (answers : Answers) (old new : Core) (q : Whole)
+    (rest : List (ℕ × ReadAt)) :
+    Type 0 where
+  pub handle : List ℕ
+  pub asked : ReadAt
   pub ticket : ℕ
-  pub asks : plan [] answers ≡ Ask asked.1
-  pub submitted : SubmitsAsking old (WholeRequest asked.1) ticket new
-  pub left : IsReadLeft site (λ later. plan (asked ∷ later)) answers q
+  pub asks : plan [] answers ≡ Ask (as_request handle asked).1
+  pub submitted : SubmitsAsking old (WholeRequest (as_request handle asked).1) ticket new
+  pub left : IsReadLeft site (λ later. plan (as_request handle asked ∷ later)) answers q
+  pub reads : under_way q ≡ rest ++ (ticket, asked) ∷ []
 
--- The first awaited reply is missing.
-pub record StillReads (site : Site) (plan : Plan) (answers : Answers) (old new : Core) (q : Whole) : Type 0 where
+-- The first awaited reply is missing, and no further READ may be asked. These READs are under way.
+pub record StillReads (site : Site) (plan : Plan) (answers : Answers) (old new : Core) (q : Whole)
+    (rest : List (ℕ × ReadAt)) :
+    Type 0 where
   pub place : ℕ
   pub waits : plan [] answers ≡ Wait place
   pub unfailed : old.fault ≡ None
   pub core : new ≡ old
   pub left : IsReadLeft site plan answers q
+  pub reads : under_way q ≡ rest
+  pub full : AsksNoMore q
 
--- An allocation failed: the read may be polled again, or it is over and its file closed.
-abbrev pub RunsShort : Site → Plan → Answers → Core → Core → Option GrantValue → Whole → Type 0
-RunsShort site plan answers mid new grant q = (IsReadLeft site plan answers q × (new ≡ mid) × (is_over q ≡ false))
-    ⊎ ((is_over q ≡ true) × ((core : Core) × ((tickets : List ℕ) × ClosesRead core new grant tickets)))
+-- An allocation failed. The read may be polled again and continues with the same move: these READs are under way, and
+-- the reply that it awaits is the same.
+pub record RunsShort (site : Site) (plan : Plan) (answers : Answers) (old new : Core) (q : Whole)
+    (rest : List (ℕ × ReadAt)) :
+    Type 0 where
+  pub core : new ≡ old
+  pub left : IsReadLeft site plan answers q
+  pub tells : ReadTells new answers q
+  pub reads : under_way q ≡ rest
 
 -- The outcome with which the plan ends.
 abbrev pub read_outcome : Result Filled Error → Outcome
@@ -181,18 +220,19 @@ read_outcome (Err e) = outcome.Refused e
 
 -- The poll's next step, after the replies that came were taken, is the next move of the plan: it waits, or asks for a
 -- READ. Or the read is over, with the plan's result, or with a recorded fault if the plan is not at its end. Or an
--- allocation failed. The grant is that of the read.
-abbrev pub ReadBy : Site → Plan → Answers → Core → Core → Option GrantValue → Whole → List ℕ → ReadAnswer → Type 0
-ReadBy site plan answers mid new grant q left Pending = StillReads site plan answers mid new q
-    ⊎ AsksRead site plan answers mid new q
-ReadBy site plan answers mid new grant q left (Ready (Err error.OutOfMemory)) =
-    RunsShort site plan answers mid new grant q
-ReadBy site plan answers mid new grant q left (Ready (Err (error.BackgroundTaskFailure fault))) =
+-- allocation failed. The grant is that of the read; the READs are those whose replies were not taken.
+abbrev pub ReadBy : Site → Plan → Answers → Core → Core → Option GrantValue → Whole → List (ℕ × ReadAt) → ReadAnswer
+    → Type 0
+ReadBy site plan answers mid new grant q rest Pending = StillReads site plan answers mid new q rest
+    ⊎ AsksRead site plan answers mid new q rest
+ReadBy site plan answers mid new grant q rest (Ready (Err error.OutOfMemory)) =
+    RunsShort site plan answers mid new q rest
+ReadBy site plan answers mid new grant q rest (Ready (Err (error.BackgroundTaskFailure fault))) =
     (mid.fault ≡ Some fault)
     × IsUnfinished (plan [] answers)
-    × ClosesRead mid new grant left
-ReadBy site plan answers mid new grant q left (Ready value) = (plan [] answers ≡ Done (read_outcome value) site)
-    × ClosesRead mid new grant left
+    × ClosesRead mid new grant rest
+ReadBy site plan answers mid new grant q rest (Ready value) = (plan [] answers ≡ Done (read_outcome value) site)
+    × ClosesRead mid new grant rest
 
 -- The plan has seen no reply to a READ under way, so its move is the window's.
 abbrev pub IsUntold : Site → Plan → Answers → Whole → Type 0
@@ -200,10 +240,10 @@ IsUntold site plan answers (whole.Open grant reads tickets) =
     plan [] answers ≡ window_move reads.handle None reads.window site reads.facts
 IsUntold site plan answers other = ⊥
 
--- The read has returned its result if a poll returned a value or an error; after `OutOfMemory` it may have.
+-- The read has returned its result if a poll returned a value or an error other than `OutOfMemory`.
 abbrev pub IsReadOver : Whole → ReadAnswer → Type 0
 IsReadOver stage Pending = is_over stage ≡ false
-IsReadOver stage (Ready (Err error.OutOfMemory)) = Unit {0}
+IsReadOver stage (Ready (Err error.OutOfMemory)) = is_over stage ≡ false
 IsReadOver stage (Ready value) = is_over stage ≡ true
 
 -- A poll made the next move of each plan that the read is what is left of, for any replies to come. The read may be
@@ -211,18 +251,21 @@ IsReadOver stage (Ready value) = is_over stage ≡ true
 pub record ReadOn (old new : Core) (p q : Whole) (result : ReadAnswer) : Type 0 where
   pub polled : (site : Site) (plan : Plan) (answers : Answers) → IsReadLeft site plan answers p
       → ReadTells old answers p
-      → (mid : Core) × ((left : List ℕ) × (HeardAll old mid p left
-      × ReadBy site plan answers mid new (read_grant old p) q left result))
+      → (mid : Core) × ((rest : List (ℕ × ReadAt)) × (HeardAll old mid p rest
+      × ReadBy site plan answers mid new (read_grant old p) q rest result))
   pub held : IsReadHeld new q
   pub over : IsReadOver q result
+  pub facts : KeepsFacts p q
   pub spares : SparesOthers old new (IsNoneOfRead p) (IsNoneOfRead q)
 
 -- The effect of a window's step, if nothing more came: the next move of each plan that the window leaves.
-pub record DecidesNextMove (old new : Core) (p q : Whole) (left : List ℕ) (result : ReadAnswer) : Type 0 where
+pub record DecidesNextMove (old new : Core) (p q : Whole) (result : ReadAnswer) : Type 0 where
   pub polled : (site : Site) (plan : Plan) (answers : Answers) → IsReadLeft site plan answers p
-      → IsUntold site plan answers p → ReadBy site plan answers old new (read_grant old p) q left result
+      → ReadTells old answers p → IsUntold site plan answers p
+      → ReadBy site plan answers old new (read_grant old p) q (under_way p) result
   pub held : IsReadHeld new q
   pub over : IsReadOver q result
+  pub facts : KeepsFacts p q
   pub spares : SparesOthers old new (IsNoneOfRead p) (IsNoneOfRead q)
 
 -- A result of the OPEN that leaves it under way: none yet, or out of memory.

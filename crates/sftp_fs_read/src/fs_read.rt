@@ -20,7 +20,7 @@ ghost use Rattle.sftp_fs_read.specs.declared.fs_read.Whole.TheVariants as whole;
 
 use crate::reads::Reads;
 use crate::replies::{Heard, hear};
-use crate::tickets::{Unasked, abandon_all, submit_read};
+use crate::tickets::{Unasked, abandon_all};
 use bitflags::Flags;
 use bytes::BytesMut;
 use plan_state::PendingCall;
@@ -112,37 +112,30 @@ fn ask_read(
     requires asks { (site : Site) → window_move reads.handle None reads.window site reads.facts
         ≡ moves.Ask (request.Read reads.handle offset len) }
     requires range { offset + len < 2 ^ 64 }
-    ensures { DecidesNextMove core.old core.new (whole.Open grant reads tickets) result.1 tickets.items result.0 }
+    ensures { DecidesNextMove core.old core.new (whole.Open grant reads tickets) result.1 result.0 }
 {
-    let mut tickets = tickets;
+    let (mut reads, mut tickets) = (reads, tickets);
     if tickets.reserve(1).is_err() {
         return (
             Poll::Ready(Err(Error::OutOfMemory)),
             Whole::Open(grant, reads, tickets),
         );
     }
-    let ticket = match submit_read(core, reads.handle(), offset, len) {
-        Ok(ticket) => ticket,
-        Err(Unasked::Short) => {
-            return (
-                Poll::Ready(Err(Error::OutOfMemory)),
-                Whole::Open(grant, reads, tickets),
-            );
+    match reads.ask(core, offset, len) {
+        Ok(ticket) => {
+            tickets.push_back_reserved(ticket);
+            (Poll::Pending, Whole::Open(grant, reads, tickets))
         }
+        Err(Unasked::Short) => (
+            Poll::Ready(Err(Error::OutOfMemory)),
+            Whole::Open(grant, reads, tickets),
+        ),
         Err(Unasked::Failed(fault)) => {
             finish(core, grant, tickets);
-            return (
+            (
                 Poll::Ready(Err(Error::BackgroundTaskFailure(fault))),
                 Whole::Ended,
-            );
-        }
-    };
-    tickets.push_back_reserved(ticket);
-    match reads.asked(offset, len) {
-        Ok(reads) => (Poll::Pending, Whole::Open(grant, reads, tickets)),
-        Err(OutOfMemory) => {
-            finish(core, grant, tickets);
-            (Poll::Ready(Err(Error::OutOfMemory)), Whole::Ended)
+            )
         }
     }
 }
@@ -157,7 +150,7 @@ fn decide(
     requires held { IsReadHeld core.old (whole.Open grant reads tickets) }
     requires ready { IsReady core.old }
     requires missing { IsFirstMissing core.old tickets.items }
-    ensures { DecidesNextMove core.old core.new (whole.Open grant reads tickets) result.1 tickets.items result.0 }
+    ensures { DecidesNextMove core.old core.new (whole.Open grant reads tickets) result.1 result.0 }
 {
     match reads.next_move(core.alloc()) {
         Err(OutOfMemory) => (
@@ -281,8 +274,8 @@ impl FsReadCall {
     /// # Errors
     ///
     /// `SftpError` if the server refused the OPEN or a READ; `BackgroundTaskFailure` if the core has recorded a fault
-    /// and no reply was taken or a READ is to be asked for. `OutOfMemory` if an allocation fails: the read may be
-    /// polled again if `is_ended` is false; otherwise it is over, and its file closed.
+    /// and no reply was taken or a READ is to be asked for. `OutOfMemory` if an allocation fails: the read keeps the
+    /// replies that it has, those that it awaits are still in the core, and it may be polled again.
     pub fn poll(&mut self, core: &mut Core) -> Poll<Result<BytesMut, Error>>
         requires { MayRead core.old self.old }
         ensures { ReadOn core.old core.new self.old.stage self.new.stage result }

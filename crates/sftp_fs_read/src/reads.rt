@@ -1,5 +1,5 @@
 //! READs of a whole read of a path.
-ghost use Rattle.std.specs.Prelude.{◌≡◌, ◌<◌, ◌≢◌, ◌+◌, ◌^◌, ◌||◌, true, None, Some, IfErr, IfOk};
+ghost use Rattle.std.specs.Prelude.{◌≡◌, ◌<◌, ◌≢◌, ◌+◌, ◌^◌, ◌||◌, true, None, Some, IfErr, IfOk, OnErr, OnOk};
 ghost use Rattle.std.specs.Option.{option_map};
 ghost use Rattle.sftp_model.specs.Answers.{allows_reply, is_end_of_file};
 ghost use Rattle.sftp_model.specs.declared.answers.Expected.TheVariants as expected;
@@ -11,10 +11,15 @@ ghost use Rattle.plan_model.specs.WindowPlans.{brings_content};
 ghost use Rattle.plan_window.specs.declared.window.ReadAt.{ReadAt as ReadAtValue};
 ghost use Rattle.plan_window.specs.declared.next_move.WindowMove.TheVariants as step;
 ghost use Rattle.plan_window.specs.Windows.{answered_more, asked_more, first_of, move_by, window_move, IsMoveInRange};
+ghost use Rattle.plan_state.specs.Asked.{IsReady, SubmitsAsking};
 ghost use Rattle.plan_state.specs.Calls.{IsUnfinished};
+ghost use Rattle.plan_state.specs.declared.submission.Asking.TheVariants as asking;
 ghost use Rattle.sftp_fs_read.specs.Reads.{IsWhyOver, no_reads, refusal_of};
+ghost use Rattle.sftp_fs_read.specs.Tickets.{IsUnasked};
 
+use crate::tickets::{Unasked, submit_read};
 use plan_window::{ReadAt, Window, WindowMove};
+use sftp_core::{Core, Ticket};
 use sftp_model::numbers::SSH_FX_EOF;
 use sftp_model::{Error, Facts, Handle, Reply};
 use ssh_encoding::OutOfMemory;
@@ -73,13 +78,6 @@ impl Reads {
         }
     }
 
-    /// Returns the file's handle.
-    pub(crate) fn handle(&self) -> &Handle
-        ensures { result.now ≡ self.now.handle }
-    {
-        &self.handle
-    }
-
     /// Returns how many bytes the first READ under way asks for, if there is one.
     pub(crate) fn first_len(&self) -> Option<u32>
         ensures len { result ≡ option_map (λ r. r.len) (first_of self.now.window.waiting) }
@@ -89,37 +87,44 @@ impl Reads {
         self.window.first().map(|r| r.len)
     }
 
-    /// Adds the READ that the read asks next to those under way. Fails only if an allocation fails.
-    pub(crate) fn asked(self, offset: u64, len: u32) -> Result<Reads, OutOfMemory>
-        requires asks { (site : Site) → window_move self.handle None self.window site self.facts
-            ≡ moves.Ask (request.Read self.handle offset len) }
-        requires range { offset + len < 2 ^ 64 }
-        ensures { IfOk result (λ s. s ≡ record self {
-          place = self.place + 1;
-          window = asked_more self.window
-              (record { place = self.place; offset = offset; len = len });
+    /// Submits the READ that the read asks next, and adds it to those under way. It is in the window before it is
+    /// submitted, so that no allocation can fail after that. Fails if one fails before, or if the core has recorded a
+    /// fault; the core and the READs are unchanged then.
+    pub(crate) fn ask(&mut self, core: &mut Core, offset: u64, len: u32) -> Result<Ticket, Unasked>
+        requires may { IsReady core.old × (offset + len < 2 ^ 64) }
+        requires asks { (site : Site) → window_move self.old.handle None self.old.window site self.old.facts
+            ≡ moves.Ask (request.Read self.old.handle offset len) }
+        ensures submits { IfOk result (λ ticket. SubmitsAsking core.old
+            (asking.Whole (request.Read self.old.handle offset len)) ticket core.new) }
+        ensures more { OnOk result (self.new ≡ record self.old {
+          place = self.old.place + 1;
+          window = asked_more self.old.window
+              (record { place = self.old.place; offset = offset; len = len });
         }) }
+        ensures err { IfErr result (IsUnasked core.old) }
+        ensures unchanged { OnErr result ((core.new ≡ core.old) × (self.new ≡ self.old)) }
     {
-        let Reads {
-            facts,
-            handle,
-            place,
-            window,
-        } = self;
+        let place = self.place;
         if place >= MAX_PLACE {
-            return Err(OutOfMemory);
+            return Err(Unasked::Short);
         }
-        let window = window.asked(ReadAt { place, offset, len })?;
-        Ok(Reads {
-            facts,
-            handle,
-            place: place + 1,
-            window,
-        })
+        let Ok(()) = self.window.asked(ReadAt { place, offset, len }) else {
+            return Err(Unasked::Short);
+        };
+        match submit_read(core, &self.handle, offset, len) {
+            Ok(ticket) => {
+                self.place = place + 1;
+                Ok(ticket)
+            }
+            Err(why) => {
+                self.window.unasked();
+                Err(why)
+            }
+        }
     }
 
-    /// Returns the READs after the reply to the first one under way. `SftpError` if the server refused it: the read is
-    /// over. `OutOfMemory` if an allocation fails.
+    /// Returns the READs after the reply to the first one under way. Fails if the server refused it: the read is over
+    /// then.
     pub(crate) fn replied(self, reply: Reply) -> Result<Reads, Error>
         requires some { first_of self.window.waiting ≢ None }
         requires allowed { (r : ReadAtValue) → first_of self.window.waiting ≡ Some r
@@ -136,9 +141,8 @@ impl Reads {
         if !is_absorbed(&reply) {
             return Err(refusal(reply));
         }
-        let Ok(window) = window.replied(reply) else {
-            return Err(Error::OutOfMemory);
-        };
+        let mut window = window;
+        window.replied(reply);
         Ok(Reads {
             facts,
             handle,

@@ -8,6 +8,7 @@ mod Going
 mod Opening
 mod OpeningSteps
 mod Plain
+pub mod ReadFrames
 mod Reporting
 pub mod Sends
 pub mod Shown

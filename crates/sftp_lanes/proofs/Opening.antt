@@ -1,13 +1,12 @@
 -- An opened session of lanes: what it is before a lane has done anything.
 use Rattle.std.proofs.Common.{◌≡◌, ◌≢◌, ◌==◌, ℕ, zero, suc, Bool, true, false, List, [], ◌∷◌, Option, Some, None, refl, ap, sym, ◌∙◌, subst, arith, inl, inr, if◌then◌else◌}
-use Rattle.std.specs.Prelude.{◌+◌, IfSome, is_none, length, Result, Ok, Err}
+use Rattle.std.specs.Prelude.{◌+◌, IfSome, is_none, length, Result, Ok}
 use Rattle.std.specs.FinMap.{get-empty, len-empty}
 use Rattle.std.specs.Ordering.{nat_cmp}
 use Rattle.sftp_model.specs.declared.config.Limits.{Limits}
 use Rattle.sftp_model.specs.declared.flags.Extensions.{Extensions}
 use Rattle.sftp_model.specs.declared.frame_error.FrameError.{FrameError}
 use Rattle.sftp_model.specs.declared.reply.Reply.{Reply}
-use Rattle.sftp_model.specs.declared.reply.Reply.TheVariants as reply
 use Rattle.sftp_model.specs.declared.request.Request.TheVariants as request
 use Rattle.sftp_model.specs.declared.slot.Facts.{Facts}
 use Rattle.sftp_model.specs.ReplyReadings.{limits_in}
@@ -34,7 +33,7 @@ use Rattle.session_model.specs.Journals.{is_opened}
 use Rattle.session_model.specs.Readings.{AskedRequest, answer, count_submitted, count_awaited, count_below, count_unanswered, unsent_requests}
 use Rattle.session_model.specs.Steady.{IsCancellableRun}
 use Rattle.session_model.specs.Runs.{limits_query_sent}
-use Rattle.session_model.specs.Settings.{facts_of, version_reply_of, limits_told, limits_of}
+use Rattle.session_model.specs.Settings.{facts_of, version_reply_of, limits_told}
 use Rattle.session_driver.specs.declared.session.Phase.{Phase}
 use Rattle.session_driver.specs.declared.session.Phase.TheVariants.{Asking, Failed, Fresh, Greeted, Open, Queried}
 use Rattle.session_driver.specs.Session.{IsFixed}
@@ -52,6 +51,7 @@ use Rattle.session_work.specs.declared.lanes.Lanes.{Lanes}
 use Rattle.session_work.specs.Fresh.{AreFresh, IsUntouched}
 use Rattle.session_work.specs.SoFar.{IsIntact}
 use Rattle.session_work.specs.Working.{IsWorking, lane_in, past_of}
+use Rattle.sftp_lanes.specs.Events.{takes_frames}
 use Rattle.sftp_lanes.specs.Seen.{HasCalls, IsInPhase, IsSession, IsIdleRun, facts_by, is_opening, setting_by}
 use Rattle.sftp_lanes.proofs.Plain.{Told, told}
 
@@ -364,6 +364,20 @@ pub in_phase : (lanes : List Lane) (options : SftpOptions) (version : Option Rep
     (phase other : Phase) → IsSession lanes options version known w phase → phase ≡ other
     → IsInPhase lanes options version known w other
 in_phase lanes options version known w phase other is e = subst (IsInPhase lanes options version known w) e is.now
+
+-- while VERSION is awaited none was reported
+pub untold_yet : (lanes : List Lane) (options : SftpOptions) (version : Option Reply) (known : Option Info) (w : Lanes)
+    (phase : Phase) → IsSession lanes options version known w phase → phase ≡ Greeted → version ≡ None
+untold_yet lanes options version known w phase is e =
+    (in_phase lanes options version known w phase Greeted is e).0.1
+
+-- nor before the hello was handed out
+pub untold_first : (lanes : List Lane) (options : SftpOptions) (version : Option Reply) (known : Option Info)
+    (w : Lanes) (phase : Phase) → IsSession lanes options version known w phase → takes_frames phase ≡ false
+    → version ≡ None
+untold_first lanes options version known w Fresh is early = is.now.0.1
+untold_first lanes options version known w Greeted is early = absurd (cc early)
+untold_first lanes options version known w other is early = absurd (cc early)
 
 -- the lanes of an open session are as many as were given
 pub open_count : (lanes : List Lane) (options : SftpOptions) (version : Option Reply) (known : Option Info) (w : Lanes)

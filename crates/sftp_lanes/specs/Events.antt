@@ -60,6 +60,10 @@ use Rattle.session_work.specs.Working.{
 }
 use Rattle.sftp_lanes.specs.Seen.{SessionValue, given_of, seen_of, setting_at}
 
+-- What was read of a frame: an id, if there is one, and a reply.
+abbrev pub FrameRead : Type 0
+FrameRead = Result (Option ℕ × Reply) FrameError
+
 -- ---- Open sessions
 
 -- The session was open, its lanes did this, and nothing else of it has changed.
@@ -107,7 +111,7 @@ BeginsBy true phase before now = (phase ≡ Asking) × ((id : ℕ) × (IsFree be
 
 -- VERSION 3 was taken, the first thing that is reported. What it offers is all that is known of the server, unless the
 -- limits are asked for.
-pub record TakesVersion (body_reads : Result (Option ℕ × Reply) FrameError) (asks : Bool) (old new : SessionValue) :
+pub record TakesVersion (body_reads : FrameRead) (asks : Bool) (old new : SessionValue) :
     Type 0 where
   pub rest : new ≡ record old { phase = new.phase; version = new.version; info = new.info; work = new.work }
   pub untold : old.version ≡ None
@@ -123,12 +127,12 @@ pub record TakesVersion (body_reads : Result (Option ℕ × Reply) FrameError) (
   pub info : new.info ≡ (if asks then None else Some (info_with (offered_extensions new.version) None old.options))
 
 -- The limits that a reply to the query reports.
-abbrev pub told_limits : Result (Option ℕ × Reply) FrameError → Option Limits
+abbrev pub told_limits : FrameRead → Option Limits
 told_limits (Ok (id, r)) = limits_in r
 told_limits (Err e) = None
 
 -- The limits were taken: they and what VERSION offers are what is known of the server.
-pub record TakesLimits (body_reads : Result (Option ℕ × Reply) FrameError) (old new : SessionValue) : Type 0 where
+pub record TakesLimits (body_reads : FrameRead) (old new : SessionValue) : Type 0 where
   pub rest : new ≡ record old { phase = Open; info = new.info; work = new.work }
   pub limited : HasTakenLimits body_reads (seen_of old) (seen_of new)
   pub calls : new.work.calls ≡ old.work.calls
@@ -187,7 +191,7 @@ takes_frames Failed = true
 
 -- The frames that are taken: VERSION, then the reply to the query for limits if it was made, and then the replies to
 -- requests. While the query is in the queue, no reply may come.
-abbrev pub TakesIn : Phase → Result (Option ℕ × Reply) FrameError → SessionValue → SessionValue → Type 0
+abbrev pub TakesIn : Phase → FrameRead → SessionValue → SessionValue → Type 0
 TakesIn Fresh body_reads old new = ⊥
 TakesIn Greeted body_reads old new = (asks : Bool) × TakesVersion body_reads asks old new
 TakesIn Asking body_reads old new = ⊥
@@ -196,7 +200,7 @@ TakesIn Open body_reads old new = LanesDid (λ s before after. TakesBody s body_
 TakesIn Failed body_reads old new = ⊥
 
 -- The first thing that is wrong with a frame, if there is one; a session that has failed checks no frame.
-abbrev pub first_wrong : Phase → List Entry → Result (Option ℕ × Reply) FrameError → Option TakeError
+abbrev pub first_wrong : Phase → List Entry → FrameRead → Option TakeError
 first_wrong Greeted past body_reads = refuses_hello body_reads
 first_wrong Failed past body_reads = None
 first_wrong other past body_reads = refuses past body_reads

@@ -15,6 +15,8 @@ ghost use Rattle.session_work.specs.Working.{HandsAll, TakesBody, past_of};
 use crate::session::Session;
 use session_driver::{Phase, Stepped};
 use sftp_core::{Chunk, TakeError};
+use sftp_model::{FrameError, Reply};
+use sftp_wire::read_reply;
 use ssh_encoding::OutOfMemory;
 
 /// Returns the result of a call of the lanes; after an error, the session has failed.
@@ -121,15 +123,18 @@ impl Session {
         keep(&mut self.phase, chunk)
     }
 
-    /// Takes the body of a frame into an open session. Fails with the first thing that is wrong with it, which is
+    /// Takes what was read of a frame into an open session. Fails with the first thing that is wrong with it, which is
     /// recorded, or if an allocation fails.
-    pub(crate) fn take_reply(&mut self, body: &[u8]) -> Result<(), TakeError>
+    pub(crate) fn take_reply(
+        &mut self,
+        read: Result<(Option<u32>, Reply), FrameError>,
+    ) -> Result<(), TakeError>
         requires open { self.old.phase ≡ phases.Open }
-        ensures takes { OnOk result (LanesDid (λ s before after. TakesBody s (reply_at body.now) before after) self.old self.new) }
-        ensures refused { IfErr result (λ e. IsFirst e (refuses (past_of self.old.work) (reply_at body.now))) }
+        ensures takes { OnOk result (LanesDid (λ s before after. TakesBody s read before after) self.old self.new) }
+        ensures refused { IfErr result (λ e. IsFirst e (refuses (past_of self.old.work) read)) }
         ensures kept { IfErr result (λ e. IsRefused e self.old self.new) }
     {
-        let taken = self.work.take(body);
+        let taken = self.work.take(read);
         keep(&mut self.phase, taken)
     }
 }
@@ -172,13 +177,11 @@ impl Session {
         self.work.core.give_back(chunk);
     }
 
-    /// Takes the body of a frame that came: VERSION, then the reply to the query for limits if it was made, and then
-    /// the replies to requests. While the query is in the queue each frame is refused.
+    /// Takes the body of a frame that came, as `take_read` takes what `read_reply` returns for it.
     ///
     /// # Errors
     ///
-    /// The first thing that is wrong with the frame, which is recorded, or `OutOfMemory` if an allocation fails. After
-    /// `OutOfMemory` each later call fails in the same way.
+    /// Those of `take_read`.
     pub fn take(&mut self, body: &[u8]) -> Result<(), TakeError>
         requires unfailed { self.old.work.core.fault ≡ None }
         requires sent { takes_frames self.old.phase ≡ true }
@@ -186,23 +189,48 @@ impl Session {
         ensures refused { IfErr result (λ e. IsFirst e (first_wrong self.old.phase (past_of self.old.work) (reply_at body.now))) }
         ensures kept { IfErr result (λ e. IsRefused e self.old self.new) }
     {
+        let read = read_reply(self.alloc, body);
+        self.take_read(read)
+    }
+
+    /// Takes what `read_reply` returned for the body of a frame that came: VERSION, then the reply to the query for
+    /// limits if it was made, and then the replies to requests. While the query is in the queue each frame is refused.
+    /// So a frame can be read while others use the session.
+    ///
+    /// # Errors
+    ///
+    /// The first thing that is wrong with the frame, which is recorded, or `OutOfMemory` if an allocation fails or
+    /// failed while the frame was read. After `OutOfMemory` each later call fails in the same way.
+    pub fn take_read(
+        &mut self,
+        read: Result<(Option<u32>, Reply), FrameError>,
+    ) -> Result<(), TakeError>
+        requires unfailed { self.old.work.core.fault ≡ None }
+        requires sent { takes_frames self.old.phase ≡ true }
+        ensures takes { OnOk result (TakesIn self.old.phase read self.old self.new) }
+        ensures refused { IfErr result (λ e. IsFirst e (first_wrong self.old.phase (past_of self.old.work) read)) }
+        ensures kept { IfErr result (λ e. IsRefused e self.old self.new) }
+    {
         // No `?`: it converts the error, and `refused` and `kept` are about the error itself.
         match self.phase {
             Phase::Fresh => unreachable!(),
-            Phase::Greeted => match self.take_hello(body) {
+            Phase::Greeted => match self.take_hello(read) {
                 Ok(_asks) => Ok(()),
                 Err(e) => Err(e),
             },
-            Phase::Asking => Err(self.refuse_reply(body)),
-            Phase::Queried => self.take_told(body),
-            Phase::Open => self.take_reply(body),
+            Phase::Asking => Err(self.refuse_reply(read)),
+            Phase::Queried => self.take_told(read),
+            Phase::Open => self.take_reply(read),
             Phase::Failed => Err(TakeError::OutOfMemory),
         }
     }
 
-    /// Returns true if a frame may be taken: the hello was handed out.
+    /// Returns true if a frame may be taken: the hello was handed out. Before that, and while VERSION is awaited, none
+    /// was reported.
     pub fn takes_frames(&self) -> bool
-        ensures { result ≡ takes_frames self.now.phase }
+        ensures value { result ≡ takes_frames self.now.phase }
+        ensures early { result ≡ false → self.now.version ≡ None }
+        ensures untold { self.now.phase ≡ phases.Greeted → self.now.version ≡ None }
     {
         !matches!(self.phase, Phase::Fresh)
     }

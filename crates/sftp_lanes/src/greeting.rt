@@ -2,7 +2,6 @@
 ghost use Rattle.std.specs.Prelude.{◌≡◌, IfOk, IfErr, OnErr, OnOk};
 ghost use Rattle.sftp_core.specs.Pieces.{chunk_bytes, HasFrames};
 ghost use Rattle.sftp_core.specs.Take.{IsFirst};
-ghost use Rattle.sftp_model.specs.ReplyReadings.{reply_at};
 ghost use Rattle.session_model.specs.Readings.{unsent_bytes};
 ghost use Rattle.session_model.specs.Shown.{hello_frame};
 ghost use Rattle.session_driver.specs.declared.session.Phase.TheVariants as phases;
@@ -15,6 +14,7 @@ use crate::session::Session;
 use session_driver::Phase;
 use session_model::{Entry, Event};
 use sftp_core::{Chunk, TakeError, Taken};
+use sftp_model::{FrameError, Reply};
 use ssh_encoding::OutOfMemory;
 
 impl Session {
@@ -38,15 +38,18 @@ impl Session {
         }
     }
 
-    /// Takes the body of VERSION. Returns true if the limits are to be asked for. Fails with the first thing that is
+    /// Takes what was read of VERSION. Returns true if the limits are to be asked for. Fails with the first thing that is
     /// wrong with it, which is recorded, or if an allocation fails.
-    pub(crate) fn take_hello(&mut self, body: &[u8]) -> Result<bool, TakeError>
+    pub(crate) fn take_hello(
+        &mut self,
+        read: Result<(Option<u32>, Reply), FrameError>,
+    ) -> Result<bool, TakeError>
         requires greeted { self.old.phase ≡ phases.Greeted }
-        ensures takes { IfOk result (λ asks. TakesVersion (reply_at body.now) asks self.old self.new) }
-        ensures refused { IfErr result (λ e. IsFirst e (refuses_hello (reply_at body.now))) }
+        ensures takes { IfOk result (λ asks. TakesVersion read asks self.old self.new) }
+        ensures refused { IfErr result (λ e. IsFirst e (refuses_hello read)) }
         ensures kept { IfErr result (λ e. IsRefused e self.old self.new) }
     {
-        match self.work.take_frame(body) {
+        match self.work.take_frame(read) {
             Ok(Taken::Version(reply)) => {
                 if offers_limits(&reply) {
                     self.work.journal.push(query_entry()).unwrap();
@@ -70,12 +73,15 @@ impl Session {
 
     /// Refuses a frame that comes while the query for limits is unsent, since none may come then. The error is the
     /// first thing that is wrong with it, which is recorded, or `OutOfMemory` if an allocation fails.
-    pub(crate) fn refuse_reply(&mut self, body: &[u8]) -> TakeError
+    pub(crate) fn refuse_reply(
+        &mut self,
+        read: Result<(Option<u32>, Reply), FrameError>,
+    ) -> TakeError
         requires asking { self.old.phase ≡ phases.Asking }
-        ensures refused { IsFirst result (refuses (past_of self.old.work) (reply_at body.now)) }
+        ensures refused { IsFirst result (refuses (past_of self.old.work) read) }
         ensures kept { IsRefused result self.old self.new }
     {
-        match self.work.take_frame(body) {
+        match self.work.take_frame(read) {
             Ok(_) => unreachable!(),
             Err(e) => {
                 self.phase = Phase::Failed;
@@ -109,15 +115,18 @@ impl Session {
         }
     }
 
-    /// Takes the body of the reply to the query for limits. Fails with the first thing that is wrong with it, which is
+    /// Takes what was read of the reply to the query for limits. Fails with the first thing that is wrong with it, which is
     /// recorded, or if an allocation fails.
-    pub(crate) fn take_told(&mut self, body: &[u8]) -> Result<(), TakeError>
+    pub(crate) fn take_told(
+        &mut self,
+        read: Result<(Option<u32>, Reply), FrameError>,
+    ) -> Result<(), TakeError>
         requires queried { self.old.phase ≡ phases.Queried }
-        ensures takes { OnOk result (TakesLimits (reply_at body.now) self.old self.new) }
-        ensures refused { IfErr result (λ e. IsFirst e (refuses (past_of self.old.work) (reply_at body.now))) }
+        ensures takes { OnOk result (TakesLimits read self.old self.new) }
+        ensures refused { IfErr result (λ e. IsFirst e (refuses (past_of self.old.work) read)) }
         ensures kept { IfErr result (λ e. IsRefused e self.old self.new) }
     {
-        match self.work.take_frame(body) {
+        match self.work.take_frame(read) {
             Ok(Taken::Limits { id, reply }) => {
                 self.info = tell(&mut self.work, &self.options);
                 self.work

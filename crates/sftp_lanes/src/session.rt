@@ -22,14 +22,15 @@ use session_model::{Call, Entry, Event, Lane, Outcome, Report};
 use session_work::Lanes;
 use sftp_core::{Chunk, Fault, Info, TakeError};
 use sftp_model::{Reply, SftpOptions};
+use sftp_wire::read_reply;
 use ssh_encoding::OutOfMemory;
 use std::alloc::Global;
 use std::marker::Model;
 
 /// A session that runs the lanes that it was given, and the calls that are added to them. After an error of `step`,
-/// `cancel`, `let_go`, `hand_out` or `take` no call of its lanes can be made any more, but it still reports what
-/// happened. Its journal is a run so far in every phase, and has the recorded fault. When it is dropped, it releases
-/// all that its lanes hold, and sends nothing.
+/// `cancel`, `let_go`, `hand_out`, `take` or `take_read` no call of its lanes can be made any more, but it still
+/// reports what happened. Its journal is a run so far in every phase, and has the recorded fault. When it is dropped,
+/// it releases all that its lanes hold, and sends nothing.
 ///
 /// Example: `crates/sftp_view/src/run.rt`.
 #[derive(Drop)]
@@ -239,7 +240,8 @@ impl RunsLanes for Session {
     }
 
     fn take_version(&mut self, body: &[u8]) -> Result<bool, TakeError> {
-        self.take_hello(body)
+        let read = read_reply(self.alloc, body);
+        self.take_hello(read)
     }
 
     fn query(&mut self) -> Result<Chunk, OutOfMemory> {
@@ -247,7 +249,8 @@ impl RunsLanes for Session {
     }
 
     fn take_limits(&mut self, body: &[u8]) -> Result<(), TakeError> {
-        self.take_told(body)
+        let read = read_reply(self.alloc, body);
+        self.take_told(read)
     }
 
     fn step(&mut self, lane: u32) -> Result<Stepped, OutOfMemory> {
@@ -271,7 +274,8 @@ impl RunsLanes for Session {
     }
 
     fn take(&mut self, body: &[u8]) -> Result<(), TakeError> {
-        self.take_reply(body)
+        let read = read_reply(self.alloc, body);
+        self.take_reply(read)
     }
 
     fn wants_flush(&self) -> bool {

@@ -1,10 +1,11 @@
 -- What is reported once the session was taken out.
-use Rattle.std.proofs.Common.{◌≡◌, ◌≢◌, ◌<◌, ℕ, ◌==◌, List, length, map, sym, ap, ◌∙◌, subst, reverse, None, Some, inl, inr, true, Ok, Err, IfOk, IfSome, Global}
-use Rattle.std.specs.Prelude.{Option, Result}
+use Rattle.std.proofs.Common.{◌≡◌, ◌≢◌, ◌<◌, ℕ, suc, ◌-◌, ◌==◌, List, [], ◌∷◌, ◌++◌, arith, length, map, sym, ap, ◌∙◌, subst, reverse, None, Some, inl, inr, true, Ok, Err, IfOk, IfSome, Global}
+use Rattle.std.specs.Prelude.{Option, Result, slice_get}
 use Rattle.sftp_model.specs.declared.error.Error.{Error}
 use Rattle.sftp_model.specs.declared.error.Error.TheVariants as error
+use Rattle.sftp_model.specs.declared.error.Fault.{Fault}
 use Rattle.std.specs.declared.vec.Vec.{Vec}
-use Rattle.std.proofs.lemmas.List.{length-reverse}
+use Rattle.std.proofs.lemmas.List.{length-reverse, reverse-append}
 use Rattle.session_model.specs.declared.entry.Entry.{Entry}
 use Rattle.session_seats.specs.declared.ended.Ended.{Ended}
 use Rattle.session_seats.specs.declared.rule.Held.{Ghosts}
@@ -27,6 +28,8 @@ use Rattle.session_work.specs.Working.{past_of}
 use Rattle.sftp_tasks.specs.declared.locked.Locked.{Locked}
 use Rattle.sftp_tasks.specs.declared.report.SharedReport.{SharedReport}
 use Rattle.sftp_tasks.specs.Reported.{
+  EndedByFault,
+  EndsByFault,
   HasStopped,
   HaveLanes,
   IsRefusedFor,
@@ -86,6 +89,34 @@ reported seats e r closes goes reports lists opened settled same =
       distinct = closes.distinct;
       told = closes.told;
     }
+
+-- the journal of a session that was taken out ends by the fault that it recorded
+pub ended_by_fault : {G : Ghosts Locked} (seats : List (Seat Locked G)) (e : Ended Locked) (fault : Fault)
+    → Closes shown_of seats e → EndsByFault e.value.session fault → EndedByFault seats fault
+ended_by_fault seats e fault closes ends =
+    let s = e.value.session in
+    let now = closes.now in
+    let past : past_of s.work ≡ entries now.log = closes.shows.past in
+    let told : now ≡ sight_of (shown_of e.value) now.log now.seats = closes.shows.told in record {
+      now = now;
+      info = s.info;
+      before = ends.before;
+      past = sym past ∙ ends.past;
+      run = subst (λ (x : Sight × List Entry). IsJournal (setting_by x.0.lanes x.0.options x.0.version s.info) x.1)
+          (λ i. (sym told i, past i)) ends.run;
+      lawful = closes.lawful;
+      told = closes.told;
+    }
+
+-- the newest entry of a journal
+pub newest_is : (journal : List Entry) (e : Entry) → slice_get journal (length journal - 1) ≡ Some e
+    → (before : List Entry) × (reverse journal ≡ e ∷ before)
+newest_is [] e is = absurd (cc is)
+newest_is (x ∷ []) e is = let same : x ≡ e = cc is in ([], (λ i. same i ∷ []))
+newest_is (x ∷ y ∷ rest) e is =
+    let less : length (x ∷ y ∷ rest) - 1 ≡ suc (length (y ∷ rest) - 1) = omega arith in
+    let p = newest_is (y ∷ rest) e (subst (λ (k : ℕ). slice_get (x ∷ y ∷ rest) k ≡ Some e) less is) in
+    (p.0 ++ x ∷ [], reverse-append (x ∷ []) (y ∷ rest) ∙ ap (λ (l : List Entry). l ++ x ∷ []) p.1)
 
 -- the cover, of the journal that is reported
 pub covered : (e : Ended Locked) (journal : List Entry) → reverse journal ≡ past_of e.value.session.work

@@ -20,6 +20,9 @@ use Rattle.std.proofs.Common.{
   ◌∙◌,
   subst,
   ⊎_elim,
+  ◌⊎◌,
+  inl,
+  inr,
   arith,
   Some,
   None,
@@ -44,8 +47,9 @@ use Rattle.session_driver.specs.declared.session.Phase.TheVariants.{Fresh, Open,
 use Rattle.session_model.specs.Readings.{count_unanswered}
 use Rattle.session_model.specs.declared.entry.Entry.{Entry}
 use Rattle.session_model.specs.declared.entry.Entry.TheVariants as entry
-use Rattle.sftp_lanes.specs.Events.{HandsOutIn, TakesIn}
+use Rattle.sftp_lanes.specs.Events.{FrameRead, HandsOutIn, TakesIn}
 use Rattle.sftp_lanes.specs.Seen.{SessionValue}
+use Rattle.sftp_lanes.proofs.ReadFrames.{taken_as_read, wrong_as_read}
 use Rattle.session_work.specs.Working.{LanesValue, past_of}
 use Rattle.session_seats.specs.Sights.{FitsStage, CountsRise, StaysThere}
 use Rattle.atomic_table.specs.Table.{Me}
@@ -61,13 +65,14 @@ use Rattle.sftp_model.specs.ReplyReadings.{reply_at}
 use Rattle.std.specs.Option.{option_map}
 use Rattle.plan_model.specs.declared.call.Call.{Call}
 use Rattle.sftp_lanes.specs.Adding.{AddsCall, IsSame}
-use Rattle.sftp_tasks.specs.SessionEvents.{GivesUp, HandsUnsent, KeepsFault, RefusesCall, RefusesToAdd, SubmitsCall, TakeStops}
+use Rattle.sftp_tasks.specs.SessionEvents.{GivesUp, HandsUnsent, IsRefusedBy, IsUnawaited, KeepsFault, RefusesCall, RefusesToAdd, SubmitsCall, TakeStops}
 use Rattle.sftp_tasks.specs.LockedEvents.{
   SettlesEnd,
   HandingOut,
   HandsOutFrames,
-  IsFrame,
   CountsTakenFrame,
+  IsFrame,
+  ReadsFrame,
   TakingFrame,
   UnlessFault,
   NotesWritten,
@@ -76,6 +81,7 @@ use Rattle.sftp_tasks.specs.LockedEvents.{
   tells_written,
 }
 use Rattle.sftp_wire.specs.FrameReader.{Received, body_of}
+use Rattle.sftp_wire.specs.Reading.{GivesBody}
 use Rattle.sftp_tasks.specs.declared.frames.Handed.{Handed}
 use Rattle.sftp_tasks.specs.Entries.{by_failing, by_flush, by_nothing, by_read, by_step, by_submit}
 use Rattle.sftp_tasks.proofs.EntryLaws.{
@@ -169,13 +175,13 @@ writing_goes lane frames y z is small =
       phase = same.phase;
     } (omega arith) same
 
-pub taking_goes : (lane : Option ℕ) (body : List ℕ) (y z : Locked) (r : Result (Unit {0}) Error) → z
+pub taking_goes : (lane : Option ℕ) (read : FrameRead) (y z : Locked) (r : Result (Unit {0}) Error) → z
     ≡ record y { session = z.session; counts = record y.counts { taken = z.counts.taken } }
     → y.counts.taken ≤ z.counts.taken
-    → CountsTakenFrame body y z r → GoesBy (passes by_read lane) no_allowance (shown_of y) (shown_of z)
-taking_goes lane body y z (Ok u) rest more h = taken_goes _ y z rest more
+    → CountsTakenFrame read y z r → GoesBy (passes by_read lane) no_allowance (shown_of y) (shown_of z)
+taking_goes lane read y z (Ok u) rest more h = taken_goes _ y z rest more
     (takes_extended y.session.phase _ lane y.session z.session refl h.0)
-taking_goes lane body y z (Err e) rest more h = taken_goes _ y z rest more
+taking_goes lane read y z (Err e) rest more h = taken_goes _ y z rest more
     (stops_extended _ (λ f. refl) _ e y.session z.session h.0)
 
 pub failing_goes : (lane : Option ℕ) (f : Fault) (y z : Locked) (r : Result (Unit {0}) Error) → z
@@ -202,13 +208,13 @@ pub handing_from : (y z : Locked) (r : Result (Option Handed) Error) → z
 handing_from y z (Ok handed) rest a b c d = (a, (hands_from y z handed b c, ap (λ (x : Locked). x.counts.written) rest))
 handing_from y z (Err e) rest a b c d = d
 
-pub taking_from : (body : List ℕ) (y z : Locked) (r : Result (Unit {0}) Error)
-    → OnOk r (TakesIn y.session.phase (reply_at body) y.session z.session)
+pub taking_from : (read : FrameRead) (y z : Locked) (r : Result (Unit {0}) Error)
+    → OnOk r (TakesIn y.session.phase read y.session z.session)
     → OnOk r ((z.counts.taken ≡ min (y.counts.taken + 1) (2 ^ 64 - 1)) × (y.counts.taken ≤ z.counts.taken))
-    → IfErr r (λ e. TakeStops (reply_at body) e y.session z.session × (z.counts.taken ≡ y.counts.taken))
-    → CountsTakenFrame body y z r × (y.counts.taken ≤ z.counts.taken)
-taking_from body y z (Ok u) a b c = ((a, b.0), b.1)
-taking_from body y z (Err e) a b c = (c, let same = c.1 in omega arith)
+    → IfErr r (λ e. TakeStops read e y.session z.session × (z.counts.taken ≡ y.counts.taken))
+    → CountsTakenFrame read y z r × (y.counts.taken ≤ z.counts.taken)
+taking_from read y z (Ok u) a b c = ((a, b.0), b.1)
+taking_from read y z (Err e) a b c = (c, let same = c.1 in omega arith)
 
 pub gives_up_goes : (lane : Option ℕ) (y z : Locked) → z ≡ record y { session = z.session }
     → GivesUp y.session z.session → GoesBy (passes by_nothing lane) no_allowance (shown_of y) (shown_of z)
@@ -376,10 +382,43 @@ abbrev got_or : List ℕ → Option (List ℕ) → List ℕ
 got_or body None = body
 got_or body (Some b) = b
 
--- a frame's body is the one that was taken
-pub taking_frame : (frame : Received) (body : List ℕ) (y z : Locked) (r : Result (Unit {0}) Error) → body_of frame
-    ≡ Some body → IsFrame frame body
-    → CountsTakenFrame body y z r → TakingFrame frame y z r
-taking_frame frame body y z r is spelled takes other same =
-    subst (λ (b : List ℕ). IsFrame frame b × CountsTakenFrame b y z r) (ap (got_or body) (sym is ∙ same))
-    (spelled, takes)
+-- a frame's body is the one that was read
+pub body_read : (frame : Received) (body : List ℕ) (read : FrameRead) → body_of frame ≡ Some body → IsFrame frame body
+    → GivesBody read (reply_at body) → ReadsFrame frame read
+body_read frame body read is spelled gives other same =
+    subst (λ (b : List ℕ). IsFrame frame b × GivesBody read (reply_at b)) (ap (got_or body) (sym is ∙ same))
+    (spelled, gives)
+
+-- a frame is refused as its bytes are
+stops_either_as_read : (read bytes : FrameRead) (e : Error) (old new : SessionValue) → GivesBody read bytes
+    → IsRefusedBy read e old new ⊎ IsUnawaited e old new → IsRefusedBy bytes e old new ⊎ IsUnawaited e old new
+stops_either_as_read read bytes e old new gives (inl r) =
+    inl record {
+      error = r.error;
+      is = r.is;
+      unfailed = r.unfailed;
+      untold = r.untold;
+      first = wrong_as_read old.phase (past_of old.work) r.error read bytes gives r.first;
+      kept = r.kept;
+    }
+stops_either_as_read read bytes e old new gives (inr u) = inr u
+
+pub stops_as_read : (read bytes : FrameRead) (e : Error) (old new : SessionValue) → GivesBody read bytes
+    → TakeStops read e old new → TakeStops bytes e old new
+stops_as_read read bytes (error.BackgroundTaskFailure f) old new gives h = h
+stops_as_read read bytes error.OutOfMemory old new gives h = stops_either_as_read read bytes _ old new gives h
+stops_as_read read bytes other old new gives h = stops_either_as_read read bytes _ old new gives h
+
+counted_as_read : (read bytes : FrameRead) (y z : Locked) (r : Result (Unit {0}) Error) → GivesBody read bytes
+    → CountsTakenFrame read y z r → CountsTakenFrame bytes y z r
+counted_as_read read bytes y z (Ok u) gives h = (
+  taken_as_read y.session.phase read bytes y.session z.session gives h.0,
+  h.1,
+)
+counted_as_read read bytes y z (Err e) gives h = (stops_as_read read bytes e y.session z.session gives h.0, h.1)
+
+-- a frame is taken as it was read
+pub taking_frame : (frame : Received) (read : FrameRead) (y z : Locked) (r : Result (Unit {0}) Error)
+    → ReadsFrame frame read → CountsTakenFrame read y z r → TakingFrame frame y z r
+taking_frame frame read y z r reads h body is =
+    let g = reads body is in (g.0, counted_as_read read (reply_at body) y z r g.1 h)

@@ -20,8 +20,9 @@ use Rattle.session_seats.proofs.HoldLaws.{hold_map}
 use Rattle.session_seats.proofs.Lists.{stays_same}
 use Rattle.session_seats.proofs.RepeatLaws.{sees_version}
 use Rattle.session_work.specs.Working.{past_of}
-use Rattle.sftp_lanes.specs.Events.{BeginsBy, HandsHello, HandsOutIn, TakesIn, TakesVersion}
+use Rattle.sftp_lanes.specs.Events.{BeginsBy, FrameRead, HandsHello, HandsOutIn, TakesIn, TakesVersion}
 use Rattle.sftp_lanes.specs.Seen.{SessionValue}
+use Rattle.sftp_lanes.proofs.ReadFrames.{same_read}
 use Rattle.sftp_link.specs.Told.{GotAll, IfLogged}
 use Rattle.sftp_link.specs.Views.{LinkView}
 use Rattle.sftp_model.specs.declared.error.Error.{Error}
@@ -30,12 +31,13 @@ use Rattle.sftp_model.specs.declared.frame_error.FrameError.{FrameError}
 use Rattle.sftp_model.specs.declared.reply.Reply.{Reply}
 use Rattle.sftp_core.specs.Pieces.{chunk_bytes}
 use Rattle.sftp_model.specs.ReplyReadings.{reply_at}
-use Rattle.sftp_wire.specs.FrameReader.{Received, body_of}
+use Rattle.sftp_wire.specs.FrameReader.{Received}
+use Rattle.sftp_wire.specs.Reading.{GivesBody}
 use Rattle.sftp_tasks.specs.declared.frames.Handed.{Handed}
 use Rattle.sftp_tasks.specs.declared.locked.Locked.{Locked}
 use Rattle.sftp_tasks.specs.Calls.{with_receipt}
 use Rattle.sftp_tasks.specs.Entries.{by_failing, by_nothing}
-use Rattle.sftp_tasks.specs.LockedEvents.{HandingOut, IsFrame, CountsTakenFrame, UnlessFault, tells_written}
+use Rattle.sftp_tasks.specs.LockedEvents.{HandingOut, CountsTakenFrame, ReadsFrame, UnlessFault, tells_written}
 use Rattle.sftp_tasks.specs.Opening.{FindsHello, GetsSomeVersion, HandingHello, HandsOutHello, IsUnasked, TakingVersion, TakingVersionFrame, VersionStops, by_opening}
 use Rattle.sftp_tasks.specs.Rounds.{RefusesRound, Token}
 use Rattle.sftp_tasks.specs.SessionEvents.{MayTakeCalls, RefusesCall, TakeStops}
@@ -52,7 +54,7 @@ use Rattle.sftp_tasks.proofs.EntryLaws.{
   session_goes,
   stops_extended,
 }
-use Rattle.sftp_tasks.proofs.HoldLaws.{handed_goes, taken_goes}
+use Rattle.sftp_tasks.proofs.HoldLaws.{handed_goes, stops_as_read, taken_goes}
 use Rattle.sftp_tasks.proofs.PhaseLaws.{number_rises}
 use Rattle.sftp_tasks.proofs.SentEvents.{whole_body}
 
@@ -149,54 +151,73 @@ version_extended body_reads asks lane old new h was = record {
 }
 
 -- a frame that is not taken as VERSION adds at most a fault
-untaken_extended : (lane : Option ℕ) (body : List ℕ) (e : Error) (old new : SessionValue)
-    → RefusesCall e old new ⊎ (TakeStops (reply_at body) e old new ⊎ IsUnasked e old new)
+untaken_extended : (lane : Option ℕ) (read : FrameRead) (e : Error) (old new : SessionValue)
+    → RefusesCall e old new ⊎ (TakeStops read e old new ⊎ IsUnasked e old new)
     → Extended (passes by_opening lane) old new
-untaken_extended lane body e old new (inl h) = refuses_extended _ e old new h
-untaken_extended lane body e old new (inr (inl h)) = stops_extended _ (λ f. refl) _ e old new h
-untaken_extended lane body e old new (inr (inr h)) = kept_extended _ (λ f. refl) (fault.Response None) old new h.kept
+untaken_extended lane read e old new (inl h) = refuses_extended _ e old new h
+untaken_extended lane read e old new (inr (inl h)) = stops_extended _ (λ f. refl) _ e old new h
+untaken_extended lane read e old new (inr (inr h)) = kept_extended _ (λ f. refl) (fault.Response None) old new h.kept
 
-pub version_goes : (lane : Option ℕ) (body : List ℕ) (y z : Locked) (r : Result (Unit {0}) Error) → z
+pub version_goes : (lane : Option ℕ) (read : FrameRead) (y z : Locked) (r : Result (Unit {0}) Error) → z
     ≡ record y { session = z.session; counts = record y.counts { taken = z.counts.taken } }
-    → y.counts.taken ≤ z.counts.taken → TakingVersion body y z r
+    → y.counts.taken ≤ z.counts.taken → TakingVersion read y z r
     → GoesBy (passes by_opening lane) no_allowance (shown_of y) (shown_of z)
-version_goes lane body y z (Ok u) rest more h = taken_goes _ y z rest more
+version_goes lane read y z (Ok u) rest more h = taken_goes _ y z rest more
     (version_extended _ h.0.0 lane y.session z.session h.0.1 (sym h.2))
-version_goes lane body y z (Err e) rest more h = taken_goes _ y z rest more
-    (untaken_extended lane body e y.session z.session h.0)
+version_goes lane read y z (Err e) rest more h = taken_goes _ y z rest more
+    (untaken_extended lane read e y.session z.session h.0)
 
-pub version_awaited : (body : List ℕ) (y z : Locked) (r : Result (Unit {0}) Error) → y.session.phase ≡ Greeted
-    → CountsTakenFrame body y z r → TakingVersion body y z r
-version_awaited body y z (Ok u) greeted h = (
-  subst (λ (p : Phase). TakesIn p (reply_at body) y.session z.session)
+pub version_awaited : (read : FrameRead) (y z : Locked) (r : Result (Unit {0}) Error) → y.session.phase ≡ Greeted
+    → CountsTakenFrame read y z r → TakingVersion read y z r
+version_awaited read y z (Ok u) greeted h = (
+  subst (λ (p : Phase). TakesIn p read y.session z.session)
       greeted h.0,
   h.1,
   greeted,
 )
-version_awaited body y z (Err e) greeted h = (inr (inl h.0), h.1)
+version_awaited read y z (Err e) greeted h = (inr (inl h.0), h.1)
 
-abbrev got_or : List ℕ → Option (List ℕ) → List ℕ
-got_or body None = body
-got_or body (Some b) = b
+-- VERSION is taken as it was read
+taken_version : (read bytes : FrameRead) (y z : Locked) (r : Result (Unit {0}) Error) → GivesBody read bytes
+    → TakingVersion read y z r → TakingVersion bytes y z r
+taken_version read bytes y z (Ok u) gives h =
+    let v = h.0 in (
+      (
+        v.0,
+        subst (λ (b : FrameRead). TakesVersion b v.0 y.session z.session)
+            (sym (same_read read bytes gives _ v.1.reads)) v.1,
+      ),
+      h.1,
+      h.2,
+    )
+taken_version read bytes y z (Err e) gives h = (untaken h.0, h.1)
+  where
+    untaken : RefusesCall e y.session z.session
+        ⊎ (TakeStops read e y.session z.session ⊎ IsUnasked e y.session z.session)
+        → RefusesCall e y.session z.session
+        ⊎ (TakeStops bytes e y.session z.session ⊎ IsUnasked e y.session z.session)
+    untaken (inl h) = inl h
+    untaken (inr (inl h)) = inr (inl (stops_as_read read bytes e y.session z.session gives h))
+    untaken (inr (inr h)) = inr (inr h)
 
 -- the body of the frame is taken
-pub taking_version : (frame : Received) (body : List ℕ) (y z : Locked) (r : Result (Unit {0}) Error) → body_of frame
-    ≡ Some body → IsFrame frame body
-    → TakingVersion body y z r → TakingVersionFrame frame y z r
-taking_version frame body y z r is spelled takes other same =
-    subst (λ (b : List ℕ). IsFrame frame b × TakingVersion b y z r) (ap (got_or body) (sym is ∙ same)) (spelled, takes)
+taking_version : (frame : Received) (read : FrameRead) (y z : Locked) (r : Result (Unit {0}) Error)
+    → ReadsFrame frame read → TakingVersion read y z r → TakingVersionFrame frame y z r
+taking_version frame read y z r reads h body is =
+    let g = reads body is in (g.0, taken_version read (reply_at body) y z r g.1 h)
 
 module _ {X Y Service : Type 0} {test : Entry → Bool} {needs : Allowance} {old new : List Receipt} (copied : Result X Y)
     (m n : Token)
-    (frame : Received) (before now : LinkView Service) where
+    (frame : Received) (read : FrameRead) (before now : LinkView Service) where
   -- a frame that was got and taken is VERSION
-  version_got : IsWhole frame → IfLogged (GotAll frame.bytes) before.log now.log
+  version_got : IsWhole frame → ReadsFrame frame read → IfLogged (GotAll frame.bytes) before.log now.log
       → IsCausedByLink {T = Received} before now (Ok frame)
-      → Hold shown_of (Applied shown_of test needs (λ y z. UnlessFault (TakingVersionFrame frame) y z (Ok tt)) copied
-      old new) m n → GetsSomeVersion m n before now
-  version_got whole got caused h =
+      → Hold shown_of (Applied shown_of test needs (λ y z. UnlessFault (TakingVersion read) y z (Ok tt)) copied old new)
+      m n → GetsSomeVersion m n before now
+  version_got whole reads got caused h =
       let body = drop 4 frame.bytes in
-      let t = h.did.does.0 body (whole_body frame whole) in
+      let taken = taking_version frame read h.before h.after (Ok tt) reads h.did.does.0 in
+      let t = taken body (whole_body frame whole) in
       let v = t.1.0.1 in (
         version_reply_of v.extensions,
         record {
@@ -212,18 +233,18 @@ module _ {X Y Service : Type 0} {test : Entry → Bool} {needs : Allowance} {old
         },
       )
 
-  pub version_gets : (did : Result (Unit {0}) Error) → IsWhole frame → IfLogged (GotAll frame.bytes) before.log now.log
+  pub version_gets : (did : Result (Unit {0}) Error) → IsWhole frame → ReadsFrame frame read
+      → IfLogged (GotAll frame.bytes) before.log now.log
       → IsCausedByLink {T = Received} before now (Ok frame)
-      → Hold shown_of (Applied shown_of test needs (λ y z. UnlessFault (TakingVersionFrame frame) y z did) copied old
-      new) m n
+      → Hold shown_of (Applied shown_of test needs (λ y z. UnlessFault (TakingVersion read) y z did) copied old new) m n
       → OnOk (with_receipt did copied) (GetsSomeVersion m n before now)
       × IfErr (with_receipt did copied) (λ e. VersionStops e m n before now)
-  version_gets (Err e) whole got caused h = (
-    tt,
-    inr (inl record
-        { frame = frame; whole = whole; got = got; refuses = hold_map shown_of m n h h.did.does.0 }),
-  )
-  version_gets (Ok u) whole got caused h = by_copied copied (version_got whole got caused h)
+  version_gets (Err e) whole reads got caused h =
+      let refused = taking_version frame read h.before h.after (Err e) reads h.did.does.0 in (
+        tt,
+        inr (inl record { frame = frame; whole = whole; got = got; refuses = hold_map shown_of m n h refused }),
+      )
+  version_gets (Ok u) whole reads got caused h = by_copied copied (version_got whole reads got caused h)
     where
       by_copied : (c : Result X Y) → GetsSomeVersion m n before now
           → OnOk (with_receipt {X = X} {Y = Y} (Ok u) c) (GetsSomeVersion m n before now)

@@ -8,17 +8,18 @@ use Rattle.session_seats.specs.declared.view.Receipt.{Receipt}
 use Rattle.session_seats.specs.Holds.{Allowance, Applied, AddsEntries, Hold, passes}
 use Rattle.session_seats.proofs.GrowLaws.{grew_on, grew_weaker}
 use Rattle.session_seats.proofs.HoldLaws.{hold_map}
+use Rattle.sftp_lanes.specs.Events.{FrameRead}
 use Rattle.sftp_link.specs.Views.{LinkView}
 use Rattle.sftp_model.specs.declared.error.Error.{Error}
 use Rattle.sftp_wire.specs.FrameReader.{Received}
 use Rattle.sftp_tasks.specs.declared.frames.Handed.{Handed}
 use Rattle.sftp_tasks.specs.declared.locked.Locked.{Locked}
 use Rattle.sftp_tasks.specs.Entries.{by_failing, by_flush, by_nothing, by_read}
-use Rattle.sftp_tasks.specs.LockedEvents.{HandingOut, LooksForFrame, TakingFrame, UnlessFault, NotesWritten, tells_written}
+use Rattle.sftp_tasks.specs.LockedEvents.{CountsTakenFrame, HandingOut, LooksForFrame, ReadsFrame, TakingFrame, UnlessFault, NotesWritten, tells_written}
 use Rattle.sftp_tasks.specs.Rounds.{FlushesRound, ReadsRound, RefusesRound, HoldsOnce, Token}
 use Rattle.sftp_tasks.specs.SessionEvents.{RefusesCall}
 use Rattle.sftp_tasks.specs.Shows.{shown_of}
-use Rattle.sftp_tasks.proofs.HoldLaws.{none_passes}
+use Rattle.sftp_tasks.proofs.HoldLaws.{none_passes, taking_frame}
 
 -- ---- which entries
 
@@ -120,18 +121,23 @@ module _ {X Y : Type 0} {test : Entry → Bool} {needs : Allowance} {old new : L
   look_true did is h = hold_map shown_of m n h (subst (λ (x : Result Bool Error). UnlessFault LooksForFrame h.before
       h.after x) is h.did.does)
 
-  pub took : (frame : Received) (did r : Result (Unit {0}) Error) → did ≡ r
-      → Hold shown_of (Applied shown_of test needs (λ y z. UnlessFault (TakingFrame frame) y z did) copied old new) m n
-      → HoldsOnce (λ y z more. UnlessFault (TakingFrame frame) y z r) m n
-  took frame did r is h = hold_map shown_of m n h (subst (λ (x : Result (Unit {0}) Error). UnlessFault
-      (TakingFrame frame) h.before h.after x) is h.did.does)
+  -- what was read of a frame is taken, and so the frame is
+  pub took : (frame : Received) (read : FrameRead) (did r : Result (Unit {0}) Error) → did ≡ r → ReadsFrame frame read
+      → Hold shown_of (Applied shown_of test needs (λ y z. UnlessFault (CountsTakenFrame read) y z did) copied old new)
+      m n → HoldsOnce (λ y z more. UnlessFault (TakingFrame frame) y z r) m n
+  took frame read did r is reads h =
+      let d = subst (λ (x : Result (Unit {0}) Error). UnlessFault (CountsTakenFrame read) h.before h.after x) is
+      h.did.does in
+      hold_map shown_of m n h (taking_frame frame read h.before h.after r reads d.0, d.1)
 
-  pub refuses_frame : (frame : Received) (did : Result (Unit {0}) Error) (e : Error) → did ≡ Err e
-      → Hold shown_of (Applied shown_of test needs (λ y z. UnlessFault (TakingFrame frame) y z did) copied old new) m n
-      → HoldsOnce (λ y z more. TakingFrame frame y z (Err e)) m n
-  refuses_frame frame did e is h =
-      hold_map shown_of m n h (subst (λ (x : Result (Unit {0}) Error). UnlessFault (TakingFrame frame) h.before h.after
-      x) is h.did.does).0
+  pub refuses_frame : (frame : Received) (read : FrameRead) (did : Result (Unit {0}) Error) (e : Error) → did ≡ Err e
+      → ReadsFrame frame read
+      → Hold shown_of (Applied shown_of test needs (λ y z. UnlessFault (CountsTakenFrame read) y z did) copied old new)
+      m n → HoldsOnce (λ y z more. TakingFrame frame y z (Err e)) m n
+  refuses_frame frame read did e is reads h =
+      let d = subst (λ (x : Result (Unit {0}) Error). UnlessFault (CountsTakenFrame read) h.before h.after x) is
+      h.did.does in
+      hold_map shown_of m n h (taking_frame frame read h.before h.after (Err e) reads d.0)
 
 pub noted : {X Y : Type 0} {frames : ℕ} {old new : List Receipt} {copied : Result X Y} (lane : Option ℕ) (m n : Token)
     → Hold shown_of (Applied shown_of (passes by_nothing lane) (tells_written frames) (NotesWritten frames) copied old

@@ -158,7 +158,7 @@ module _ {Service : Type 0} where
   -- ---- rounds
 
   -- what a round leaves of a seat that had seen VERSION
-  abbrev Got : {T : Type 0} → Reply → Result T Error → Token → Token → LinkView Service → LinkView Service → Type 0
+  abbrev pub Got : {T : Type 0} → Reply → Result T Error → Token → Token → LinkView Service → LinkView Service → Type 0
   Got hello r m n v w = GotTakes r m n v w × SeesVersion hello (sight_by n)
 
   once_got : {T : Type 0} (t : T) (hello : Reply) (m n : Token) (v w : LinkView Service)
@@ -197,11 +197,11 @@ module _ {Service : Type 0} where
   round_got t false hello m n v w sees h =
       let same = same_idle m n v w h in (got_idle t m n v w same h.1, same.version hello sees)
 
-  unread_same : (e : Error) (m n : Token) (v w : LinkView Service) → StopsUnread e m n v w → SameSent m n
+  pub unread_same : (e : Error) (m n : Token) (v w : LinkView Service) → StopsUnread e m n v w → SameSent m n
   unread_same e m n v w u = same_on m u.mid n (same_value m u.mid u.looks u.looks.did.0.0)
       (same_stopped u.why e u.mid n u.stops)
 
-  untaken_same : (e : Error) (m n : Token) (v w : LinkView Service) → StopsUntaken e m n v w → SameSent m n
+  pub untaken_same : (e : Error) (m n : Token) (v w : LinkView Service) → StopsUntaken e m n v w → SameSent m n
   untaken_same e m n v w u =
       let h = u.refuses in
       let body = drop 4 u.frame.bytes in
@@ -252,7 +252,7 @@ module _ {Service : Type 0} where
 
   -- ---- all of them
 
-  led_got : (hello : Reply) (first : WorkerState Service) (between : List (WorkerState Service))
+  pub led_got : (hello : Reply) (first : WorkerState Service) (between : List (WorkerState Service))
       (last : WorkerState Service) → SeesVersion hello (sight_by first.0)
       → IsChainOf (NotLast is_over ReadShift) first between last
       → Got {T = Unit {0}} hello (Ok tt) first.0 last.0 first.1 last.1

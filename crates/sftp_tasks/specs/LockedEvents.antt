@@ -1,5 +1,5 @@
 -- believed, except DoesNothing, OfLane, CancelsLaneCall, LettingGo, PollsLane, ReleasesLane, SubmitsLaneCall,
---   HandingOut, KeepsFirstFault, tells_written
+--   HandingOut, ReadsFrame, KeepsFirstFault, tells_written
 -- Effects of each event on the locked value, for the lane that its seat names.
 use Rattle.std.specs.Prelude.{
   ◌≡◌,
@@ -40,10 +40,11 @@ use Rattle.sftp_model.specs.ReplyReadings.{reply_at}
 use Rattle.sftp_core.specs.Pieces.{chunk_bytes}
 use Rattle.sftp_lanes.specs.Counts.{unsent_in}
 use Rattle.sftp_lanes.specs.Seen.{SessionValue}
-use Rattle.sftp_lanes.specs.Events.{CancelsIn, HandsOutIn, TakesIn}
+use Rattle.sftp_lanes.specs.Events.{CancelsIn, FrameRead, HandsOutIn, TakesIn}
 use Rattle.session_model.specs.Readings.{count_unanswered}
 use Rattle.session_work.specs.Working.{past_of}
 use Rattle.sftp_wire.specs.FrameReader.{Received, body_of}
+use Rattle.sftp_wire.specs.Reading.{GivesBody}
 use Rattle.session_seats.specs.Holds.{Allowance}
 use Rattle.sftp_tasks.specs.declared.frames.Handed.{Handed}
 use Rattle.sftp_tasks.specs.declared.locked.Locked.{Locked}
@@ -114,9 +115,9 @@ abbrev pub CountsFrame : Locked → Locked → Type 0
 CountsFrame y z = z.counts.taken ≡ min (y.counts.taken + 1) (2 ^ 64 - 1)
 
 -- A frame that is taken is counted, and one that is refused is not.
-abbrev pub CountsTakenFrame : List ℕ → Locked → Locked → Result (Unit {0}) Error → Type 0
-CountsTakenFrame body y z (Ok u) = TakesIn y.session.phase (reply_at body) y.session z.session × CountsFrame y z
-CountsTakenFrame body y z (Err e) = TakeStops (reply_at body) e y.session z.session × (z.counts.taken ≡ y.counts.taken)
+abbrev pub CountsTakenFrame : FrameRead → Locked → Locked → Result (Unit {0}) Error → Type 0
+CountsTakenFrame read y z (Ok u) = TakesIn y.session.phase read y.session z.session × CountsFrame y z
+CountsTakenFrame read y z (Err e) = TakeStops read e y.session z.session × (z.counts.taken ≡ y.counts.taken)
 
 -- The bytes that came are this body after its length.
 abbrev pub IsFrame : Received → List ℕ → Type 0
@@ -125,7 +126,12 @@ IsFrame received body = (received.bytes ≡ frame body) × (length body ≤ MAX_
 -- The frame's body is taken, if it is whole.
 abbrev pub TakingFrame : Received → Locked → Locked → Result (Unit {0}) Error → Type 0
 TakingFrame received y z r = (body : List ℕ) → body_of received ≡ Some body → IsFrame received body
-    × CountsTakenFrame body y z r
+    × CountsTakenFrame (reply_at body) y z r
+
+-- This was read of the frame's body, if it is whole; or memory ran out.
+abbrev pub ReadsFrame : Received → FrameRead → Type 0
+ReadsFrame received read = (body : List ℕ) → body_of received ≡ Some body → IsFrame received body
+    × GivesBody read (reply_at body)
 
 abbrev pub NotesWritten : ℕ → Locked → Locked → Type 0
 NotesWritten frames y z =

@@ -28,7 +28,7 @@ use Rattle.session_model.specs.declared.event.Event.TheVariants.{Submit, Send, T
 use Rattle.session_model.specs.declared.event.Owner.TheVariants as owner
 use Rattle.session_model.specs.Shown.{IsFrameOf, hello_frame}
 use Rattle.session_seats.specs.Holds.{sight_by}
-use Rattle.sftp_lanes.specs.Events.{HandsHello, TakesVersion}
+use Rattle.sftp_lanes.specs.Events.{FrameRead, HandsHello, TakesVersion}
 use Rattle.sftp_lanes.specs.Seen.{SessionValue}
 use Rattle.sftp_link.specs.Told.{GotAll, IfLogged}
 use Rattle.sftp_link.specs.Views.{LinkView}
@@ -77,18 +77,18 @@ pub record IsUnasked (e : Error) (old new : SessionValue) : Type 0 where
   pub kept : IsKept (fault.Response None) old new
 
 -- VERSION is taken and counted if it is awaited; another frame is refused, and not counted.
-abbrev pub TakingVersion : List ℕ → Locked → Locked → Result (Unit {0}) Error → Type 0
-TakingVersion body y z (Ok u) =
-    ((asks : Bool) × TakesVersion (reply_at body) asks y.session z.session) × CountsFrame y z
+abbrev pub TakingVersion : FrameRead → Locked → Locked → Result (Unit {0}) Error → Type 0
+TakingVersion read y z (Ok u) =
+    ((asks : Bool) × TakesVersion read asks y.session z.session) × CountsFrame y z
     × (y.session.phase ≡ Greeted)
-TakingVersion body y z (Err e) =
+TakingVersion read y z (Err e) =
     (RefusesCall e y.session z.session
-    ⊎ (TakeStops (reply_at body) e y.session z.session ⊎ IsUnasked e y.session z.session))
+    ⊎ (TakeStops read e y.session z.session ⊎ IsUnasked e y.session z.session))
     × (z.counts.taken ≡ y.counts.taken)
 
 abbrev pub TakingVersionFrame : Received → Locked → Locked → Result (Unit {0}) Error → Type 0
 TakingVersionFrame received y z r =
-    (body : List ℕ) → body_of received ≡ Some body → IsFrame received body × TakingVersion body y z r
+    (body : List ℕ) → body_of received ≡ Some body → IsFrame received body × TakingVersion (reply_at body) y z r
 
 -- ---- The hello
 

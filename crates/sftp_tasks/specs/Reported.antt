@@ -45,6 +45,7 @@ use Rattle.session_work.specs.Working.{past_of}
 use Rattle.sftp_core.specs.declared.info.Info.{Info}
 use Rattle.sftp_model.specs.declared.error.Error.{Error}
 use Rattle.sftp_model.specs.declared.error.Error.TheVariants as error
+use Rattle.sftp_model.specs.declared.error.Fault.{Fault}
 use Rattle.sftp_lanes.specs.Seen.{SessionValue, session_inputs, given_of, setting_at, setting_by}
 use Rattle.sftp_tasks.specs.declared.locked.Locked.{Locked}
 use Rattle.sftp_tasks.specs.declared.report.SharedReport.{SharedReport}
@@ -76,6 +77,12 @@ pub record IsPrepared (s : SessionValue) (journal : Vec Entry Global) (trace : V
 -- Calls of its lanes can be made, and this was made for its report.
 abbrev pub EndsSo : SessionValue → Vec Entry Global → Vec Event Global → Bool → Type 0
 EndsSo s journal trace is_open = MayTakeCalls s × IsPrepared s journal trace is_open
+
+-- The session's journal ends by this fault, and is a run so far.
+pub record EndsByFault (s : SessionValue) (fault : Fault) : Type 0 where
+  pub before : List Entry
+  pub past : past_of s.work ≡ entry.Kept fault ∷ before
+  pub run : IsJournal (setting_at s) (past_of s.work)
 
 -- The errors for which a session does not end: it has stopped, or an allocation failed.
 abbrev pub IsRefusedFor : Error → SessionValue → Type 0
@@ -153,6 +160,17 @@ module _ {G : Ghosts Locked} where
     pub receipts : map items_of r.receipts.items ≡ map (part now) seats
     pub lanes : HaveLanes (entries now.log) (map lane_named seats) (map items_of r.receipts.items)
     pub distinct : AreDistinctClaims (claims_of seats)
+    pub told : AllTold now (claims_of seats)
+
+  -- There is one journal, of which each seat has seen a beginning. It is a run so far of the lanes and options that the
+  -- session was made of, and of VERSION, and ends by this fault.
+  pub record EndedByFault (seats : List (Seat Locked G)) (fault : Fault) : Type 0 where
+    pub now : Sight
+    pub info : Option Info
+    pub before : List Entry
+    pub past : entries now.log ≡ entry.Kept fault ∷ before
+    pub run : IsJournal (setting_by now.lanes now.options now.version info) (entries now.log)
+    pub lawful : IsLawfulSight now
     pub told : AllTold now (claims_of seats)
 
   -- The seats come back, with all their receipts.

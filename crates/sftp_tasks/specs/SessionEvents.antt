@@ -25,7 +25,7 @@ use Rattle.sftp_core.specs.declared.errors.TakeError.{TakeError}
 use Rattle.sftp_core.specs.Take.{IsFirst}
 use Rattle.plan_model.specs.declared.call.Call.{Call}
 use Rattle.plan_model.specs.declared.call.Lane.{Lane}
-use Rattle.session_driver.specs.declared.session.Phase.TheVariants.{Failed}
+use Rattle.session_driver.specs.declared.session.Phase.TheVariants.{Failed, Greeted}
 use Rattle.session_driver.specs.declared.session.Stepped.{Stepped}
 use Rattle.session_driver.specs.declared.session.Stepped.TheVariants as stepped
 use Rattle.sftp_core.specs.Errors.{error_of}
@@ -149,18 +149,20 @@ SubmitsCall lane call old new (Err e) =
 -- ---- Frames
 
 -- A frame is refused while no fault was recorded: by the first thing that is wrong with it, which is recorded, or
--- because an allocation failed.
+-- because an allocation failed. If VERSION was awaited, none was reported.
 pub record IsRefusedBy (body_reads : Result (Option ℕ × Reply) FrameError) (e : Error) (old new : SessionValue) : Type
     0 where
   pub error : TakeError
   pub is : e ≡ error_of error
   pub unfailed : HasNoFault old
+  pub untold : old.phase ≡ Greeted → old.version ≡ None
   pub first : IsFirst error (first_wrong old.phase (past_of old.work) body_reads)
   pub kept : IsRefused error old new
 
--- The frame came before the hello was handed out.
+-- The frame came before the hello was handed out, when no VERSION was reported.
 pub record IsUnawaited (e : Error) (old new : SessionValue) : Type 0 where
   pub early : takes_frames old.phase ≡ false
+  pub untold : old.version ≡ None
   pub is : e ≡ error.InvalidResponse None
   pub kept : IsKept (fault.Response None) old new
 

@@ -4,8 +4,7 @@ use crate::locked::Locked;
 use crate::polls::Polled;
 use session_model::Call;
 use session_seats::Event;
-use sftp_model::{Error, Fault};
-use sftp_wire::FrameReader;
+use sftp_model::{Error, Fault, FrameError, Reply};
 
 /// Cancels the call of the seat's lane, if it was started.
 ///
@@ -105,31 +104,29 @@ impl Event<Locked, Result<(), Error>> for Fail {
     }
 }
 
-/// Takes a frame that was read whole.
+/// Takes what was read of a frame.
 ///
 /// Used in `crates/sftp_tasks/src/rounds.rt`.
 #[derive(Drop)]
 pub struct TakeFrame {
-    pub frame: FrameReader,
+    pub read: Result<(Option<u32>, Reply), FrameError>,
 }
 
 impl Event<Locked, Result<(), Error>> for TakeFrame {
     ghost use Rattle.session_seats.specs.Holds.{no_allowance};
     ghost use Rattle.sftp_tasks.specs.Entries.{by_read};
-    ghost use Rattle.sftp_tasks.specs.LockedEvents.{TakingFrame, UnlessFault};
+    ghost use Rattle.sftp_tasks.specs.LockedEvents.{CountsTakenFrame, UnlessFault};
 
     ghost only = { λ _. by_read };
 
     ghost needs = { λ _. no_allowance };
 
-    ghost does = { λ e lane. UnlessFault (TakingFrame e.frame) };
+    ghost does = { λ e lane. UnlessFault (CountsTakenFrame e.read) };
 
     fn act(self, value: &mut Locked, lane: Option<u32>) -> Result<(), Error> {
         let _ = lane;
-        match self.frame.frame() {
-            Some(body) => value.take(body),
-            None => Err(Error::OutOfMemory),
-        }
+        let TakeFrame { read } = self;
+        value.take(read)
     }
 }
 

@@ -1,7 +1,6 @@
 //! Frames that go out and come in, and their counts.
 ghost use Rattle.std.specs.Prelude.{◌≡◌, ◌≤◌, ◌+◌, ◌-◌, ◌^◌, min, nat_lt, None, IfOk, IfErr, OnOk, MatchOption};
 ghost use Rattle.std.specs.Option.{option_map};
-ghost use Rattle.sftp_model.specs.ReplyReadings.{reply_at};
 ghost use Rattle.sftp_core.specs.Pieces.{chunk_bytes};
 ghost use Rattle.sftp_lanes.specs.Events.{HandsOutIn, TakesIn};
 ghost use Rattle.sftp_tasks.specs.SessionEvents.{HandsUnsent, MayTakeCalls, RefusesCall, TakeStops};
@@ -9,7 +8,7 @@ ghost use Rattle.sftp_tasks.specs.SessionEvents.{HandsUnsent, MayTakeCalls, Refu
 use crate::locked::Locked;
 use link_frames::refused;
 use sftp_core::Chunk;
-use sftp_model::{Error, Fault};
+use sftp_model::{Error, Fault, FrameError, Reply};
 use ssh_encoding::OutOfMemory;
 
 /// The frames that were handed out, and how many they are.
@@ -65,18 +64,19 @@ impl Locked {
         self.counts.written = self.counts.written.saturating_add(frames);
     }
 
-    /// Takes the body of a frame, and counts it.
+    /// Takes what was read of a frame, and counts it.
     ///
     /// # Errors
     ///
     /// The first thing that is wrong with the frame, which the session records as its fault, or `OutOfMemory` if an
-    /// allocation fails. A frame that comes before the hello was handed out is `InvalidResponse`.
-    pub fn take(&mut self, body: &[u8]) -> Result<(), Error>
+    /// allocation fails or failed while the frame was read. A frame that comes before the hello was handed out is
+    /// `InvalidResponse`.
+    pub fn take(&mut self, read: Result<(Option<u32>, Reply), FrameError>) -> Result<(), Error>
         ensures rest { self.new ≡ record self.old { session = self.new.session; counts = record self.old.counts { taken = self.new.counts.taken } } }
-        ensures takes { OnOk result (TakesIn self.old.session.phase (reply_at body.now) self.old.session self.new.session) }
+        ensures takes { OnOk result (TakesIn self.old.session.phase read self.old.session self.new.session) }
         ensures counts { OnOk result ((self.new.counts.taken ≡ min (self.old.counts.taken + 1) (2 ^ 64 - 1)) × (self.old.counts.taken ≤ self.new.counts.taken)) }
         ensures unfailed { OnOk result (MayTakeCalls self.old.session) }
-        ensures stops { IfErr result (λ e. TakeStops (reply_at body.now) e self.old.session self.new.session × (self.new.counts.taken ≡ self.old.counts.taken)) }
+        ensures stops { IfErr result (λ e. TakeStops read e self.old.session self.new.session × (self.new.counts.taken ≡ self.old.counts.taken)) }
     {
         if let Some(fault) = self.session.fault() {
             return Err(Error::BackgroundTaskFailure(fault));
@@ -85,7 +85,7 @@ impl Locked {
             self.session.fail(Fault::Response { id: None });
             return Err(Error::InvalidResponse { id: None });
         }
-        match self.session.take(body) {
+        match self.session.take_read(read) {
             Ok(()) => {
                 self.counts.taken = self.counts.taken.saturating_add(1);
                 Ok(())

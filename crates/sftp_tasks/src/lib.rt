@@ -7,6 +7,7 @@ mod added_calls;
 mod copies;
 mod endings;
 mod events;
+mod failures;
 mod frames;
 mod laws;
 mod locked;

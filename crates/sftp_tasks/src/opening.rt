@@ -8,14 +8,13 @@ ghost use Rattle.sftp_tasks.specs.SessionEvents.{MayTakeCalls};
 use crate::events::Written;
 use crate::frames::Handed;
 use crate::locked::Locked;
-use crate::rounds::stop;
+use crate::rounds::{read_body, stop};
 use crate::shared_sftp::{Seat, SharedSftp, settle};
 use link_frames::{read_frame, send_pieces};
 use session_driver::Phase;
 use session_seats::Event;
 use sftp_link::{LinkIn, LinkOut};
-use sftp_model::{Error, Fault};
-use sftp_wire::FrameReader;
+use sftp_model::{Error, Fault, FrameError, Reply};
 use std::sync::Wait;
 
 impl Locked {
@@ -40,15 +39,18 @@ impl Locked {
         }
     }
 
-    /// Takes the body of VERSION, and counts it.
+    /// Takes what was read of VERSION, and counts it.
     ///
     /// # Errors
     ///
     /// `InvalidResponse` for a frame that comes while no VERSION is awaited; the session records that. Otherwise those
     /// of `take`.
-    pub fn take_version(&mut self, body: &[u8]) -> Result<(), Error>
+    pub fn take_version(
+        &mut self,
+        read: Result<(Option<u32>, Reply), FrameError>,
+    ) -> Result<(), Error>
         ensures rest { self.new ≡ record self.old { session = self.new.session; counts = record self.old.counts { taken = self.new.counts.taken } } }
-        ensures takes { TakingVersion body.now self.old self.new result }
+        ensures takes { TakingVersion read self.old self.new result }
         ensures unfailed { OnOk result (MayTakeCalls self.old.session) }
         ensures rises { self.old.counts.taken ≤ self.new.counts.taken }
     {
@@ -58,7 +60,7 @@ impl Locked {
             Err(e) => return Err(e),
         }
         match self.session.phase() {
-            Phase::Greeted => self.take(body),
+            Phase::Greeted => self.take(read),
             _ => match self.fail(Fault::Response { id: None }) {
                 Ok(()) => Err(Error::InvalidResponse { id: None }),
                 Err(e) => Err(e),
@@ -91,31 +93,29 @@ impl Event<Locked, Result<Option<Handed>, Error>> for HandHello {
     }
 }
 
-/// Takes a frame that was read whole, if VERSION is awaited.
+/// Takes what was read of a frame, if VERSION is awaited.
 ///
 /// Used by the functions of this module.
 #[derive(Drop)]
 pub struct TakeVersion {
-    pub frame: FrameReader,
+    pub read: Result<(Option<u32>, Reply), FrameError>,
 }
 
 impl Event<Locked, Result<(), Error>> for TakeVersion {
     ghost use Rattle.session_seats.specs.Holds.{no_allowance};
     ghost use Rattle.sftp_tasks.specs.LockedEvents.{UnlessFault};
-    ghost use Rattle.sftp_tasks.specs.Opening.{TakingVersionFrame, by_opening};
+    ghost use Rattle.sftp_tasks.specs.Opening.{TakingVersion, by_opening};
 
     ghost only = { λ _. by_opening };
 
     ghost needs = { λ _. no_allowance };
 
-    ghost does = { λ e lane. UnlessFault (TakingVersionFrame e.frame) };
+    ghost does = { λ e lane. UnlessFault (TakingVersion e.read) };
 
     fn act(self, value: &mut Locked, lane: Option<u32>) -> Result<(), Error> {
         let _ = lane;
-        match self.frame.frame() {
-            Some(body) => value.take_version(body),
-            None => Err(Error::OutOfMemory),
-        }
+        let TakeVersion { read } = self;
+        value.take_version(read)
     }
 }
 
@@ -151,7 +151,7 @@ fn send_hello<O: LinkOut, R: Wait>(
     Ok(true)
 }
 
-/// Reads one frame without the lock, and takes it as VERSION while holding the lock. Errors are those of `read_round`.
+/// Receives and reads one frame without the lock, and takes it as VERSION while holding the lock. Errors are those of `read_round`.
 fn take_version<I: LinkIn, R: Wait>(
     rt: &R,
     shared: &SharedSftp,
@@ -170,7 +170,8 @@ fn take_version<I: LinkIn, R: Wait>(
         Ok(frame) => frame,
         Err(e) => return Err(stop(rt, shared, seat, e)),
     };
-    let (did, copied) = seat.apply(rt, shared.alloc, &shared.shared, TakeVersion { frame });
+    let read = read_body(shared.alloc, frame);
+    let (did, copied) = seat.apply(rt, shared.alloc, &shared.shared, TakeVersion { read });
     settle(did, copied)
 }
 

@@ -1,10 +1,12 @@
 //! One round of a worker over its half of the link: it holds the lock while it hands out or takes, and not while it
-//! sends or reads.
+//! sends, receives or reads.
 ghost use Rattle.std.specs.Prelude.{◌≡◌, ◌<◌, ◌≤◌, ◌-◌, ◌^◌, ℕ, List, length, None, Some, IfErr, IfNone, IfOk, IfSome};
+ghost use Rattle.link_frames.specs.Reading.{IsWhole};
 ghost use Rattle.sftp_core.specs.Pieces.{HasFrames};
 ghost use Rattle.sftp_model.specs.declared.request.Request.{Request};
 ghost use Rattle.session_seats.specs.Holds.{AddsEntries, claim_of};
 ghost use Rattle.sftp_tasks.specs.Entries.{by_failing, by_flush, by_nothing, by_read};
+ghost use Rattle.sftp_tasks.specs.LockedEvents.{ReadsFrame};
 ghost use Rattle.sftp_tasks.specs.Rounds.{FlushStops, FlushesRound, ReadStops, ReadsRound, SendsGroups, StopsByError, fault_for};
 
 use crate::events::{Fail, GiveUp, HandOut, MayRead, TakeFrame, Written};
@@ -13,8 +15,10 @@ use crate::shared_sftp::{Seat, SharedSftp, settle};
 use link_frames::{read_frame, send_pieces};
 use sftp_core::{Chunk, Place};
 use sftp_link::{LinkIn, LinkOut};
-use sftp_model::{Error, Fault};
+use sftp_model::{Error, Fault, FrameError, Reply};
+use sftp_wire::{FrameReader, read_reply};
 use ssh_encoding::OutOfMemory;
+use std::alloc::Global;
 use std::sync::Wait;
 
 /// Returns the fault that a session records if this went wrong in a round; `None` for running out of memory, for a
@@ -130,8 +134,26 @@ fn send_groups<O: LinkOut, R: Wait>(
     Ok(())
 }
 
-/// Reads one frame without the lock, and takes it while holding the lock. Returns false exactly if at least as many
-/// frames were taken as were written whole; nothing is read then.
+/// Reads the body of a whole frame, without the lock.
+///
+/// # Errors
+///
+/// Those of `read_reply`.
+pub(crate) fn read_body(
+    alloc: Global,
+    frame: FrameReader,
+) -> Result<(Option<u32>, Reply), FrameError>
+    requires { IsWhole frame }
+    ensures { ReadsFrame frame result }
+{
+    match frame.frame() {
+        Some(body) => read_reply(alloc, body),
+        None => unreachable!(),
+    }
+}
+
+/// Receives and reads one frame without the lock, and takes it while holding the lock. Returns false exactly if at
+/// least as many frames were taken as were written whole; nothing is received then.
 ///
 /// # Errors
 ///
@@ -161,7 +183,8 @@ pub fn read_round<I: LinkIn, R: Wait>(
         Ok(frame) => frame,
         Err(e) => return Err(stop(rt, shared, seat, e)),
     };
-    let (did, copied) = seat.apply(rt, shared.alloc, &shared.shared, TakeFrame { frame });
+    let read = read_body(shared.alloc, frame);
+    let (did, copied) = seat.apply(rt, shared.alloc, &shared.shared, TakeFrame { read });
     match did {
         Ok(()) => {}
         Err(e) => return Err(e),

@@ -18,6 +18,9 @@ use Rattle.std.specs.Prelude.{
   ◌∷◌,
   length,
   max,
+  min,
+  ◌*◌,
+  ◌/◌,
   nat_lt,
   if◌then◌else◌,
   Option,
@@ -227,11 +230,18 @@ pub record GetsMore (core : Core) (old : FileGet) (after : Core) (new : FileGet)
   pub asks : AsksForRead core old.holding old.next len after new.holding
   pub now : new ≡ record old { holding = new.holding; next = old.next + len }
 
--- The number of bytes that READs ask for at most after a piece. After two short pieces in a row it is the number that
--- came, and at least 4096.
-abbrev pub ask_after : (was_short : Bool) (got len ask : ℕ) → ℕ
-ask_after true got len ask = if nat_lt got len then max got 4096 else ask
-ask_after false got len ask = ask
+-- READs ask for as many bytes as came, and for 4096 at least.
+abbrev pub ask_with : ℕ → ℕ
+ask_with got = max got 4096
+
+-- So many times more READs may be in flight as each asks for less, up to 1024.
+abbrev pub most_with : (got len most : ℕ) → ℕ
+most_with got len most = max most (min (most * (len / ask_with got)) 1024)
+
+-- A value after a piece: another one after two short pieces in a row.
+abbrev pub if_short_twice : (was_short : Bool) (got len : ℕ) → ℕ → ℕ → ℕ
+if_short_twice true got len other value = if nat_lt got len then other else value
+if_short_twice false got len other value = value
 
 -- The bytes of a piece are counted. If they are fewer than the READ asked for, the other parts are abandoned and the
 -- next READ starts after them.
@@ -239,7 +249,8 @@ pub record KeepsPiece (got len : ℕ) (core : Core) (old : FileGet) (after : Cor
   pub stage : new.stage ≡ stage.Reading
   pub offset : new.offset ≡ old.offset + got
   pub capped : new.window ≤ max old.window old.most
-  pub ask : new.ask ≡ ask_after old.was_short got len old.ask
+  pub ask : new.ask ≡ if_short_twice old.was_short got len (ask_with got) old.ask
+  pub most : new.most ≡ if_short_twice old.was_short got len (most_with got len old.most) old.most
   pub was_short : new.was_short ≡ nat_lt got len
   pub goes : ((got ≡ len) × (after ≡ core) × (new.holding ≡ old.holding) × (new.next ≡ old.next))
       ⊎ ((got < len) × DropsParts core old.holding after new.holding × (new.next ≡ new.offset))

@@ -6,7 +6,7 @@ ghost use Rattle.sftp_model.specs.OpenOptions.{flags_of};
 ghost use Rattle.sftp_model.specs.Answers.{allows_reply};
 ghost use Rattle.sftp_model.specs.declared.answers.Expected.TheVariants as expected;
 ghost use Rattle.transfer_copy.specs.declared.get.GetStage.TheVariants as stage;
-ghost use Rattle.transfer_copy.specs.Gets.{AsksNext, GetAsksOn, GetEnds, GetFinishes, GetStepDid, GetLeaves, GetGivesUp, TakesReply, GetHasEnded, IsBehindRead, IsGetting, IsOpenAt, IsReadingOn, KeepsPiece, MakesPart, MayGet, GetOpens, GetReadsOn, GetStarts, WritesPiece, get_begun, get_is_over, read_flags};
+ghost use Rattle.transfer_copy.specs.Gets.{AsksNext, GetAsksOn, GetEnds, GetFinishes, GetStepDid, GetLeaves, GetGivesUp, TakesReply, GetHasEnded, IsBehindRead, IsGetting, IsOpenAt, IsReadingOn, KeepsPiece, MakesPart, MayGet, GetOpens, GetReadsOn, GetStarts, WritesPiece, ask_with, get_begun, get_is_over, most_with, read_flags};
 ghost use Rattle.transfer_copy.specs.Holdings.{SparesIds, drops_file, drops_parts, nothing_held};
 ghost use Rattle.transfer_copy.specs.Local.{HasDone, part_opened, act_of};
 
@@ -46,8 +46,8 @@ pub enum GetStage {
 /// If the part file has the first bytes already, the copy starts after them, and does not compare them.
 ///
 /// One READ is asked at first. With each piece as long as its READ, the number of READs in flight grows by one, up to
-/// the window. After two pieces in a row that are shorter than their READs, READs ask for as many bytes as came, so
-/// that a server which gives less than it is asked for is read with a window too.
+/// the window. After two pieces in a row that are shorter than their READs, READs ask for as many bytes as came, and so
+/// many more of them are in flight: a server which gives less than it is asked for is read with a window too.
 ///
 /// Used in `crates/transfer_copy/src/laws.rt`.
 #[must_use]
@@ -65,6 +65,9 @@ pub struct FileGet {
 
 /// The least number of bytes that READs ask for after short pieces.
 const LEAST_LEN: u32 = 4096;
+
+/// The most READs in flight after short pieces.
+const MOST_READS: u32 = 1024;
 
 /// Returns the options to open a file of the server for reading only.
 fn read_options() -> OpenOptions
@@ -308,7 +311,7 @@ impl FileGet {
     }
 
     /// Counts the bytes of a piece that was written. If it is shorter than its READ, the next READ starts after it. If
-    /// the piece before was short as well, READs ask for as many bytes as came, and for `LEAST_LEN` at least.
+    /// the piece before was short as well, READs are adapted to it.
     fn keep(&mut self, core: &mut Core, got: u32, len: u32)
         requires reads { IsBehindRead len core.old self.old }
         requires few { got ≤ len }
@@ -324,11 +327,21 @@ impl FileGet {
             return;
         }
         if self.was_short {
-            self.ask = got.max(LEAST_LEN);
+            self.adapt(got, len);
         }
         self.was_short = true;
         self.holding.abandon_parts(core);
         self.next = self.offset;
+    }
+
+    /// Has READs ask for `got` bytes, and for `LEAST_LEN` at least, where they asked for `len`. The window grows in the
+    /// same measure, up to `MOST_READS`.
+    fn adapt(&mut self, got: u32, len: u32)
+        ensures { self.new ≡ record self.old { most = most_with got len self.old.most; ask = ask_with got } }
+    {
+        self.ask = got.max(LEAST_LEN);
+        let reads = self.most.saturating_mul(len / self.ask).min(MOST_READS);
+        self.most = self.most.max(reads);
     }
 
     /// Asks for more bytes after the parts, if the window is not full.

@@ -1,9 +1,10 @@
 //! Calls on directories, each of which runs to its end.
-ghost use Rattle.std.specs.Prelude.{◌≡◌, ◌++◌, ◌∷◌, [], IfOk, OnOk};
+ghost use Rattle.std.specs.Prelude.{◌≡◌, ◌++◌, ◌∷◌, [], IfErr, IfOk, OnOk};
+ghost use Rattle.sftp_model.specs.declared.error.Error.TheVariants as error;
 ghost use Rattle.plan_state.specs.Keeping.{KeepsHeld, SparesOthers};
 ghost use Rattle.sftp_fs.specs.Listings.{IsListing};
-ghost use Rattle.sftp_client.specs.Calls.{ClosesHandle, IsUsable, OpensDirectory, ReleasesHandle};
-ghost use Rattle.sftp_client.specs.DirCalls.{ClosesListing, IsListedToEnd, IsNoneOfListing, ListsWhole};
+ghost use Rattle.sftp_client.specs.Calls.{ClosesHandle, IsUsable, IsUsableAfter, OpensDirectory, ReleasesHandle};
+ghost use Rattle.sftp_client.specs.DirCalls.{ClosesListing, IsListedToEnd, IsNoneOfListing, ListsDirectory, StopsListing};
 
 use super::Sftp;
 use sftp_fs::{Dir, DirEntry, ReadDir};
@@ -57,13 +58,13 @@ impl<L: Link> Sftp<L> {
     ///
     /// # Errors
     ///
-    /// Those of `open_dir`; `OutOfMemory` if the entries find no memory. The directory is closed then, and the entries
-    /// that came are dropped.
+    /// Those of `open_dir`, of `next_entry` and of `close_dir`; `OutOfMemory` if the entries find no memory. The
+    /// directory is closed then, and the entries that came are dropped.
     pub fn read_dir(&mut self, path: &[u8]) -> Result<Vec<DirEntry>, Error>
         requires { IsUsable L.LinkState.state self.old }
-        ensures lists { IfOk result (λ entries. ListsWhole path.now L.LinkState.state self.old self.new entries.items) }
+        ensures lists { ListsDirectory path.now L.LinkState.state self.old self.new result }
         ensures keeps { KeepsHeld self.old.core self.new.core }
-        ensures usable { OnOk result (IsUsable L.LinkState.state self.new) }
+        ensures usable { IsUsableAfter L.LinkState.state self.new result }
     {
         let mut listing = self.open_dir(path)?.read_dir(self.alloc);
         match self.entries_of(&mut listing) {
@@ -83,9 +84,10 @@ impl<L: Link> Sftp<L> {
         requires usable { IsUsable L.LinkState.state self.old }
         requires listing { IsListing self.old.core listing.old }
         ensures listed { IfOk result (λ entries. IsListedToEnd L.LinkState.state self.old self.new listing.old listing.new entries.items) }
+        ensures stopped { IfErr result (λ e. StopsListing L.LinkState.state self.old self.new listing.old listing.new e) }
         ensures listing { IsListing self.new.core listing.new }
         ensures spares { SparesOthers self.old.core self.new.core (IsNoneOfListing listing.old) (IsNoneOfListing listing.new) }
-        ensures usable { OnOk result (IsUsable L.LinkState.state self.new) }
+        ensures usable { IsUsableAfter L.LinkState.state self.new result }
     {
         let mut entries = Vec::new(self.alloc);
         for _ in 0..u64::MAX {
@@ -100,7 +102,8 @@ impl<L: Link> Sftp<L> {
 
 /// Appends an entry.
 fn push(entries: &mut Vec<DirEntry>, entry: DirEntry) -> Result<(), Error>
-    ensures { OnOk result (entries.new.items ≡ entries.old.items ++ entry ∷ []) }
+    ensures pushed { OnOk result (entries.new.items ≡ entries.old.items ++ entry ∷ []) }
+    ensures memory { IfErr result (λ e. e ≡ error.OutOfMemory) }
 {
     match entries.push(entry) {
         Ok(()) => Ok(()),

@@ -46,18 +46,18 @@ returns-then-not-is_absorbed c bytes = record {
 
 pub returns : goal.returns
 returns c bytes = let on = c.read_on-2.ensures bytes in record {
-  goes = replied_goes c.args.grant c.args.bound c.args.window c.in_ok-window.window c.args.reply
-      c.args.turn.place bytes c.args.site.now c.args.turn.facts c.read_on-2.result c.in_ok-window.ensures.is
+  goes = replied_goes c.args.grant c.args.bound c.args.window c.replied.new.self c.args.reply
+      c.args.turn.place bytes c.args.site.now c.args.turn.facts c.read_on-2.result c.replied.ensures.is
       on.goes;
   left = search rules;
   sound = search rules;
-  pends = pends_if_ok (pends_after (running.ReadingWhole c.args.grant c.args.bound c.in_ok-window.window)
+  pends = pends_if_ok (pends_after (running.ReadingWhole c.args.grant c.args.bound c.replied.new.self)
       c.args.site.now None) (pends_after (running.ReadingWhole c.args.grant c.args.bound c.args.window) c.args.site.now
       (Some c.args.reply)) c.args.turn.place c.args.site.now c.read_on-2.result
-      (replied_less c.args.grant c.args.bound c.args.window c.in_ok-window.window c.args.reply c.args.site.now
-      c.in_ok-window.ensures.is) on.pends;
-  asks = replied_asks c.args.grant c.args.turn.place c.args.window c.in_ok-window.window c.args.reply
-      c.args.site.now c.read_on-2.result c.in_ok-window.ensures.is on.asks;
+      (replied_less c.args.grant c.args.bound c.args.window c.replied.new.self c.args.reply c.args.site.now
+      c.replied.ensures.is) on.pends;
+  asks = replied_asks c.args.grant c.args.turn.place c.args.window c.replied.new.self c.args.reply
+      c.args.site.now c.read_on-2.result c.replied.ensures.is on.asks;
   reads = subst (λ (w : Window). IfOk c.read_on-2.result
-      (ReadsOn c.args.turn.place w.waiting c.args.turn.facts)) c.in_ok-window.ensures.is on.reads;
+      (ReadsOn c.args.turn.place w.waiting c.args.turn.facts)) c.replied.ensures.is on.reads;
 }

@@ -1,8 +1,8 @@
-use Rattle.std.proofs.Common.{◌≡◌, sym, subst, rules}
+use Rattle.std.proofs.Common.{sym, subst}
 use Rattle.sftp_fs_read.specs.WholeReads.{CancelsRead, IsReadHeld}
 use Rattle.sftp_fs_read.specs.declared.fs_read.Whole.{Whole}
 use Rattle.sftp_fs_read.specs.declared.fs_read.Whole.TheVariants as whole
-use Rattle.sftp_fs_read.proofs.ReadEnds.{drops_nothing, drops_open, drops_opening}
+use Rattle.sftp_fs_read.proofs.ReadEnds.{drops_open, drops_opening}
 use Rattle.sftp_fs_read.proofs.TicketLaws.{read_tickets}
 use Rattle.sftp_fs_read.proofs.fs_read.cancel.Goals as goal
 

@@ -1,4 +1,3 @@
-use Rattle.std.proofs.Common.{◌≡◌, rules}
 use Rattle.sftp_fs_read.proofs.ReadEnds.{heard_on, heard_over, over_owned, over_tickets}
 use Rattle.sftp_fs_read.proofs.fs_read.go_on.Goals as goal
 

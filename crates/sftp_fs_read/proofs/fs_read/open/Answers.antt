@@ -1,4 +1,4 @@
-use Rattle.std.proofs.Common.{rules, ◌≡◌, List, ℕ, [], sym, subst, true, false, Result, Ok, Err}
+use Rattle.std.proofs.Common.{rules, ◌≡◌, [], sym, subst, true, false, Result, Ok, Err}
 use Rattle.sftp_model.specs.declared.error.Error.{Error}
 use Rattle.sftp_core.specs.Grant.{GrantValue}
 use Rattle.plan_state.specs.Calls.{StepsByPlan, is_ended}

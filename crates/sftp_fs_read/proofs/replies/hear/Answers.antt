@@ -1,7 +1,10 @@
 use Rattle.std.proofs.Common.{◌≡◌, List, ℕ, ◌∷◌, subst, rules}
 use Rattle.sftp_fs_read.specs.Hearing.{TakesReplies}
-use Rattle.sftp_fs_read.proofs.HearLaws.{hears_more}
+use Rattle.sftp_fs_read.proofs.HearLaws.{hears_more, hears_none}
 use Rattle.sftp_fs_read.proofs.replies.hear.Goals as goal
+
+pub loop-ticket-init : goal.loop-ticket-init
+loop-ticket-init c = hears_none c.args.core.now c.args.reads c.args.tickets.items c.requires.under_way c.requires.ready
 
 pub loop-ticket-preserved : goal.loop-ticket-preserved
 loop-ticket-preserved c =

@@ -39,8 +39,8 @@ returns-clause-gets g c =
     let before = g.I.LinkState.state c.args.input.now in
     let after = g.I.LinkState.state c.read_frame.new.link in
     subst (λ (r : Result (Unit {0}) Error). OnOk r (GetsSomeVersion m n before after)) (sym c.settle.ensures)
-    (version_gets c.apply-did.result.1 m n c.in-Ok.frame before after c.apply-did.result.0 c.in-Ok.ensures.whole
-    c.in-Ok.ensures.log c.in-Ok.ensures.caused
+    (version_gets c.apply-did.result.1 m n c.in-Ok.frame c.read_body-read.result before after c.apply-did.result.0
+    c.in-Ok.ensures.whole c.read_body-read.ensures c.in-Ok.ensures.log c.in-Ok.ensures.caused
     c.apply-did.ensures.held).0
 
 pub returns-clause-stops : goal.returns-clause-stops
@@ -50,6 +50,6 @@ returns-clause-stops g c =
     let before = g.I.LinkState.state c.args.input.now in
     let after = g.I.LinkState.state c.read_frame.new.link in
     subst (λ (r : Result (Unit {0}) Error). IfErr r (λ e. VersionStops e m n before after)) (sym c.settle.ensures)
-    (version_gets c.apply-did.result.1 m n c.in-Ok.frame before after c.apply-did.result.0 c.in-Ok.ensures.whole
-    c.in-Ok.ensures.log c.in-Ok.ensures.caused
+    (version_gets c.apply-did.result.1 m n c.in-Ok.frame c.read_body-read.result before after c.apply-did.result.0
+    c.in-Ok.ensures.whole c.read_body-read.ensures c.in-Ok.ensures.log c.in-Ok.ensures.caused
     c.apply-did.ensures.held).1

@@ -86,8 +86,8 @@ returns-in-Err-did-clause-stops g c =
       looks = looks;
       whole = c.in-Ok.ensures.whole;
       got = c.in-Ok.ensures.log;
-      refuses = refuses_frame n c.apply-did.new.self.inner.me c.in-Ok.frame c.apply-did.result.0 c.in-Err-did.e
-          c.in-Err-did.is c.apply-did.ensures.held;
+      refuses = refuses_frame n c.apply-did.new.self.inner.me c.in-Ok.frame c.read_body-read.result
+          c.apply-did.result.0 c.in-Err-did.e c.in-Err-did.is c.read_body-read.ensures c.apply-did.ensures.held;
     }))
 
 pub returns-in-Ok-looked-clause-only : goal.returns-in-Ok-looked-clause-only
@@ -116,7 +116,8 @@ returns-in-Ok-looked-clause-reads g c =
       whole = c.in-Ok.ensures.whole;
       got = c.in-Ok.ensures.log;
       caused = c.in-Ok.ensures.caused;
-      takes = took n end c.in-Ok.frame c.apply-did.result.0 (Ok tt) c.in-Ok-did.is c.apply-did.ensures.held;
+      takes = took n end c.in-Ok.frame c.read_body-read.result c.apply-did.result.0 (Ok tt) c.in-Ok-did.is
+          c.read_body-read.ensures c.apply-did.ensures.held;
     } in
     subst (λ (r : Result Bool Error). IfOk r (λ did. ReadsRound did m end before after))
     (sym c.settle-in-Ok-looked.ensures)
@@ -138,7 +139,8 @@ returns-in-Ok-looked-clause-stops g c =
       whole = c.in-Ok.ensures.whole;
       got = c.in-Ok.ensures.log;
       caused = c.in-Ok.ensures.caused;
-      takes = took n end c.in-Ok.frame c.apply-did.result.0 (Ok tt) c.in-Ok-did.is c.apply-did.ensures.held;
+      takes = took n end c.in-Ok.frame c.read_body-read.result c.apply-did.result.0 (Ok tt) c.in-Ok-did.is
+          c.read_body-read.ensures c.apply-did.ensures.held;
     } in
     subst (λ (r : Result Bool Error). IfErr r (λ e. ReadStops e m end before after)) (sym c.settle-in-Ok-looked.ensures)
     (settled_err true c.apply-did.result.1 (λ e. ReadStops e m end before after)
@@ -170,6 +172,7 @@ returns-in-Err-looked-clause-stops g c =
       whole = c.in-Ok.ensures.whole;
       got = c.in-Ok.ensures.log;
       caused = c.in-Ok.ensures.caused;
-      takes = took n end c.in-Ok.frame c.apply-did.result.0 (Ok tt) c.in-Ok-did.is c.apply-did.ensures.held;
+      takes = took n end c.in-Ok.frame c.read_body-read.result c.apply-did.result.0 (Ok tt) c.in-Ok-did.is
+          c.read_body-read.ensures c.apply-did.ensures.held;
     } in
     inr (inr (inr (refl, (true, reads))))

@@ -7,13 +7,13 @@ pub returns-in_err-ready : goal.returns-in_err-ready
 returns-in_err-ready g c =
     rw (escaped c.from_residual.result c.in_err-ready.field-0.0 c.from_residual.ensures.1)
     (copy_no_id c.args.n g.L.LinkState.state c.args.from.now c.args.to.now c.args.self.now c.in_err-ready.field-0.0
-    c.in_err-ready.ensures c.requires.source c.requires.target)
+    c.in_err-ready.ensures c.requires.source c.requires.target c.requires.usable)
 
 pub returns-in_err-call : goal.returns-in_err-call
 returns-in_err-call g c =
     rw (escaped c.from_residual-in_err-call.result c.in_err-call.field-0.0 c.from_residual-in_err-call.ensures.1)
     (copy_refused c.args.n g.L.LinkState.state c.args.from.now _ c.args.to.now c.args.self.now _ _ c.in_err-call.field-0.0
-    c.in_err-call.ensures.left c.self.view_is c.in_err-call.ensures.starts refl c.requires.source c.requires.target)
+    c.in_err-call.ensures.left c.self.view_is c.in_err-call.ensures.starts refl c.requires.source c.requires.target c.requires.usable)
 
 pub returns : goal.returns
 returns g c =

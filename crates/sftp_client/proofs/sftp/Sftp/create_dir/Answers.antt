@@ -9,13 +9,13 @@ pub returns-in_err-ready : goal.returns-in_err-ready
 returns-in_err-ready g c =
     rw (escaped c.from_residual.result c.in_err-ready.field-0.0 c.from_residual.ensures.1)
     (path_no_id settle_meaning (mkdir_next c.args.path.now) g.L.LinkState.state
-    c.args.self.now c.in_err-ready.field-0.0 c.in_err-ready.ensures)
+    c.args.self.now c.in_err-ready.field-0.0 c.in_err-ready.ensures c.requires)
 
 pub returns-in_err-call : goal.returns-in_err-call
 returns-in_err-call g c =
     rw (escaped c.from_residual-in_err-call.result c.in_err-call.field-0.0 c.from_residual-in_err-call.ensures.1)
     (path_refused _ _ g.L.LinkState.state c.args.self.now _ _ c.in_err-call.field-0.0 c.self.view_is
-    (rw (c.fs.ensures) at c.in_err-call.ensures) refl)
+    (rw (c.fs.ensures) at c.in_err-call.ensures) refl c.requires)
 
 pub returns : goal.returns
 returns g c =

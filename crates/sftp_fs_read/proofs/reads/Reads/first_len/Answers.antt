@@ -1,4 +1,4 @@
-use Rattle.std.proofs.Common.{◌≡◌, ◌≢◌, sym, subst, None}
+use Rattle.std.proofs.Common.{◌≢◌, subst, None}
 use Rattle.sftp_model.specs.declared.slot.Site.{Site}
 use Rattle.plan_state.specs.Calls.{IsUnfinished}
 use Rattle.plan_window.specs.Windows.{first_of, window_move}

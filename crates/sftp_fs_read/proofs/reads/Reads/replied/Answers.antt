@@ -1,9 +1,9 @@
-use Rattle.std.proofs.Common.{◌≡◌, ◌≢◌, sym, subst, true, false, Option, Some, None, rules}
+use Rattle.std.proofs.Common.{◌≡◌, ◌≢◌, sym, subst, true, false, Some, None, rules}
 use Rattle.sftp_model.specs.Answers.{allows_reply, is_end_of_file}
 use Rattle.plan_model.specs.WindowPlans.{brings_content}
 use Rattle.std.specs.Prelude.{◌||◌}
 use Rattle.sftp_model.specs.declared.answers.Expected.TheVariants as expected
-use Rattle.plan_window.specs.Windows.{answered_more, first_of}
+use Rattle.plan_window.specs.Windows.{first_of}
 use Rattle.plan_window.specs.declared.window.ReadAt.{ReadAt}
 use Rattle.sftp_fs_read.specs.Reads.{IsWhyOver, ReadsValue}
 use Rattle.sftp_fs_read.proofs.ReadsLaws.{fits_read, refused_read, replied_read}
@@ -29,7 +29,7 @@ invariant_of-result c =
       place = c.self.inside.place;
       window = c.self.inside.window;
     })
-    c.args.reply c.in-Ok.window c.self.invariant some allowed c.in-Ok.ensures.is c.in-Ok.ensures.sound
+    c.args.reply c.replied.new.self c.self.invariant some allowed c.replied.ensures.is c.replied.ensures.sound
 
 pub returns-then-not-is_absorbed-clause-err : goal.returns-then-not-is_absorbed-clause-err
 returns-then-not-is_absorbed-clause-err c =

@@ -1,5 +1,4 @@
 use Rattle.std.proofs.Common.{ap, refl}
-use Rattle.sftp_model.specs.ReplyReadings.{reply_at}
 use Rattle.sftp_core.specs.Core.{Core}
 use Rattle.sftp_core.specs.Take.{fault_of}
 use Rattle.session_driver.specs.declared.session.Phase.TheVariants.{Asking}
@@ -16,7 +15,7 @@ unreachable-requires c =
     let q = (in_phase c.self.inside.lanes c.self.inside.options c.self.inside.version c.self.inside.info
     c.self.inside.work c.self.inside.phase Asking c.self.invariant (rw (← c.self.view_is) at c.requires.asking)).0
     in
-    asking_refuses c.self.inside.options q.0 _ (reply_at c.args.body.now) q.1.2 c.in-Ok.ensures.takes.only
+    asking_refuses c.self.inside.options q.0 _ c.args.read q.1.2 c.in-Ok.ensures.takes.only
 
 pub invariant_of-self : goal.invariant_of-self
 invariant_of-self c =
@@ -36,7 +35,7 @@ returns c =
     in
     rw (← c.self.view_is)
     (record {
-      refused = asking_first c.self.inside.options q.0 _ _ (past_of c.self.inside.work) (reply_at c.args.body.now)
+      refused = asking_first c.self.inside.options q.0 _ _ (past_of c.self.inside.work) c.args.read
           c.in-Err.e q.1.2 q.1.3
           c.in-Err.ensures.refused.error;
       kept = record {

@@ -1,4 +1,3 @@
-use Rattle.sftp_model.specs.ReplyReadings.{reply_at}
 use Rattle.session_model.specs.Calls.{Setting}
 use Rattle.session_work.proofs.AddedLaws.{on_ok}
 use Rattle.sftp_lanes.specs.Seen.{setting_by}
@@ -21,6 +20,6 @@ invariant_of-self c =
     c.take-taken.ensures.intact c.keep.ensures.ok c.keep.ensures.err
     (λ working. on_ok c.take-taken.result _ _ (λ g. record { working = g.working; later = g.later })
     (c.take-taken.ensures.takes s working))
-    (err_if c.take-taken.result _ _ (λ e r. refused_fails (reply_at c.args.body.now) e c.self.inside.work
+    (err_if c.take-taken.result _ _ (λ e r. refused_fails c.args.read e c.self.inside.work
     c.take-taken.new.self r)
     c.take-taken.ensures.refused)

@@ -2,7 +2,7 @@ use Rattle.std.proofs.Common.{◌≡◌, ◌∙◌, ◌∷◌, [], ◌++◌, sym
 use Rattle.std.specs.Prelude.{reverse}
 use Rattle.std.proofs.lemmas.List.{reverse-append}
 use Rattle.sftp_model.specs.declared.reply.Reply.{Reply}
-use Rattle.sftp_model.specs.ReplyReadings.{reply_at, limits_in}
+use Rattle.sftp_model.specs.ReplyReadings.{limits_in}
 use Rattle.sftp_core.specs.declared.tokens.Taken.TheVariants as taken_of
 use Rattle.sftp_core.specs.Core.{Core}
 use Rattle.sftp_core.specs.Info.{info_of, info_with}
@@ -186,7 +186,7 @@ returns-in-Err c =
       refused = subst (IsFirst c.in-Err.e)
           (sym (refuses_as (past_of c.self.inside.work) (limits_query_sent 0)
           (told_as (past_of c.self.inside.work) (limits_query_sent 0) q.1.3)
-          (reply_at c.args.body.now)))
+          c.args.read))
           (queried_first _ q.0 _ _ (limits_query_sent 0) _ _ q.1.2 refl c.in-Err.ensures.refused.error);
       kept = record {
         rest = refl;
