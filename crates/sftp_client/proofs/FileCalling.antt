@@ -1,6 +1,6 @@
 -- What calls on files that are started and run in one leave to others.
-use Rattle.std.proofs.Common.{◌≡◌, ◌-◌, ◌∙◌, ℕ, zero, suc, List, [], false, ap, refl, sym, subst, inl, inr}
-use Rattle.std.specs.Prelude.{Some, Result, Ok, Err, OnOk}
+use Rattle.std.proofs.Common.{◌≡◌, ℕ, zero, suc, List, [], false, ap, refl, sym, subst, inl, inr}
+use Rattle.std.specs.Prelude.{Some, Result, Ok, Err}
 use Rattle.bytes.specs.Filled.{Filled}
 use Rattle.sftp_model.specs.declared.error.Error.{Error}
 use Rattle.sftp_model.specs.declared.reply.Reply.TheVariants as reply

@@ -1,6 +1,6 @@
 -- What the rounds of a session leave to a listing that is waited for.
-use Rattle.std.proofs.Common.{◌≡◌, ◌⊎◌, ◌<◌, ◌+◌, ◌-◌, ◌^◌, ℕ, suc, true, false, List, [], ◌∷◌, refl, ap, sym, ◌∙◌, subst, arith, inl, inr}
-use Rattle.std.specs.Prelude.{Bool, Option, Some, None, Result, Ok, Err, IsSome}
+use Rattle.std.proofs.Common.{◌≡◌, ◌<◌, ◌+◌, ◌-◌, ◌^◌, ℕ, suc, true, false, List, [], ◌∷◌, refl, ap, sym, ◌∙◌, subst, arith, inl, inr}
+use Rattle.std.specs.Prelude.{Bool, Option, Some, None, Result, Ok, Err}
 use Rattle.sftp_model.specs.declared.error.Error.{Error}
 use Rattle.sftp_model.specs.declared.error.Error.TheVariants as error
 use Rattle.sftp_model.specs.declared.answers.Expected.TheVariants as expected
@@ -9,7 +9,6 @@ use Rattle.sftp_model.specs.declared.error.Fault.{Fault}
 use Rattle.sftp_model.specs.declared.reply.Reply.{Reply}
 use Rattle.sftp_model.specs.declared.request.Request.TheVariants as request
 use Rattle.sftp_core.specs.Core.{Core, record_at, reply_in}
-use Rattle.sftp_core.specs.Info.{info_of}
 use Rattle.sftp_link.specs.Views.{LinkView}
 use Rattle.plan_state.specs.Keeping.{KeepsHeld, KeepsGrants, SparesOthers}
 use Rattle.plan_state.proofs.Sparing.{spares_both, spares_kept, spares_then}
@@ -19,7 +18,7 @@ use Rattle.plan_state.proofs.Keeping.{grants_both, keeps_same, submitted_missing
 use Rattle.plan_state.proofs.OthersKept.{grant_kept}
 use Rattle.sftp_fs.specs.Listings.{AsksReaddir, ListingAnswer, GivesAt, HearsOf, IsAwaiting, IsListing, IsNoneAsked, ListingValue, entry_told}
 use Rattle.sftp_client.specs.Listed.{AwaitsEntry, HasListed, ListedIn, MayWaitFor, given_by}
-use Rattle.sftp_client.specs.Sessions.{SftpValue, with_core}
+use Rattle.sftp_client.specs.Sessions.{SftpValue}
 use Rattle.sftp_client.specs.Waits.{ArePollRounds, RoundFails, SendsAndTakes}
 use Rattle.sftp_client.proofs.Waiting.{AwaitsOne, fail_stays, round_stays, round_takes, faults_kept, round_unfaulted, stop_faults}
 

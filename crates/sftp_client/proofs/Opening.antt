@@ -18,20 +18,7 @@ use Rattle.sftp_model.specs.Frames.{frames_of}
 use Rattle.sftp_core.specs.Info.{info_of}
 use Rattle.sftp_core.specs.declared.info.Info.{Info}
 use Rattle.sftp_core.specs.Table.{handle_in_reply}
-use Rattle.sftp_core.specs.Take.{
-  Read,
-  TakenFrom,
-  core_with_answer,
-  extensions_in,
-  core_after_version,
-  greeted_by,
-  core_when_open,
-  take_leaves,
-  take_refusal,
-  taken_in,
-  wrong_in,
-  wrong_version,
-}
+use Rattle.sftp_core.specs.Take.{Read, TakenFrom, core_with_answer, extensions_in, greeted_by, core_when_open, take_leaves, take_refusal, taken_in, wrong_in, wrong_version}
 use Rattle.sftp_core.specs.declared.handshake.Handshake.{Handshake}
 use Rattle.sftp_core.specs.declared.handshake.Handshake.TheVariants.{Greeting, Asking, Open}
 use Rattle.sftp_core.specs.declared.id_record.IdRecord.{IdRecord}

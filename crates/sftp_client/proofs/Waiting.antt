@@ -1,5 +1,5 @@
 -- What the rounds of a session leave to a call that awaits its reply.
-use Rattle.std.proofs.Common.{◌≡◌, ◌<◌, ◌+◌, ◌-◌, ◌^◌, ℕ, zero, suc, true, false, refl, ap, sym, ◌∙◌, subst, arith, inl, inr}
+use Rattle.std.proofs.Common.{◌≡◌, ◌<◌, ◌+◌, ◌-◌, ◌^◌, ℕ, suc, true, false, refl, ap, sym, ◌∙◌, subst, arith, inl, inr}
 use Rattle.std.specs.Prelude.{Bool, Option, Result, Ok, Err, None, Some, IsSome, IsTrue, OnOk}
 use Rattle.sftp_model.specs.ReplyReadings.{reply_at}
 use Rattle.sftp_model.specs.declared.error.Error.{Error}
@@ -8,7 +8,7 @@ use Rattle.sftp_model.specs.declared.error.Fault.{Fault}
 use Rattle.sftp_core.specs.Core.{Core, record_at, awaited_of, failed_with, handed_out, is_ticket, reply_in}
 use Rattle.sftp_core.specs.Info.{info_of}
 use Rattle.sftp_link.specs.Views.{LinkView}
-use Rattle.plan_state.specs.Calls.{CallValue, CancelsAwaited, CountsGrant, HoldsReady, IsHeld, IsHeldAt, IsNoneOfCall, IsUnderWay, KeepsOtherTickets, StepsByPlan, core_after_cancel, is_ended}
+use Rattle.plan_state.specs.Calls.{CallValue, CancelsAwaited, CountsGrant, HoldsReady, IsHeld, IsHeldAt, IsNoneOfCall, IsUnderWay, KeepsOtherTickets, core_after_cancel, is_ended}
 use Rattle.plan_state.specs.Keeping.{KeepsHeld, KeepsGrants, SparesOthers}
 use Rattle.plan_state.proofs.Sparing.{cancelled_spares, spares_both, spares_kept, spares_then, stepped_spares}
 use Rattle.plan_state.specs.Runners.{Meaning}

@@ -1,6 +1,6 @@
 -- What the rounds of a session leave to a whole read that is waited for.
-use Rattle.std.proofs.Common.{◌≡◌, ◌⊎◌, ◌<◌, ◌+◌, ◌-◌, ◌^◌, ℕ, zero, suc, true, false, refl, ap, sym, ◌∙◌, subst, arith, inl, inr}
-use Rattle.std.specs.Prelude.{List, ◌++◌, Result, Ok, Err, IsSome, OnOk}
+use Rattle.std.proofs.Common.{◌≡◌, ◌<◌, ◌+◌, ◌-◌, ◌^◌, ℕ, suc, false, refl, ap, sym, ◌∙◌, subst, arith, inl, inr}
+use Rattle.std.specs.Prelude.{List, ◌++◌, Result, Ok, Err, IsSome}
 use Rattle.bytes.specs.Filled.{Filled}
 use Rattle.sftp_model.specs.declared.error.Error.{Error}
 use Rattle.sftp_model.specs.declared.error.Error.TheVariants as error
@@ -10,7 +10,6 @@ use Rattle.sftp_link.specs.Views.{LinkView}
 use Rattle.plan_state.specs.Keeping.{SparesOthers}
 use Rattle.plan_state.proofs.Keeping.{keeps_same}
 use Rattle.plan_state.proofs.Sparing.{spares_both, spares_kept, spares_then}
-use Rattle.plan_state.specs.declared.poll.Poll.{Poll}
 use Rattle.plan_state.specs.declared.poll.Poll.TheVariants as poll
 use Rattle.plan_state.specs.Calls.{CallValue, CancelsAwaited}
 use Rattle.plan_state.specs.Runners.{Meaning}
@@ -21,19 +20,8 @@ use Rattle.sftp_file.specs.declared.whole_reads.ReadAllError.{ReadAllError}
 use Rattle.sftp_fs_read.specs.WholeReads.{CancelsRead, FsReadValue, IsNoneOfRead, IsReadHeld, ReadAnswer, is_over}
 use Rattle.sftp_fs_read.proofs.ReadEnds.{read_still}
 use Rattle.sftp_client.specs.Sessions.{SftpValue, with_core}
-use Rattle.sftp_client.specs.Waits.{HasFinished, HasWaited, RoundFails, SendsAndTakes}
-use Rattle.sftp_client.specs.WholeWaits.{
-  AreReadRounds,
-  HasCopied,
-  HasFinishedRead,
-  HasReadBytes,
-  HasWaitedCopy,
-  HasWaitedRead,
-  IsReadRound,
-  MayRound,
-  MayWaitRead,
-  ReadIn,
-}
+use Rattle.sftp_client.specs.Waits.{HasFinished, HasWaited, RoundFails}
+use Rattle.sftp_client.specs.WholeWaits.{AreReadRounds, HasCopied, HasFinishedRead, HasReadBytes, HasWaitedCopy, HasWaitedRead, MayRound, MayWaitRead, ReadIn}
 use Rattle.sftp_client.proofs.Waiting.{fail_stays, finished, round_stays, faults_kept, round_unfaulted, stop_faults}
 
 -- what a poll leaves

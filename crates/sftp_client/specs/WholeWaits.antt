@@ -1,22 +1,5 @@
 -- Copies, reads of `n` bytes and whole reads that are run to their end over a session's link.
-use Rattle.std.specs.Prelude.{
-  ◌≡◌,
-  ◌≢◌,
-  ◌⊎◌,
-  ◌≤◌,
-  ◌-◌,
-  ◌^◌,
-  ◌++◌,
-  ℕ,
-  zero,
-  suc,
-  false,
-  List,
-  Result,
-  Ok,
-  Err,
-  IsSome,
-}
+use Rattle.std.specs.Prelude.{◌≡◌, ◌≢◌, ◌⊎◌, ◌≤◌, ◌-◌, ◌^◌, ◌++◌, ℕ, zero, suc, false, Result, Ok, Err, IsSome}
 use Rattle.bytes.specs.Filled.{Filled}
 use Rattle.sftp_model.specs.declared.error.Error.{Error}
 use Rattle.sftp_model.specs.declared.error.Error.TheVariants as error
