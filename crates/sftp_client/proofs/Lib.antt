@@ -13,3 +13,7 @@ mod Calling
 mod HandleCalling
 mod FileCalling
 mod DirCalling
+mod Sequences
+mod PathCuts
+mod TreeMaking
+mod Walking

@@ -18,6 +18,7 @@ mod calls;
 mod directories;
 mod files;
 mod paths;
+mod trees;
 
 use crate::incoming::Incoming;
 use crate::outgoing::Outgoing;
