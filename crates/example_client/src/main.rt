@@ -77,24 +77,12 @@ fn main(rt: HostRuntime) -> ExitCode {
     }
 }
 
-/// Writes to standard error why an example wasn't done: for a refusal of the server its status and its message. If
-/// standard error fails too, the message is lost.
+/// Writes to standard error why an example wasn't done. If standard error fails too, the message is lost.
 fn report(rt: &HostRuntime, why: &Failure) {
     let _ = match why {
         Failure::Refused(why) => eprintln!(rt; "example_client: {why}"),
-        Failure::Remote(e) => match message_of(e) {
-            Some(message) => eprintln!(rt; "example_client: {e}: {message:?}"),
-            None => eprintln!(rt; "example_client: {e}"),
-        },
+        Failure::Remote(e) => eprintln!(rt; "example_client: {e}"),
     };
-}
-
-/// Returns the message of the server if the error is its refusal and the message is UTF-8.
-fn message_of(e: &Error) -> Option<&str> {
-    match e {
-        Error::SftpError { message, .. } => str::from_utf8(message.as_slice()).ok(),
-        _ => None,
-    }
 }
 
 /// Runs the example that the command line asks for.

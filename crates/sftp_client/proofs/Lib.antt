@@ -14,4 +14,7 @@ mod HandleCalling
 mod Faults
 mod FileCalling
 mod DirCalling
-mod TreeCalling
+mod Sequences
+mod PathCuts
+mod TreeMaking
+mod Walking

@@ -53,8 +53,8 @@ pub record ListsWhole {L S : Type 0} (path : List ℕ) (state : L → LinkView S
 
 -- ---- Errors
 
--- The reason why no further entry was returned: the listing failed; an allocation failed for an entry that came; or the
--- greatest count of entries is reached.
+-- The reason why no further entry was returned: the listing failed; an entry that came found no memory, or there were
+-- too many before it; or the greatest count of entries is reached.
 abbrev pub EntriesStop : {L S : Type 0} → (L → LinkView S) → ℕ → SftpValue L → SftpValue L → ListingValue → ListingValue
     → Error → Type 0
 EntriesStop state count old new before after e = HasListed state old new before after (Err e)

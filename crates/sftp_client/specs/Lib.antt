@@ -11,4 +11,8 @@ pub mod WriteWaits
 pub mod WaitRows
 pub mod Calls
 pub mod DirCalls
-pub mod TreeCalls
+pub mod Sequences
+pub mod DirPaths
+pub mod CreatedDirs
+pub mod Walks
+pub mod CallRows

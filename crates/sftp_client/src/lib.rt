@@ -36,9 +36,12 @@
 //! docs/GUIDE.md has a section for each, with errors, streams, threads and running out of memory.
 #![tactic(auto)]
 
+mod dir_paths;
 mod incoming;
 mod outgoing;
 mod sftp;
+mod walk_entry;
+mod walked;
 
 pub use plan_state::{Alone, PendingCall, PlanRunner, Poll};
 pub use sftp::Sftp;
@@ -59,3 +62,4 @@ pub use sftp_model::{
     Error, Extensions, Fault, FormatKind, IoKind, OpenOptions, RemotePath, SftpOptions,
 };
 pub use ssh_encoding::OutOfMemory;
+pub use walk_entry::WalkEntry;

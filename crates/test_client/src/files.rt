@@ -1,84 +1,35 @@
-//! Calls on open files. Some are kept until they have returned their result, and others are consumed.
-ghost use Rattle.std.specs.Prelude.{IsSome, OnOk};
+//! Calls on open files that are started first: what the calls in one don't have.
+ghost use Rattle.std.specs.Prelude.{IfOk, IsSome};
 ghost use Rattle.sftp_core.specs.Info.{info_of};
+ghost use Rattle.plan_state.specs.Asked.{IsReady};
+ghost use Rattle.sftp_client.specs.Waits.{MayWait};
+ghost use Rattle.sftp_file.specs.Settles.{settle_meaning};
 
 use crate::server::Session;
 use bytes::{Bytes, BytesMut};
-use sftp_client::{Ended, Error, File, Permissions};
+use sftp_client::{Core, Ended, Error, File, MetaDataBuilder, Permissions, StatusCall};
 use std::alloc::Global;
 use std::io::SeekFrom;
-
-/// Returns a file that is opened for reading.
-pub(crate) fn opened(sftp: &mut Session, path: &[u8]) -> Result<File, Error>
-    requires { IsSome (info_of sftp.old.core.phase) }
-    ensures { OnOk result (IsSome (info_of sftp.new.core.phase)) }
-{
-    sftp.ready()?;
-    let call = sftp.start_open(path)?;
-    sftp.finish(call)
-}
-
-/// Returns a file that is created or truncated, for writing.
-pub(crate) fn created(sftp: &mut Session, path: &[u8]) -> Result<File, Error>
-    requires { IsSome (info_of sftp.old.core.phase) }
-    ensures { OnOk result (IsSome (info_of sftp.new.core.phase)) }
-{
-    sftp.ready()?;
-    let call = sftp.start_create(path)?;
-    sftp.finish(call)
-}
-
-/// Writes all of these pieces, by a call that is kept, or by one that is consumed.
-fn write_all(
-    sftp: &mut Session,
-    file: &mut File,
-    pieces: &[Bytes],
-    keeps: bool,
-) -> Result<(), Error>
-    requires { IsSome (info_of sftp.old.core.phase) }
-{
-    sftp.ready()?;
-    if !keeps {
-        let call = file.start_write_all_zero_copy(sftp.core(), pieces)?;
-        return sftp.finish_on(call, file);
-    }
-    let mut call = file.start_write_all_vectorized(sftp.core(), pieces)?;
-    let answer = sftp.wait_on(&mut call, file);
-    call.cancel(sftp.core());
-    answer
-}
-
-/// Creates a file of these bytes.
-pub(crate) fn put(
-    sftp: &mut Session,
-    path: &[u8],
-    content: &'static [u8],
-    keeps: bool,
-    ended: Ended,
-) -> Result<(), Error>
-    requires { IsSome (info_of sftp.old.core.phase) }
-{
-    let pieces = [Bytes::from_static(content), Bytes::new()];
-    let mut file = created(sftp, path)?;
-    let answer = write_all(sftp, &mut file, &pieces, keeps);
-    file.let_go(ended);
-    answer
-}
 
 /// A call on a file that was created.
 #[derive(Clone, Copy)]
 pub(crate) enum Change {
+    /// One WRITE, which carries at most three bytes.
     Write,
     WritePieces,
     WriteUncopied,
-    /// Five bytes.
-    Len,
-    Permissions,
+    /// As many WRITEs as are needed.
+    WriteAllPieces,
+    WriteAllUncopied,
+    /// Five bytes, by each of two calls.
+    SetLen,
+    SetMetadata,
+    SetPermissions,
     Sync,
 }
 
-/// Makes a change of a file. Returns the number of bytes that one WRITE wrote.
-fn make_change(
+/// Writes pieces at the offset of a file. Returns the number of bytes that one WRITE wrote.
+fn write(
     sftp: &mut Session,
     file: &mut File,
     what: Change,
@@ -96,62 +47,124 @@ fn make_change(
             let call = file.start_write_vectorized(sftp.core(), pieces)?;
             sftp.finish_on(call, file)
         }
-        Change::WriteUncopied => {
+        _ => {
             let call = file.start_write_zero_copy(sftp.core(), pieces)?;
             sftp.finish_on(call, file)
         }
-        Change::Len => {
-            let call = file.start_set_len(sftp.core(), 5)?;
-            sftp.finish(call)?;
+    }
+}
+
+/// Writes all pieces at the offset of a file.
+fn write_all(
+    sftp: &mut Session,
+    file: &mut File,
+    what: Change,
+    pieces: &[Bytes],
+) -> Result<(), Error>
+    requires { IsSome (info_of sftp.old.core.phase) }
+{
+    sftp.ready()?;
+    if let Change::WriteAllPieces = what {
+        let call = file.start_write_all_vectorized(sftp.core(), pieces)?;
+        return sftp.finish_on(call, file);
+    }
+    let call = file.start_write_all_zero_copy(sftp.core(), pieces)?;
+    sftp.finish_on(call, file)
+}
+
+/// Starts a call that a STATUS ends.
+fn start(core: &mut Core, file: &mut File, what: Change) -> Result<StatusCall, Error>
+    requires { IsReady core.old }
+    ensures { IfOk result (λ call. MayWait settle_meaning core.new call) }
+{
+    match what {
+        Change::SetLen => file.start_set_len(core, 5),
+        Change::SetMetadata => file.start_set_metadata(
+            core,
+            MetaDataBuilder::new().len(5).create(),
+        ),
+        Change::SetPermissions => file.start_set_permissions(core, Permissions::from(0o644)),
+        _ => file.start_sync_all(core),
+    }
+}
+
+/// Makes a call that a STATUS ends.
+fn settle(sftp: &mut Session, file: &mut File, what: Change) -> Result<(), Error>
+    requires { IsSome (info_of sftp.old.core.phase) }
+{
+    sftp.ready()?;
+    let call = start(sftp.core(), file, what)?;
+    sftp.finish(call)
+}
+
+/// Makes a change of a file. Returns the number of bytes that one WRITE wrote.
+fn make_change(
+    sftp: &mut Session,
+    file: &mut File,
+    what: Change,
+    pieces: &[Bytes],
+) -> Result<usize, Error>
+    requires { IsSome (info_of sftp.old.core.phase) }
+{
+    match what {
+        Change::Write | Change::WritePieces | Change::WriteUncopied => {
+            write(sftp, file, what, pieces)
+        }
+        Change::WriteAllPieces | Change::WriteAllUncopied => {
+            write_all(sftp, file, what, pieces)?;
             Ok(0)
         }
-        Change::Permissions => {
-            let call = file.start_set_permissions(sftp.core(), Permissions::from(0o644))?;
-            sftp.finish(call)?;
-            Ok(0)
-        }
-        Change::Sync => {
-            let call = file.start_sync_all(sftp.core())?;
-            sftp.finish(call)?;
+        _ => {
+            settle(sftp, file, what)?;
             Ok(0)
         }
     }
 }
 
-/// Creates a file, makes a change of it, and returns its offset then and the number of bytes that one WRITE wrote.
-pub(crate) fn changed(
+/// Creates a file and makes a change of it. Returns true if one WRITE wrote `n` bytes, and the offset is then as given.
+pub(crate) fn changes(
     sftp: &mut Session,
     path: &[u8],
     what: Change,
+    expected: (usize, u64),
     ended: Ended,
-) -> Result<(usize, u64), Error>
+) -> Result<bool, Error>
     requires { IsSome (info_of sftp.old.core.phase) }
 {
-    let mut file = created(sftp, path)?;
+    let mut file = sftp.create(path)?;
     let pieces = [Bytes::from_static(b"x"), Bytes::from_static(b"yz!")];
     let answer = make_change(sftp, &mut file, what, &pieces);
     let offset = file.poll_complete();
     file.let_go(ended);
-    Ok((answer?, offset))
+    Ok((answer?, offset) == expected)
 }
 
-/// Moves a file to 5, to 7 and to 4, and returns its offset then.
-pub(crate) fn moved(sftp: &mut Session, path: &[u8], ended: Ended) -> Result<u64, Error>
+/// Returns the length that the server reports of an open file.
+fn len_of(sftp: &mut Session, file: &mut File) -> Result<Option<u64>, Error>
     requires { IsSome (info_of sftp.old.core.phase) }
 {
-    let mut file = opened(sftp, path)?;
+    sftp.ready()?;
+    let call = file.start_metadata(sftp.core())?;
+    Ok(sftp.finish(call)?.len())
+}
+
+/// Moves a file to 5, to 7 and to 4. Returns true if it is at 4 then, and has this length.
+pub(crate) fn moves(sftp: &mut Session, path: &[u8], len: u64, ended: Ended) -> Result<bool, Error>
+    requires { IsSome (info_of sftp.old.core.phase) }
+{
+    let mut file = sftp.open(path)?;
     file.stand(5);
     file.as_mut_file().advance(2);
-    let answer = file.start_seek(SeekFrom::Current(-3));
+    let sought = file.start_seek(SeekFrom::Current(-3));
     let offset = file.offset();
+    let answer = len_of(sftp, &mut file);
     file.let_go(ended);
-    answer?;
-    Ok(offset)
+    Ok(sought.is_ok() && offset == 4 && answer? == Some(len))
 }
 
 /// Returns the first `n` bytes of a file, by a call that is kept.
 #[tactic(auto, using(crate::proofs::Waiting::waited_held))]
-fn bytes_waited(
+fn wait_bytes(
     alloc: Global,
     sftp: &mut Session,
     file: &mut File,
@@ -172,7 +185,7 @@ fn bytes_waited(
 }
 
 /// Returns the first `n` bytes of a file.
-fn bytes_finished(
+fn finish_bytes(
     alloc: Global,
     sftp: &mut Session,
     file: &mut File,
@@ -187,7 +200,7 @@ fn bytes_finished(
     }
 }
 
-/// Returns true if a file begins with these bytes.
+/// Returns true if a file begins with these bytes, by a call that is kept or consumed.
 pub(crate) fn begins_with(
     alloc: Global,
     sftp: &mut Session,
@@ -198,59 +211,12 @@ pub(crate) fn begins_with(
 ) -> Result<bool, Error>
     requires { IsSome (info_of sftp.old.core.phase) }
 {
-    let mut file = opened(sftp, path)?;
+    let mut file = sftp.open(path)?;
     let answer = if keeps {
-        bytes_waited(alloc, sftp, &mut file, content.len())
+        wait_bytes(alloc, sftp, &mut file, content.len())
     } else {
-        bytes_finished(alloc, sftp, &mut file, content.len())
+        finish_bytes(alloc, sftp, &mut file, content.len())
     };
     file.let_go(ended);
     Ok(answer?.as_slice() == content)
-}
-
-/// Copies five bytes to another open file by a call that is kept, or all by one that is consumed.
-fn copy_on(sftp: &mut Session, from: &mut File, to: &mut File, keeps: bool) -> Result<(), Error>
-    requires { IsSome (info_of sftp.old.core.phase) }
-{
-    sftp.ready()?;
-    if !keeps {
-        let call = from.start_copy_all_to(sftp.core(), to)?;
-        return sftp.finish_copy(call, from, to);
-    }
-    let mut call = from.start_copy_to(sftp.core(), to, 5)?;
-    let answer = sftp.wait_copy(&mut call, from, to);
-    call.cancel(sftp.core());
-    answer
-}
-
-/// Copies an open file to one of this path.
-fn copy_to(
-    sftp: &mut Session,
-    from: &mut File,
-    path: &[u8],
-    keeps: bool,
-    ended: Ended,
-) -> Result<(), Error>
-    requires { IsSome (info_of sftp.old.core.phase) }
-{
-    let mut to = created(sftp, path)?;
-    let answer = copy_on(sftp, from, &mut to, keeps);
-    to.let_go(ended);
-    answer
-}
-
-/// Copies a file to another path.
-pub(crate) fn copy(
-    sftp: &mut Session,
-    from: &[u8],
-    to: &[u8],
-    keeps: bool,
-    ended: Ended,
-) -> Result<(), Error>
-    requires { IsSome (info_of sftp.old.core.phase) }
-{
-    let mut from = opened(sftp, from)?;
-    let answer = copy_to(sftp, &mut from, to, keeps, ended);
-    from.let_go(ended);
-    answer
 }

@@ -5,13 +5,15 @@
 #[cfg(test)]
 mod buffered;
 #[cfg(test)]
+mod calls;
+#[cfg(test)]
 mod files;
+#[cfg(test)]
+mod links;
 #[cfg(test)]
 mod names;
 #[cfg(test)]
 mod offers;
-#[cfg(test)]
-mod paths;
 #[cfg(test)]
 mod polls;
 #[cfg(test)]

@@ -31,7 +31,7 @@ fn server(alloc: Global, version: &[u8]) -> Result<ScriptedLink, AllocError>
 }
 
 /// Returns a session over a link, if it opens.
-fn session(alloc: Global, link: ScriptedLink) -> Option<Sftp<ScriptedLink>>
+pub(crate) fn session(alloc: Global, link: ScriptedLink) -> Option<Sftp<ScriptedLink>>
     requires { link.calls.faults < 2 ^ 64 - 1 }
     ensures opened { IfSome result (λ sftp. IsSome (info_of sftp.core.phase)) }
     ensures count { IfSome result (λ sftp. sftp.link.calls.faults < 2 ^ 64 - 1) }

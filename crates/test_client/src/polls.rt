@@ -4,7 +4,6 @@ ghost use Rattle.sftp_core.specs.Info.{info_of};
 ghost use Rattle.plan_state.specs.Asked.{IsReady};
 
 use crate::buffered::may_ask;
-use crate::files::{created, opened};
 use crate::server::Session;
 use bytes::BytesMut;
 use sftp_client::{Core, Ended, Error, File, Poll, PollCopy, PollFile, PollReadAll};
@@ -79,7 +78,7 @@ fn wait_on(
 ) -> Result<bool, Error>
     requires { IsSome (info_of sftp.old.core.phase) }
 {
-    let mut to = created(sftp, path)?;
+    let mut to = sftp.create(path)?;
     let answer = all_wait(alloc, sftp.core(), from, &mut to);
     to.let_go(ended);
     Ok(answer)
@@ -95,7 +94,7 @@ pub(crate) fn wait(
 ) -> Result<bool, Error>
     requires { IsSome (info_of sftp.old.core.phase) }
 {
-    let mut from = opened(sftp, from)?;
+    let mut from = sftp.open(from)?;
     let answer = wait_on(alloc, sftp, &mut from, to, ended);
     from.let_go(ended);
     answer

@@ -6,7 +6,6 @@ ghost use Rattle.sftp_streams.specs.Downloads.{MayRead, content_kind};
 ghost use Rattle.sftp_streams.specs.Parts.{AreAwaited};
 ghost use Rattle.sftp_streams.specs.Uploads.{MayWrite, status_kind};
 
-use crate::files::{created, opened};
 use crate::server::Session;
 use bytes::Bytes;
 use sftp_client::{Ended, Error, File, Poll};
@@ -103,7 +102,7 @@ pub(crate) fn downloads(
 ) -> Result<bool, Error>
     requires { IsSome (info_of sftp.old.core.phase) }
 {
-    let file = opened(sftp, path)?;
+    let file = sftp.open(path)?;
     let answer = downloads_from(alloc, sftp, &file, content);
     file.let_go(ended);
     answer
@@ -185,7 +184,7 @@ pub(crate) fn uploads(
 ) -> Result<bool, Error>
     requires { IsSome (info_of sftp.old.core.phase) }
 {
-    let file = created(sftp, path)?;
+    let file = sftp.create(path)?;
     let answer = uploads_to(sftp, &file, content);
     file.let_go(ended);
     answer

@@ -2,108 +2,101 @@
 ghost use Rattle.std.specs.Prelude.{IsSome};
 ghost use Rattle.sftp_core.specs.Info.{info_of};
 
+use crate::calls::Call;
 use crate::files::Change;
-use crate::names::Naming;
 use crate::server::{Session, is_open, open_session, server};
-use crate::{buffered, files, names, paths, polls, streams};
+use crate::{buffered, calls, files, names, polls, streams};
 use sftp_client::{Core, Ended, Error, SftpOptions};
 use sftp_link::LinkIn;
 use sftp_map_server::MapServer;
+use sftp_model::numbers::{
+    SSH_FX_FAILURE as FAILURE, SSH_FX_NO_SUCH_FILE as NO_SUCH_FILE, SSH_FX_OK as OK,
+    SSH_FX_OP_UNSUPPORTED as OP_UNSUPPORTED,
+};
 use std::alloc::Global;
 use std::test::Fail;
 
-/// An operation. Its operands are one or two names, or a name and bytes.
+/// An operation. Its operands are a path, and another path, a content, or an expected result.
 #[derive(Clone, Copy)]
 enum Do {
-    /// A file of these bytes is created, by `File` or by `Fs`, by a call that is kept or not.
-    Put(bool),
-    Write(bool),
-    /// A file has these bytes, by `File` or by `Fs`, by a call that is kept or not.
+    /// A call of the session that runs to its end.
+    Call(Call),
+    /// A file is created and changed. One WRITE wrote this many bytes, and its offset is then as given.
+    Change(Change, usize, u64),
+    /// A file has these first bytes, by a call that is kept or not.
     BeginsWith(bool),
-    Holds(bool),
-    /// A file is created and changed. It is at this offset then, after a WRITE of as many bytes.
-    Change(Change, usize),
-    /// A file is copied to another name, by a call that is kept or not.
-    Copy(bool),
+    /// A file of this content is moved.
+    Move,
     /// Calls on two files wait, and are given up.
     Wait,
-    /// A file is moved to 4.
-    Move,
     /// A file is created, or has these bytes, by several requests at once.
     Uploads,
     Downloads,
     /// Calls on a buffered file.
     Buffered,
-    Name(Naming),
-    /// A hard link, which the server refuses by SSH_FX_OP_UNSUPPORTED.
-    Link,
-    /// A name in a directory has this many bytes.
+    /// A directory is created with attributes, is shared, and has one entry.
+    BuildDir,
+    Share,
+    List,
+    /// The file of this name has this length, from a working directory.
     HasLen(u64),
-    /// A path has this whole name.
-    Denotes,
 }
 
-/// An operation and its operands.
-type Step = (Do, &'static [u8], &'static [u8]);
+/// An operation, its operands, and the status of its end.
+type Step = (Do, &'static [u8], &'static [u8], u32);
 
-/// Returns true if an operation on a file went as it says.
-fn file_step(alloc: Global, sftp: &mut Session, step: Step, ended: Ended) -> Result<bool, Error>
+/// The status of an operation that failed without one.
+const REFUSED: u32 = 1000;
+
+/// The status of one that ended without error, but not as its operands say.
+const DIFFERS: u32 = 1001;
+
+/// Does an operation. Returns true if its result is the expected one.
+fn do_step(alloc: Global, sftp: &mut Session, step: Step, ended: Ended) -> Result<bool, Error>
     requires { IsSome (info_of sftp.old.core.phase) }
 {
-    let (what, path, bytes) = step;
+    let (what, path, other, _) = step;
     match what {
-        Do::Put(keeps) => Ok(files::put(sftp, path, bytes, keeps, ended).is_ok()),
-        Do::BeginsWith(keeps) => files::begins_with(alloc, sftp, path, bytes, keeps, ended),
-        Do::Change(change, n) => {
-            let told = files::changed(sftp, path, change, ended)?;
-            Ok(told == (n, n as u64))
-        }
-        Do::Copy(keeps) => Ok(files::copy(sftp, path, bytes, keeps, ended).is_ok()),
-        Do::Wait => polls::wait(alloc, sftp, path, bytes, ended),
-        Do::Uploads => streams::uploads(sftp, path, bytes, ended),
-        Do::Downloads => streams::downloads(alloc, sftp, path, bytes, ended),
-        Do::Move => Ok(files::moved(sftp, path, ended)? == 4),
+        Do::Call(call) => calls::answer(sftp, call, path, other, ended),
+        Do::Change(change, n, at) => files::changes(sftp, path, change, (n, at), ended),
+        Do::BeginsWith(keeps) => files::begins_with(alloc, sftp, path, other, keeps, ended),
+        Do::Move => files::moves(sftp, path, other.len() as u64, ended),
+        Do::Wait => polls::wait(alloc, sftp, path, other, ended),
+        Do::Uploads => streams::uploads(sftp, path, other, ended),
+        Do::Downloads => streams::downloads(alloc, sftp, path, other, ended),
         Do::Buffered => buffered::plays(alloc, sftp, path, ended),
-        _ => path_step(alloc, sftp, step),
+        Do::BuildDir => names::builds(alloc, sftp, path),
+        Do::Share => names::shares(alloc, sftp, path, ended),
+        Do::List => names::lists(alloc, sftp, path, other),
+        Do::HasLen(len) => names::has_len_in(alloc, sftp, path, other, len),
     }
 }
 
-/// Returns true if an operation on a path went as it says.
-fn path_step(alloc: Global, sftp: &mut Session, step: Step) -> Result<bool, Error>
-    requires { IsSome (info_of sftp.old.core.phase) }
-{
-    let (what, path, bytes) = step;
-    match what {
-        Do::Write(true) => Ok(paths::write_on(alloc, sftp, path, bytes).is_ok()),
-        Do::Write(false) => Ok(paths::write(alloc, sftp, path, bytes).is_ok()),
-        Do::Holds(true) => Ok(paths::read_on(alloc, sftp, path)?.as_slice() == bytes),
-        Do::Holds(false) => Ok(paths::read(alloc, sftp, path)?.as_slice() == bytes),
-        Do::Name(naming) => Ok(names::name(alloc, sftp, naming, path, bytes).is_ok()),
-        Do::Link => {
-            let told = names::name(alloc, sftp, Naming::HardLink, path, bytes);
-            Ok(matches!(told, Err(Error::SftpError { code: 8, .. })))
-        }
-        Do::HasLen(len) => Ok(names::len_in(alloc, sftp, path, bytes)? == Some(len)),
-        Do::Denotes => Ok(names::whole(alloc, sftp, path)?.as_bytes() == bytes),
-        _ => Ok(false),
+/// Returns the status of a result.
+fn status_of(answer: Result<bool, Error>) -> u32 {
+    match answer {
+        Ok(true) => OK,
+        Ok(false) => DIFFERS,
+        Err(Error::SftpError { code, .. }) => code,
+        Err(_) => REFUSED,
     }
 }
 
-/// Returns how many steps went as they say, before one that did not.
+/// Returns true if a step ends with its status.
+fn is_met(alloc: Global, sftp: &mut Session, step: Step, ended: Ended) -> bool {
+    is_open(sftp) && status_of(do_step(alloc, sftp, step, ended)) == step.3
+}
+
+/// Returns how many steps end with their status, before one that does not.
 fn steps_met(alloc: Global, sftp: &mut Session, steps: &[Step], ended: Ended) -> usize {
     let mut met = 0;
     for step in steps {
-        if !is_open(sftp) || file_step(alloc, sftp, *step, ended) != Ok(true) {
+        if !is_met(alloc, sftp, *step, ended) {
             return met;
         }
         met = met.saturating_add(1);
     }
     met
-}
-
-/// Returns true if the directory of a session has these names alone.
-fn lists(alloc: Global, sftp: &mut Session, names: &[&[u8]], ended: Ended) -> bool {
-    is_open(sftp) && names::lists(alloc, sftp, b".", names, ended) == Ok(true)
 }
 
 /// Returns the server of a session that ends, if all was answered.
@@ -129,13 +122,12 @@ fn left(server: &mut MapServer) -> (u64, u64, bool, bool) {
     (server.file_count(), server.dir_count(), is_file, is_over)
 }
 
-/// Returns how many steps went as they say over a server, and whether the server is left as they say.
+/// Returns how many steps ended with their status over a server, and whether the server is left as they say.
 fn toured(alloc: Global, server: MapServer, ended: Ended) -> Result<(usize, bool), Fail> {
     let mut sftp = open_session(alloc, server)?;
     let met = steps_met(alloc, &mut sftp, STEPS, ended);
-    let listed = lists(alloc, &mut sftp, &[NAME], ended);
     let mut server = server_left(sftp)?;
-    Ok((met, listed && left(&mut server) == (1, 0, true, true)))
+    Ok((met, left(&mut server) == (1, 0, true, true)))
 }
 
 #[test]
@@ -163,41 +155,89 @@ const LAST: &[u8] = b"helloWORLDd";
 const HELLO: &[u8] = b"hello world";
 
 const STEPS: &[Step] = &[
-    (Do::Put(true), b"a", HELLO),
-    (Do::Put(false), b"b", HELLO),
-    (Do::BeginsWith(true), b"a", HELLO),
-    (Do::BeginsWith(false), b"b", b"hell"),
-    (Do::Write(true), b"a", HELLO),
-    (Do::Write(false), b"b", b""),
-    (Do::Holds(true), b"a", HELLO),
-    (Do::Holds(false), b"b", b""),
-    (Do::Move, b"a", b""),
-    (Do::Wait, b"a", b"b"),
-    (Do::Uploads, b"b", HELLO),
-    (Do::Downloads, b"b", HELLO),
-    (Do::Change(Change::Write, 3), b"b", b""),
-    (Do::Holds(false), b"b", b"xyz"),
-    (Do::Change(Change::WritePieces, 3), b"b", b""),
-    (Do::Holds(false), b"b", b"xyz"),
-    (Do::Change(Change::WriteUncopied, 3), b"b", b""),
-    (Do::Holds(false), b"b", b"xyz"),
-    (Do::Change(Change::Permissions, 0), b"b", b""),
-    (Do::Change(Change::Sync, 0), b"b", b""),
-    (Do::Change(Change::Len, 0), b"b", b""),
-    (Do::Holds(false), b"b", b"\0\0\0\0\0"),
-    (Do::Copy(true), b"a", b"b"),
-    (Do::Holds(false), b"b", b"hello"),
-    (Do::Copy(false), b"a", b"b"),
-    (Do::Holds(false), b"b", HELLO),
-    (Do::Name(Naming::MakeDir), b"d", b""),
-    (Do::Name(Naming::Permissions), b"b", b""),
-    (Do::Link, b"b", b"c"),
-    (Do::Name(Naming::Rename), b"b", b"d/b"),
-    (Do::HasLen(11), b"d", b"b"),
-    (Do::Denotes, b"d/./b", b"/d/b"),
-    (Do::Name(Naming::RemoveFile), b"d/b", b""),
-    (Do::Name(Naming::RemoveDir), b"d", b""),
-    (Do::Buffered, b"a", b""),
-    (Do::Holds(false), b"a", LAST),
-    (Do::Name(Naming::Rename), b"a", NAME),
+    // Files whole: what was written is read.
+    (Do::Call(Call::WriteFile), b"a", HELLO, OK),
+    (Do::Call(Call::ReadFile), b"a", HELLO, OK),
+    (Do::Call(Call::WriteFile), b"b", b"", OK),
+    (Do::Call(Call::ReadFile), b"b", b"", OK),
+    (Do::Call(Call::ReadFile), b"c", b"", NO_SUCH_FILE),
+    (Do::Call(Call::WriteFile), b"c/b", b"", NO_SUCH_FILE),
+    // Open files.
+    (Do::Call(Call::Create), b"b", HELLO, OK),
+    (Do::Call(Call::ReadFile), b"b", HELLO, OK),
+    (Do::Call(Call::Open), b"b", b"h", OK),
+    (Do::Call(Call::Create), b"b", b"", OK),
+    (Do::Call(Call::Open), b"b", b"", OK),
+    (Do::Call(Call::Create), b"c/b", b"", NO_SUCH_FILE),
+    (Do::Call(Call::Open), b"c", b"", NO_SUCH_FILE),
+    (Do::Call(Call::WriteOpened), b"a", b"", REFUSED),
+    (Do::Call(Call::ReadCreated), b"b", b"", REFUSED),
+    (Do::Call(Call::Copy), b"a", b"b", OK),
+    (Do::Call(Call::ReadFile), b"b", b"hello", OK),
+    (Do::Call(Call::CopyAll), b"a", b"b", OK),
+    (Do::Call(Call::ReadFile), b"b", HELLO, OK),
+    (Do::Call(Call::Copy), b"c", b"b", NO_SUCH_FILE),
+    (Do::Call(Call::CopyAll), b"a", b"c/b", NO_SUCH_FILE),
+    // Attributes.
+    (Do::Call(Call::Metadata), b"b", HELLO, OK),
+    (Do::Call(Call::Metadata), b"c", b"", NO_SUCH_FILE),
+    (Do::Call(Call::SetMetadata), b"b", b"hel", OK),
+    (Do::Call(Call::SymlinkMetadata), b"b", b"hel", OK),
+    (Do::Call(Call::SymlinkMetadata), b"c", b"", NO_SUCH_FILE),
+    (Do::Call(Call::ReadFile), b"b", b"hel", OK),
+    (Do::Call(Call::SetMetadata), b"c", b"hel", NO_SUCH_FILE),
+    (Do::Call(Call::SetPermissions), b"b", b"", OK),
+    (Do::Call(Call::SetPermissions), b"c", b"", NO_SUCH_FILE),
+    // Directories and names.
+    (Do::Call(Call::CreateDir), b"d", b"", OK),
+    (Do::Call(Call::CreateDir), b"d", b"", FAILURE),
+    (Do::Call(Call::ReadDir), b".", b"abd", OK),
+    (Do::Call(Call::ReadDir), b"c", b"", NO_SUCH_FILE),
+    (Do::Call(Call::Rename), b"b", b"d/b", OK),
+    (Do::Call(Call::Rename), b"b", b"d/b", NO_SUCH_FILE),
+    (Do::Call(Call::ReadDir), b"d", b"b", OK),
+    (Do::Call(Call::RemoveDir), b"d", b"", FAILURE),
+    (Do::Call(Call::Canonicalize), b"d/./b", b"/d/b", OK),
+    (Do::Call(Call::Symlink), b"a", b"l", OP_UNSUPPORTED),
+    (Do::Call(Call::HardLink), b"a", b"l", OP_UNSUPPORTED),
+    (Do::Call(Call::ReadLink), b"a", b"", OP_UNSUPPORTED),
+    (Do::List, b"d", b"b", OK),
+    (Do::HasLen(3), b"d", b"b", OK),
+    (Do::Call(Call::RemoveFile), b"d/b", b"", OK),
+    (Do::Call(Call::RemoveFile), b"d/b", b"", NO_SUCH_FILE),
+    (Do::Call(Call::RemoveFile), b"d", b"", FAILURE),
+    (Do::Call(Call::RemoveDir), b"d", b"", OK),
+    (Do::Call(Call::RemoveDir), b"d", b"", NO_SUCH_FILE),
+    (Do::BuildDir, b"d", b"", OK),
+    (Do::Share, b"d", b"", OK),
+    (Do::Call(Call::ReadDir), b"d", b"", OK),
+    (Do::Call(Call::RemoveDir), b"d", b"", OK),
+    // Calls that are started first.
+    (Do::BeginsWith(true), b"a", HELLO, OK),
+    (Do::BeginsWith(false), b"a", b"hell", OK),
+    (Do::Move, b"a", HELLO, OK),
+    (Do::Change(Change::Write, 3, 3), b"b", b"", OK),
+    (Do::Call(Call::ReadFile), b"b", b"xyz", OK),
+    (Do::Change(Change::WritePieces, 3, 3), b"b", b"", OK),
+    (Do::Call(Call::ReadFile), b"b", b"xyz", OK),
+    (Do::Change(Change::WriteUncopied, 3, 3), b"b", b"", OK),
+    (Do::Call(Call::ReadFile), b"b", b"xyz", OK),
+    (Do::Change(Change::WriteAllPieces, 0, 4), b"b", b"", OK),
+    (Do::Call(Call::ReadFile), b"b", b"xyz!", OK),
+    (Do::Change(Change::WriteAllUncopied, 0, 4), b"b", b"", OK),
+    (Do::Call(Call::ReadFile), b"b", b"xyz!", OK),
+    (Do::Change(Change::SetLen, 0, 0), b"b", b"", OK),
+    (Do::Call(Call::ReadFile), b"b", b"\0\0\0\0\0", OK),
+    (Do::Change(Change::SetMetadata, 0, 0), b"b", b"", OK),
+    (Do::Call(Call::ReadFile), b"b", b"\0\0\0\0\0", OK),
+    (Do::Change(Change::SetPermissions, 0, 0), b"b", b"", OK),
+    (Do::Change(Change::Sync, 0, 0), b"b", b"", OK),
+    (Do::Wait, b"a", b"b", OK),
+    (Do::Uploads, b"b", HELLO, OK),
+    (Do::Downloads, b"b", HELLO, OK),
+    (Do::Buffered, b"a", b"", OK),
+    (Do::Call(Call::ReadFile), b"a", LAST, OK),
+    (Do::Call(Call::RemoveFile), b"b", b"", OK),
+    (Do::Call(Call::Rename), b"a", NAME, OK),
+    (Do::Call(Call::ReadDir), b".", NAME, OK),
 ];

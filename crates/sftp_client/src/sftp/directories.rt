@@ -66,8 +66,18 @@ impl<L: Link> Sftp<L> {
         ensures keeps { KeepsHeld self.old.core self.new.core }
         ensures usable { IsUsableAfter L.LinkState.state self.new result }
     {
+        self.list_dir(path, usize::MAX)
+    }
+
+    /// Does the same for a directory of at most this many entries: the next one finds no memory.
+    pub(crate) fn list_dir(&mut self, path: &[u8], most: usize) -> Result<Vec<DirEntry>, Error>
+        requires { IsUsable L.LinkState.state self.old }
+        ensures lists { ListsDirectory path.now L.LinkState.state self.old self.new result }
+        ensures keeps { KeepsHeld self.old.core self.new.core }
+        ensures usable { IsUsableAfter L.LinkState.state self.new result }
+    {
         let mut listing = self.open_dir(path)?.read_dir(self.alloc);
-        match self.entries_of(&mut listing) {
+        match self.entries_of(&mut listing, most) {
             Ok(entries) => {
                 self.close_dir(listing)?;
                 Ok(entries)
@@ -79,8 +89,8 @@ impl<L: Link> Sftp<L> {
         }
     }
 
-    /// Returns the entries of a listing up to its end.
-    fn entries_of(&mut self, listing: &mut ReadDir) -> Result<Vec<DirEntry>, Error>
+    /// Returns the entries of a listing up to its end, if they are at most this many.
+    fn entries_of(&mut self, listing: &mut ReadDir, most: usize) -> Result<Vec<DirEntry>, Error>
         requires usable { IsUsable L.LinkState.state self.old }
         requires listing { IsListing self.old.core listing.old }
         ensures listed { ListsEntries L.LinkState.state self.old self.new listing.old listing.new result }
@@ -91,7 +101,7 @@ impl<L: Link> Sftp<L> {
         let mut entries = Vec::new(self.alloc);
         for _ in 0..u64::MAX {
             match self.next_entry(listing)? {
-                Some(entry) => push(&mut entries, entry)?,
+                Some(entry) => push(&mut entries, entry, most)?,
                 None => return Ok(entries),
             }
         }
@@ -99,11 +109,14 @@ impl<L: Link> Sftp<L> {
     }
 }
 
-/// Appends an entry.
-fn push(entries: &mut Vec<DirEntry>, entry: DirEntry) -> Result<(), Error>
+/// Appends an entry, if there are fewer than this many.
+fn push(entries: &mut Vec<DirEntry>, entry: DirEntry, most: usize) -> Result<(), Error>
     ensures pushed { OnOk result (entries.new.items ≡ entries.old.items ++ entry ∷ []) }
     ensures memory { IfErr result (λ e. e ≡ error.OutOfMemory) }
 {
+    if entries.len() >= most {
+        return Err(Error::OutOfMemory);
+    }
     match entries.push(entry) {
         Ok(()) => Ok(()),
         Err(_) => Err(Error::OutOfMemory),

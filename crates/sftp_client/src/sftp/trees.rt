@@ -1,93 +1,181 @@
-//! Calls on a directory and those above it.
-ghost use Rattle.std.specs.Prelude.{◌≡◌, ◌<◌, ◌↔◌, length, IsTrue, Some};
-ghost use Rattle.std.specs.Option.{option_and_then};
-ghost use Rattle.sftp_meta.specs.FileType.{type_of_mode};
-ghost use Rattle.sftp_meta.specs.declared.file_type.RawFileType.TheVariants as raw;
-ghost use Rattle.sftp_client.specs.Calls.{IsUsable};
-ghost use Rattle.sftp_client.specs.TreeCalls.{AcceptsDir, MakesAll, MakesDir, ends_name, is_link_fault};
+//! Calls on trees of directories, each of which runs to its end.
+ghost use Rattle.std.specs.Prelude.{◌≡◌, ◌≤◌, ◌<◌, ◌∷◌, [], IfErr, IfOk, length};
+ghost use Rattle.plan_state.specs.Keeping.{KeepsHeld};
+ghost use Rattle.sftp_model.specs.declared.error.Error.TheVariants as error;
+ghost use Rattle.sftp_client.specs.Calls.{IsUsable, IsUsableAfter};
+ghost use Rattle.sftp_client.specs.CreatedDirs.{FindsDir, MakesDirs, MakesPath, found_or, is_directory, is_refusal};
+ghost use Rattle.sftp_client.specs.DirPaths.{dir_at};
+ghost use Rattle.sftp_client.specs.Walks.{ListsDir, StopsWalk, WalksWhole, dirs_at};
 
 use super::Sftp;
+use crate::dir_paths::is_dir_end;
+use crate::walk_entry::WalkEntry;
+use crate::walked::append_entries;
 use sftp_link::Link;
 use sftp_meta::MetaData;
-use sftp_model::Error;
+use sftp_model::{Error, RemotePath, TryCopy};
+use std::alloc::Global;
 
+/// A tree that is walked has fewer entries.
+const MAX_WALKED: usize = 1_000_000;
+
+/// The calls on trees of directories. Each of them is a number of the calls on paths and directories, one after another.
 impl<L: Link> Sftp<L> {
-    /// Creates a directory, and those above it that are missing, as `std::fs::create_dir_all` does
-    /// (draft-ietf-secsh-filexfer-02, section 6.6). A directory that exists is accepted.
+    /// Creates a directory and each missing one on the way to it, the outermost first. It is no error if they exist.
+    /// `a//b/` goes through `a`, `a//b` and `a//b/`; a path that ends without a slash asks once for each name.
+    ///
+    /// For each of them MKDIR is sent. If the server refuses it, STAT asks whether the path is a directory.
     ///
     /// # Errors
     ///
-    /// Those of `create_dir`, for the first directory that can't be created and doesn't exist, and `LinkFault`. The
-    /// directories above it stay.
+    /// The first error of `create_dir`, unless the path is a directory; that of `metadata` if it isn't a refusal by the
+    /// server. The directories that were created before it stay.
     pub fn create_dir_all(&mut self, path: &[u8]) -> Result<(), Error>
         requires { IsUsable L.LinkState.state self.old }
-        ensures { MakesAll path.now L.LinkState.state self.old self.new result }
+        ensures { MakesPath path.now L.LinkState.state self.old self.new result }
     {
-        for at in 0..path.len() {
-            if ends_name(path, at) {
-                self.make_dir(&path[..at])?;
-            }
+        for end in 0..path.len() {
+            self.ensure_dir_at(path, end)?;
         }
-        self.make_dir(path)
+        self.ensure_dir(path)
     }
 
-    /// Creates a directory, or accepts an existing one.
-    fn make_dir(&mut self, path: &[u8]) -> Result<(), Error>
+    /// Creates the directory whose path ends at a place of another path, if one does.
+    fn ensure_dir_at(&mut self, path: &[u8], end: usize) -> Result<(), Error>
+        requires usable { IsUsable L.LinkState.state self.old }
+        requires within { end ≤ length path.now }
+        ensures { MakesDirs L.LinkState.state (dir_at path.now end) self.old self.new result }
+    {
+        let (dir, rest) = path.split_at(end);
+        if is_dir_end(dir, rest) {
+            return self.ensure_dir(dir);
+        }
+        Ok(())
+    }
+
+    /// Creates a directory, if it doesn't exist.
+    fn ensure_dir(&mut self, path: &[u8]) -> Result<(), Error>
         requires { IsUsable L.LinkState.state self.old }
-        ensures { MakesDir path.now L.LinkState.state self.old self.new result }
+        ensures { MakesDirs L.LinkState.state (path.now ∷ []) self.old self.new result }
     {
         match self.create_dir(path) {
             Ok(()) => Ok(()),
             Err(e) => {
-                if is_link_fault(&e) {
+                if !is_refusal(&e) {
                     return Err(e);
                 }
-                self.accept_dir(path, e)
+                self.find_dir(path, e)
             }
         }
     }
 
-    /// Accepts a directory that exists. Otherwise returns the error of its creation.
-    fn accept_dir(&mut self, path: &[u8], refusal: Error) -> Result<(), Error>
+    /// Returns the refusal of a directory that wasn't created, unless it exists.
+    fn find_dir(&mut self, path: &[u8], refusal: Error) -> Result<(), Error>
         requires { IsUsable L.LinkState.state self.old }
-        ensures { AcceptsDir path.now refusal L.LinkState.state self.old self.new result }
+        ensures { FindsDir L.LinkState.state path.now refusal self.old self.new result }
     {
-        match self.metadata(path) {
-            Ok(found) => { if is_dir(&found) { Ok(()) } else { Err(refusal) } }
-            Err(e) => {
-                if is_link_fault(&e) {
-                    return Err(e);
-                }
-                Err(refusal)
+        let told = self.metadata(path);
+        found_or(told, refusal)
+    }
+
+    /// Returns all entries below a directory, with their paths. First come the entries of the directory, in the server's
+    /// order, and then those of each directory among them, in the order in which the directories were found. So a
+    /// directory comes before its entries. A symbolic link is an entry and is not followed.
+    ///
+    /// An entry is left out if its name is empty, `.` or `..`, or has a slash or a zero byte: its path would lead
+    /// elsewhere. An entry whose type the server doesn't report is no directory.
+    ///
+    /// # Errors
+    ///
+    /// Those of `read_dir`; `OutOfMemory` also if there are 1000000 entries or more. The entries that came are dropped.
+    pub fn walk(&mut self, path: &[u8]) -> Result<Vec<WalkEntry>, Error>
+        requires { IsUsable L.LinkState.state self.old }
+        ensures walks { IfOk result (λ found. WalksWhole path.now L.LinkState.state self.old self.new found.items) }
+        ensures stops { IfErr result (λ e. StopsWalk path.now L.LinkState.state self.old self.new e) }
+        ensures keeps { KeepsHeld self.old.core self.new.core }
+        ensures usable { IsUsableAfter L.LinkState.state self.new result }
+    {
+        let mut found = Vec::new(self.alloc);
+        self.walk_dir(path, &mut found)?;
+        for at in 0..MAX_WALKED {
+            if at >= found.len() {
+                return Ok(found);
             }
+            self.walk_at(at, &mut found)?;
         }
+        Err(Error::OutOfMemory)
+    }
+
+    /// Appends the entries of the directory at a place, if the entry there is one.
+    fn walk_at(&mut self, at: usize, found: &mut Vec<WalkEntry>) -> Result<(), Error>
+        requires usable { IsUsable L.LinkState.state self.old }
+        requires within { at < length found.old.items }
+        ensures { ListsDir L.LinkState.state (dirs_at found.old.items at)
+            (record { session = self.old; found = found.old.items })
+            (record { session = self.new; found = found.new.items }) result }
+    {
+        let entry = &found[at];
+        if !is_directory(&entry.metadata) {
+            return Ok(());
+        }
+        let path = copy_path(self.alloc, &entry.path)?;
+        self.walk_dir(path.as_bytes(), found)
+    }
+
+    /// Appends the entries of a directory.
+    fn walk_dir(&mut self, path: &[u8], found: &mut Vec<WalkEntry>) -> Result<(), Error>
+        requires { IsUsable L.LinkState.state self.old }
+        ensures { ListsDir L.LinkState.state (path.now ∷ [])
+            (record { session = self.old; found = found.old.items })
+            (record { session = self.new; found = found.new.items }) result }
+    {
+        let most = MAX_WALKED.saturating_sub(found.len());
+        let entries = self.list_dir(path, most)?;
+        append_entries(self.alloc, found, path, &entries)
     }
 }
 
-/// Returns true if a name ends before this place of a path: a slash is there, and none before it.
-fn ends_name(path: &[u8], at: usize) -> bool
-    requires { at < length path.now }
-    ensures { result ≡ ends_name path.now at }
+/// Returns a copy of a path.
+fn copy_path(alloc: Global, path: &RemotePath) -> Result<RemotePath, Error>
+    ensures path { IfOk result (λ copy. copy ≡ path.now) }
+    ensures memory { IfErr result (λ e. e ≡ error.OutOfMemory) }
 {
-    at > 0 && path[at] == b'/' && path[at - 1] != b'/'
+    match path.try_copy(alloc) {
+        Ok(copy) => Ok(copy),
+        Err(_) => Err(Error::OutOfMemory),
+    }
 }
 
-/// Returns true if the metadata are those of a directory.
-fn is_dir(found: &MetaData) -> bool
-    ensures { IsTrue result ↔ (option_and_then type_of_mode found.now.permissions ≡ Some raw.Directory) }
+/// Returns true if the server refused a request by a STATUS.
+fn is_refusal(e: &Error) -> bool
+    ensures { result ≡ is_refusal e.now }
 {
-    match found.file_type() {
+    matches!(e, Error::SftpError { .. })
+}
+
+/// Returns true if the server reported that these are the attributes of a directory.
+fn is_directory(metadata: &MetaData) -> bool
+    ensures { result ≡ is_directory metadata.now }
+{
+    match metadata.file_type() {
         Some(kind) => kind.is_dir(),
         None => false,
     }
 }
 
-/// Returns true if an error is that of a link that failed.
-fn is_link_fault(e: &Error) -> bool
-    ensures { result ≡ is_link_fault e.now }
+/// Returns the refusal of a directory that wasn't created, unless these attributes are those of a directory, or the
+/// call for them failed by itself.
+fn found_or(told: Result<MetaData, Error>, refusal: Error) -> Result<(), Error>
+    ensures { result ≡ found_or told refusal }
 {
-    match e {
-        Error::LinkFault => true,
-        _ => false,
+    match told {
+        Ok(metadata) => {
+            if is_directory(&metadata) {
+                Ok(())
+            } else {
+                Err(refusal)
+            }
+        }
+        Err(e) => { if is_refusal(&e) { Err(refusal) } else { Err(e) } }
     }
 }

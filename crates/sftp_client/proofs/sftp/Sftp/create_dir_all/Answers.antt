@@ -1,35 +1,27 @@
-use Rattle.std.proofs.Common.{arith, sym, ◌∙◌}
+use Rattle.std.proofs.Common.{◌≡◌, ◌<◌, length, rules}
 use Rattle.link_frames.proofs.Joining.{escaped}
-use Rattle.sftp_client.proofs.TreeCalling.{makes_first, makes_last, makes_next, makes_none, makes_stop}
+use Rattle.sftp_client.proofs.Sequences.{all_none}
+use Rattle.sftp_client.proofs.TreeMaking.{path_end, path_next, path_stops}
+use Rattle.sftp_client.specs.CreatedDirs.{MakesDir}
 use Rattle.sftp_client.proofs.sftp.Sftp.create_dir_all.Goals as goal
-use Rattle.sftp_client.proofs.sftp.Sftp.create_dir_all.Goals.{then-ends_name+in_ok-make_dir, else-ends_name}
 
-pub loop-at-init : goal.loop-at-init
-loop-at-init g c = makes_first c.args.path.now g.L.LinkState.state c.args.self.now c.requires
+pub loop-end-init : goal.loop-end-init
+loop-end-init g c = all_none (MakesDir g.L.LinkState.state) g.L.LinkState.state c.args.self.now c.requires
 
-pub make_dir-requires : goal.make_dir-requires
-make_dir-requires g c = c.loop-at.invariant.usable
+pub loop-end-preserved : goal.loop-end-preserved
+loop-end-preserved g c =
+    path_next g.L.LinkState.state c.args.path.now c.loop-end.end c.args.self.now c.loop-end.self
+    c.ensure_dir_at.new.self c.loop-end.invariant c.in_ok-ensure_dir_at.ensures
 
-pub make_dir-requires-2 : goal.make_dir-requires-2
-make_dir-requires-2 g c = c.loop-at.invariant.usable
-
-pub returns-in_err-make_dir : goal.returns-in_err-make_dir
-returns-in_err-make_dir g c =
-    rw (escaped c.from_residual.result c.in_err-make_dir.field-0.0 c.from_residual.ensures.1)
-    (makes_stop c.args.path.now g.L.LinkState.state c.loop-at.at c.args.self.now c.loop-at.self c.make_dir.new.self
-    c.in_err-make_dir.field-0.0 c.loop-at.invariant c.in_err-make_dir.ensures)
-
-pub loop-at-preserved : goal.loop-at-preserved
-loop-at-preserved g c = elim c.if-ends_name.branch [
-  | then-ends_name+in_ok-make_dir w ↦ rw w.self-is (makes_next c.args.path.now g.L.LinkState.state c.loop-at.at
-      c.args.self.now c.loop-at.self w.make_dir.new.self c.loop-at.invariant (sym c.ends_name.ensures
-      ∙ w.if-ends_name.true) w.in_ok-make_dir.ensures)
-  | else-ends_name w ↦ rw w.self-is (makes_none c.args.path.now g.L.LinkState.state c.loop-at.at c.args.self.now
-      c.loop-at.self c.loop-at.invariant (sym c.ends_name.ensures ∙ w.if-ends_name.false))
-]
+pub returns-in_err-ensure_dir_at : goal.returns-in_err-ensure_dir_at
+returns-in_err-ensure_dir_at g c =
+    let less : c.loop-end.end < length c.args.path.now = search rules in
+    rw (escaped c.from_residual.result c.in_err-ensure_dir_at.field-0.0 c.from_residual.ensures.1)
+    (path_stops g.L.LinkState.state c.args.path.now c.loop-end.end c.args.self.now c.loop-end.self
+    c.ensure_dir_at.new.self c.in_err-ensure_dir_at.field-0.0 less c.loop-end.invariant c.in_err-ensure_dir_at.ensures)
 
 pub returns : goal.returns
 returns g c =
-    makes_last c.args.path.now g.L.LinkState.state c.loop-at.at c.args.self.now c.loop-at.self c.make_dir-2.new.self
-    c.make_dir-2.result (omega (arith, c.loop-at-test.false, c.loop-at.auto.at-end)) c.loop-at.invariant
-    c.make_dir-2.ensures
+    let all : c.loop-end.end ≡ length c.args.path.now = search rules in
+    path_end g.L.LinkState.state c.args.path.now c.loop-end.end c.args.self.now c.loop-end.self c.ensure_dir.new.self
+    c.ensure_dir.result all c.loop-end.invariant c.ensure_dir.ensures

@@ -4,7 +4,7 @@ use Rattle.sftp_fs.specs.Listings.{ListingValue}
 use Rattle.plan_state.specs.Keeping.{SparesOthers}
 use Rattle.sftp_client.specs.DirCalls.{IsListedToEnd, IsNoneOfListing, StopsListing}
 use Rattle.sftp_client.proofs.DirCalling.{list_keeps}
-use Rattle.sftp_client.proofs.sftp.Sftp.read_dir.Goals as goal
+use Rattle.sftp_client.proofs.sftp.Sftp.list_dir.Goals as goal
 
 pub returns-in_err-open_dir-clause-lists : goal.returns-in_err-open_dir-clause-lists
 returns-in_err-open_dir-clause-lists g c =

@@ -1,0 +1,39 @@
+-- Worked rows of calls that run in one, each beside a near miss.
+use Rattle.std.specs.Prelude.{◌≤◌, refl, inl, ℕ, [], Result, Ok, Err}
+use Rattle.sftp_model.specs.declared.error.Error.{Error}
+use Rattle.sftp_model.specs.declared.error.Error.TheVariants as error
+use Rattle.sftp_core.specs.Core.{kept_of}
+use Rattle.sftp_core.specs.Info.{MAX_IDS}
+use Rattle.sftp_link.specs.Views.{LinkView}
+use Rattle.sftp_client.specs.Calls.{IfIdLeft, IsUsable, IsUsableAfter, RunsInOne, StartsThenRuns}
+use Rattle.sftp_client.specs.Sessions.{SftpValue}
+
+-- If all ids are in use, nothing is started, and the error is that of memory.
+pub no_id_left : {L C : Type 0} (Starts : SftpValue L → SftpValue L → Result C Error → Type 0) (old : SftpValue L)
+    → MAX_IDS ≤ kept_of old.core → IfIdLeft Starts old old (Err error.OutOfMemory)
+no_id_left Starts old all = inl (record { all = all; error = refl; unchanged = refl })
+
+-- A call that was started is by its start.
+pub id_left : {L C : Type 0} (Starts : SftpValue L → SftpValue L → Result C Error → Type 0) (old new : SftpValue L)
+    (call : C) → IfIdLeft Starts old new (Ok call) → Starts old new (Ok call)
+id_left Starts old new call h = h
+
+-- An error may be that of the start; a value is that of a call that was started and run.
+pub start_refused : {L C V : Type 0} (Starts : SftpValue L → SftpValue L → Result C Error → Type 0)
+    (Runs : SftpValue L → SftpValue L → C → Result V Error → Type 0) (old new : SftpValue L) (e : Error)
+    → Starts old new (Err e) → RunsInOne Starts Runs old new (Err e)
+start_refused Starts Runs old new e h = inl h
+
+pub value_of_run : {L C V : Type 0} (Starts : SftpValue L → SftpValue L → Result C Error → Type 0)
+    (Runs : SftpValue L → SftpValue L → C → Result V Error → Type 0) (old new : SftpValue L) (value : V)
+    → RunsInOne Starts Runs old new (Ok value) → StartsThenRuns Starts Runs old new (Ok value)
+value_of_run Starts Runs old new value h = h
+
+-- After a refusal by the server the session may be used, and after a fault of the link nothing is said.
+pub after_refusal : {L S : Type 0} (state : L → LinkView S) (new : SftpValue L)
+    → IsUsableAfter {V = ℕ} state new (Err (error.SftpError 2 [] [])) → IsUsable state new
+after_refusal state new h = h
+
+pub after_fault : {L S : Type 0} (state : L → LinkView S) (new : SftpValue L)
+    → IsUsableAfter {V = ℕ} state new (Err error.LinkFault)
+after_fault state new = tt
