@@ -88,7 +88,7 @@ fi
 if timeout 60 "$program" get "$room/socket" "$room/none" >"$room/to" 2>"$room/why"; then
     fail "a file that isn't there was got"
 fi
-grep -q 'status 2: "No such file"' "$room/why" || fail "the server's reason was not printed"
+grep -q 'the server refused the request: no such file (status 2)$' "$room/why" || fail "the server's reason was not printed"
 [ -s "$room/to" ] && fail "something was printed of a file that isn't there"
 
 # the first program, in the directory in which the server began
