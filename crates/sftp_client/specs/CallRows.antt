@@ -1,5 +1,6 @@
 -- Worked rows of calls that run in one, each beside a near miss.
-use Rattle.std.specs.Prelude.{◌≤◌, refl, inl, ℕ, [], Result, Ok, Err}
+use Rattle.std.proofs.Common.{inl, refl}
+use Rattle.std.specs.Prelude.{◌≤◌, ℕ, [], Result, Ok, Err}
 use Rattle.sftp_model.specs.declared.error.Error.{Error}
 use Rattle.sftp_model.specs.declared.error.Error.TheVariants as error
 use Rattle.sftp_core.specs.Core.{kept_of}
