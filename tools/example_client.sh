@@ -1,7 +1,8 @@
 #!/bin/sh
-# Runs the examples over OpenSSH's SFTP server: files of several sizes put and got and compared, a directory listed, the sizes
-# of two and of two hundred files, a tree, and what isn't there. It installs nothing: where the server or socat is missing it
-# says which, and passes. Another program than the one that `rt ci` built may be given as an argument.
+# Runs the examples over OpenSSH's SFTP server: files of several sizes put and got and compared, a directory listed, the
+# sizes of two and of two hundred files, a tree, directories that are created, and what isn't there. It installs nothing:
+# where the server or socat is missing it says which, and passes. Another program than the one that `rt ci` built may be
+# given as an argument.
 set -u
 cd "$(dirname "$0")/.." || exit 1
 
@@ -77,13 +78,27 @@ fi
 mkdir -p "$room/tree/a/b/c" "$room/tree/d"
 touch "$room/tree/x" "$room/tree/a/y" "$room/tree/a/b/c/z"
 ln -s .. "$room/tree/a/up"
-timeout 60 "$program" tree "$room/socket" "$room/tree" | sort >"$room/to" || fail "tree"
+timeout 60 "$program" tree "$room/socket" "$room/tree" >"$room/found" || fail "tree"
+awk -v root="$room/tree" '
+    { dir = $0; sub("/[^/]*$", "", dir); if (dir != root && !(dir in seen)) exit 1; seen[$0] = 1 }
+' "$room/found" || fail "an entry came before its directory"
+sort "$room/found" >"$room/to"
 for path in a a/b a/b/c a/b/c/z a/up a/y d x; do echo "$room/tree/$path"; done | sort >"$room/wanted"
 cmp -s "$room/wanted" "$room/to" || fail "the tree that was listed differs"
 if timeout 60 "$program" tree "$room/socket" "$room/none" >"$room/to" 2>"$room/why"; then
     fail "a tree that isn't there was listed"
 fi
 [ -s "$room/to" ] && fail "something was printed of a tree that isn't there"
+
+# a directory and those on the way to it; the same where they exist; and a file in the way, whose refusal is printed
+timeout 60 "$program" mkdir "$room/socket" "$room/made/on//the/way/" || fail "mkdir"
+[ -d "$room/made/on/the/way" ] || fail "a directory was not created with those on the way to it"
+timeout 60 "$program" mkdir "$room/socket" "$room/made/on" || fail "mkdir of a directory that exists"
+if timeout 60 "$program" mkdir "$room/socket" "$room/tree/x/below" 2>"$room/why"; then
+    fail "a directory was created below a file"
+fi
+grep -q 'the server refused the request: failure (status 4)$' "$room/why" \
+    || fail "the reason of a file in the way was not printed"
 
 if timeout 60 "$program" get "$room/socket" "$room/none" >"$room/to" 2>"$room/why"; then
     fail "a file that isn't there was got"

@@ -1,5 +1,4 @@
 mod Answered
 mod Steps
-mod Treeing
 mod Asking
 mod Sizing

@@ -6,8 +6,7 @@ use Rattle.sftp_link.specs.Views.{LinkView}
 use Rattle.sftp_file.specs.Files.{FileValue}
 use Rattle.sftp_client.specs.Sessions.{SftpValue}
 use Rattle.example_client.specs.Files.{AreReads, IsRead}
-use Rattle.example_client.specs.Tasks.{line_below, line_of}
-use Rattle.example_client.specs.Trees.{dirs_in}
+use Rattle.example_client.specs.Tasks.{line_of, path_line}
 
 abbrev entry : List ℕ → NameEntry
 entry name = record { filename = name; longname = []; attrs = no_attributes }
@@ -45,35 +44,6 @@ two_reads_row state old mid new before file after first second = (
   ),
 )
 
--- ---- Trees
-
-abbrev with_mode : List ℕ → ℕ → NameEntry
-with_mode name mode =
-    record { filename = name; longname = []; attrs = record no_attributes { permissions = Some mode } }
-
--- A directory is listed next, by its path. A link, a file and an entry that isn't reported as a directory are not.
-pub dir_row : dirs_in (codes "a") (with_mode (codes "b") 0o040755) ≡ codes "a/b" ∷ []
-dir_row = refl
-
-pub link_row : dirs_in (codes "a") (with_mode (codes "b") 0o120777) ≡ []
-link_row = refl
-
-pub untold_row : dirs_in (codes "a") (entry (codes "b")) ≡ []
-untold_row = refl
-
--- The directory itself and its parent are not listed.
-pub self_row : dirs_in (codes "a") (with_mode (codes ".") 0o040755) ≡ []
-self_row = refl
-
-pub above_row : dirs_in (codes "a") (with_mode (codes "..") 0o040755) ≡ []
-above_row = refl
-
--- A directory with a similar name is listed.
-pub dots_row : dirs_in (codes "a/") (with_mode (codes "...") 0o040755) ≡ codes "a/..." ∷ []
-dots_row = refl
-
-pub path_row : line_below (codes "a") (entry (codes "b")) ≡ codes "a/b\n"
+-- The whole path of an entry that a walk found.
+pub path_row : path_line (record { path = codes "a/b"; metadata = no_attributes }) ≡ codes "a/b\n"
 path_row = refl
-
-pub no_path_row : line_below (codes "a") (entry (codes "..")) ≡ []
-no_path_row = refl

@@ -1,5 +1,5 @@
-//! Programs over `sftp_client`, each proved: files that are written and read whole and directories that are listed, one
-//! call after another, and sizes of files, many of which are asked for at once.
+//! Programs over `sftp_client`, each proved: files that are written and read whole, and directories that are created,
+//! listed and walked, one call after another; and sizes of files, many of which are asked for at once.
 #![tactic(auto)]
 
 ghost use Rattle.std.specs.Prelude.{IfOk};
@@ -10,7 +10,6 @@ mod files;
 mod first;
 mod sizes;
 mod tasks;
-mod trees;
 
 pub use files::{get, put};
 pub use first::visit;
@@ -20,8 +19,7 @@ pub use sizes::sizes;
 use std::env;
 use std::process::ExitCode;
 use tasks::lines;
-pub use tasks::{Task, do_task, tree_text};
-pub use trees::{Listing, MAX_DIRS, TreeError, tree};
+pub use tasks::{Task, do_task};
 
 /// The reason why an example wasn't done.
 #[derive(Drop)]
@@ -48,12 +46,12 @@ impl From<Error> for Failure {
 const MAX_CONTENT: usize = 67_108_864;
 
 /// The text that `--help` prints.
-const USAGE: &str = "example_client put|get|list SOCKET PATH\n\
+const USAGE: &str = "example_client put|get|list|tree|mkdir SOCKET PATH\n\
     put: writes standard input to a file of the server that listens at SOCKET\n\
     get: prints a file\n\
     list: prints the names of a directory, a line each\n\
-    example_client tree SOCKET PATH\n\
     tree: prints the paths of all that is below a directory, a line each\n\
+    mkdir: creates a directory and each missing one on the way to it\n\
     example_client sizes SOCKET PATH..\n\
     sizes: prints the sizes of files, of which many are asked for at once\n\
     example_client first SOCKET\n\
@@ -65,6 +63,7 @@ const USAGE: &str = "example_client put|get|list SOCKET PATH\n\
 /// - `get SOCKET PATH` prints a file.
 /// - `list SOCKET PATH` prints the names of a directory.
 /// - `tree SOCKET PATH` prints the paths of everything below a directory.
+/// - `mkdir SOCKET PATH` creates a directory and each missing one on the way to it.
 /// - `sizes SOCKET PATH..` prints the sizes of files.
 /// - `first SOCKET` writes a note, and prints its first bytes and the names of its directory.
 fn main(rt: HostRuntime) -> ExitCode {
@@ -94,7 +93,7 @@ fn run(rt: &HostRuntime) -> Result<(), Failure> {
         [word, socket, paths @ ..] if word.as_str() == "sizes" => print_sizes(rt, socket, paths),
         [word, socket, path] => run_on(rt, word, socket, path.as_bytes()),
         _ => Err(Failure::Refused(
-            "put, get, list, tree, sizes or first, the path of a socket, and a path are needed (try --help)",
+            "put, get, list, tree, mkdir, sizes or first, the path of a socket, and a path are needed (try --help)",
         )),
     }
 }
@@ -115,9 +114,10 @@ fn run_on(rt: &HostRuntime, word: &str, socket: &str, path: &[u8]) -> Result<(),
         "put" => over(rt, socket, Task::Put, path),
         "get" => over(rt, socket, Task::Get, path),
         "list" => over(rt, socket, Task::ListDir, path),
-        "tree" => print_tree(rt, socket, path),
+        "tree" => over(rt, socket, Task::Walk, path),
+        "mkdir" => over(rt, socket, Task::CreateDirs, path),
         _ => Err(Failure::Refused(
-            "the first word is put, get, list, tree, sizes or first (try --help)",
+            "the first word is put, get, list, tree, mkdir, sizes or first (try --help)",
         )),
     }
 }
@@ -167,19 +167,6 @@ fn print_sizes(rt: &HostRuntime, socket: &str, words: &[String]) -> Result<(), F
         .map_err(|_| Failure::Refused("standard output can't be written"))?;
     }
     Ok(())
-}
-
-/// Prints the paths of everything below a directory of the server that listens at a socket, a line each.
-fn print_tree(rt: &HostRuntime, socket: &str, path: &[u8]) -> Result<(), Failure> {
-    let alloc = rt.alloc();
-    let path = remote(rt, path)?;
-    let mut sftp = session(rt, socket)?;
-    let listed = tree(alloc, &mut sftp, path).map_err(|e| match e {
-        TreeError::TooManyDirs => Failure::Refused("it has 65536 directories or more"),
-        TreeError::Failed(e) => Failure::Remote(e),
-    })?;
-    let text = tree_text(alloc, &listed)?;
-    print(rt, &text)
 }
 
 /// Writes bytes to standard output.

@@ -1,11 +1,10 @@
 //! The examples by their words.
 ghost use Rattle.std.specs.Prelude.{◌≡◌, ◌++◌, IfOk, OnOk, flat_map};
 ghost use Rattle.sftp_client.specs.Calls.{IsUsable};
-ghost use Rattle.example_client.specs.Tasks.{IsDone, line_below, line_of, lines_in};
+ghost use Rattle.example_client.specs.Tasks.{IsDone, line_of, path_line};
 
 use crate::files::{append, get, put};
-use crate::trees::{Listing, below, is_self};
-use sftp_client::{DirEntry, Error, Link, RemotePath, Sftp};
+use sftp_client::{DirEntry, Error, Link, Sftp, WalkEntry};
 use std::alloc::Global;
 
 /// The work of an example.
@@ -17,9 +16,14 @@ pub enum Task {
     Get,
     /// Lists a directory.
     ListDir,
+    /// Lists all that is below a directory.
+    Walk,
+    /// Creates a directory and those on the way to it.
+    CreateDirs,
 }
 
-/// Runs one of them, and returns the text to print: nothing, the bytes of the file, or a line for each entry.
+/// Runs one of them, and returns the text to print: the bytes of the file that was read, a line for the name or the path
+/// of each entry, or nothing.
 ///
 /// # Errors
 ///
@@ -44,6 +48,14 @@ pub fn do_task<L: Link>(
             let entries = sftp.read_dir(path)?;
             lines(alloc, &entries)
         }
+        Task::Walk => {
+            let found = sftp.walk(path)?;
+            paths(alloc, &found)
+        }
+        Task::CreateDirs => {
+            sftp.create_dir_all(path)?;
+            Ok(Vec::new(alloc))
+        }
     }
 }
 
@@ -66,48 +78,21 @@ fn append_line(text: &mut Vec<u8>, entry: &DirEntry) -> Result<(), Error>
     append(text, b"\n")
 }
 
-/// Returns the paths of all entries found in the directories of a tree, a line each, without `.` and `..`.
-///
-/// # Errors
-///
-/// `OutOfMemory` if an allocation fails.
-pub fn tree_text(alloc: Global, tree: &[Listing]) -> Result<Vec<u8>, Error>
-    ensures { IfOk result (λ text. text.items ≡ flat_map lines_in tree.now) }
+/// Returns the paths of entries, a line each.
+fn paths(alloc: Global, found: &[WalkEntry]) -> Result<Vec<u8>, Error>
+    ensures { IfOk result (λ text. text.items ≡ flat_map path_line found.now) }
 {
     let mut text = Vec::new(alloc);
-    for listing in tree {
-        append_paths(alloc, &mut text, &listing.path, &listing.entries)?;
+    for entry in found {
+        append_path(&mut text, entry)?;
     }
     Ok(text)
 }
 
-/// Appends the lines of a directory.
-fn append_paths(
-    alloc: Global,
-    text: &mut Vec<u8>,
-    path: &RemotePath,
-    entries: &[DirEntry],
-) -> Result<(), Error>
-    ensures { OnOk result (text.new.items ≡ text.old.items ++ flat_map (line_below path.now) entries.now) }
+/// Appends the line of an entry's path.
+fn append_path(text: &mut Vec<u8>, entry: &WalkEntry) -> Result<(), Error>
+    ensures { OnOk result (text.new.items ≡ text.old.items ++ path_line entry.now) }
 {
-    for entry in entries {
-        append_path(alloc, text, path, entry)?;
-    }
-    Ok(())
-}
-
-/// Appends the line of an entry of a directory, unless it is the directory itself or its parent.
-fn append_path(
-    alloc: Global,
-    text: &mut Vec<u8>,
-    path: &RemotePath,
-    entry: &DirEntry,
-) -> Result<(), Error>
-    ensures { OnOk result (text.new.items ≡ text.old.items ++ line_below path.now entry.now) }
-{
-    if is_self(entry) {
-        return Ok(());
-    }
-    append(text, below(alloc, path, entry)?.as_bytes())?;
+    append(text, entry.path.as_bytes())?;
     append(text, b"\n")
 }
