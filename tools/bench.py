@@ -11,10 +11,10 @@ one driver of them, and in memory. It prints tables, is no part of the gate, and
     python3 tools/bench.py short              a large file from a late server whose DATA are shorter than it is asked for
     python3 tools/bench.py counts             more and more small files over a late server, for tools/picture.py
 
-A ratio of 2 at a doubling is linear. `sftp` waits for each reply, so it is measured at FIRST alone where replies are late.
+Late servers need a C compiler, cc. A ratio of 2 at a doubling is linear. `sftp` waits for each reply, so it is measured at FIRST alone where replies are late.
 BENCH_LIMIT is the most seconds that one run may take: 1200. Memory below that of python3 itself, some 15 MiB, shows as that.
 """
-import os, queue, resource, shutil, socket, subprocess, sys, tempfile, threading, time
+import atexit, os, resource, shutil, socket, subprocess, sys, tempfile, threading, time
 
 ROOT = os.path.dirname(os.path.dirname(os.path.abspath(__file__)))
 PROGRAM = ROOT + "/crates/sftp_cli/out/sftp_cli"
@@ -28,10 +28,8 @@ SERVER = "/usr/lib/openssh/sftp-server"
 LIMIT = float(os.environ.get("BENCH_LIMIT", "1200"))
 # seconds by which each way to a late server is late
 DELAY = 0.010
-# the type of a READ, and the most bytes in a DATA of a server that gives less than it is asked for
-READ, SHORT_DATA = 5, 16384
-# the most bytes that the relay to it takes at once, and the options that give a socket room for them (Linux's socket(7))
-RELAY, SO_SNDBUFFORCE, SO_RCVBUFFORCE = 1 << 20, 32, 33
+# the most bytes in a DATA of a server that gives less than it is asked for
+SHORT_DATA = 16384
 # so many files of so many bytes go up and down: as many as one script may hold
 FILES, FILE_BYTES = 1000, 8000
 # one file of so many bytes comes down, and one of so many goes up: as many as one script may hold
@@ -166,73 +164,22 @@ def row(words, result, before=None):
 
 # ---- a server, late or not
 
-def pass_on_later(read, write, close):
-    """Passes bytes on, each DELAY after it came."""
-    waiting = queue.SimpleQueue()
-
-    def send():
-        while True:
-            due, data = waiting.get()
-            time.sleep(max(0, due - time.monotonic()))
-            if not data:
-                return close()
-            write(data)
-
-    threading.Thread(target=send, daemon=True).start()
-    while True:
-        try:
-            data = read(RELAY)
-        except OSError:
-            data = b""
-        waiting.put((time.monotonic() + DELAY, data))
-        if not data:
-            return
-
-
-def widened(end):
-    """A socket with room for RELAY bytes each way, where the system allows it: else many small pieces cost more than the delay."""
-    for option in (SO_SNDBUFFORCE, SO_RCVBUFFORCE):
-        try:
-            end.setsockopt(socket.SOL_SOCKET, option, RELAY)
-        except OSError:
-            pass
-    return end
-
-
-def short_reads(write):
-    """A function that passes requests on, in which each READ asks for SHORT_DATA bytes at most: so DATA are no longer."""
-    come = bytearray()
-
-    def pass_on(data):
-        come.extend(data)
-        whole = 0
-        while len(come) - whole >= 5:
-            end = whole + 4 + int.from_bytes(come[whole : whole + 4], "big")
-            if len(come) < end:
-                break
-            if come[whole + 4] == READ:
-                asked = int.from_bytes(come[end - 4 : end], "big")
-                come[end - 4 : end] = min(asked, SHORT_DATA).to_bytes(4, "big")
-            whole = end
-        write(bytes(come[:whole]))
-        del come[:whole]
-
-    return pass_on
-
-
-def serve_late(link, short):
-    """A server over one connection, whose bytes come late both ways, and whose DATA are short or not."""
-    ours, theirs = (widened(end) for end in socket.socketpair())
-    subprocess.Popen([SERVER], stdin=theirs, stdout=theirs, stderr=subprocess.DEVNULL)
-    theirs.close()
-    requests = short_reads(ours.sendall) if short else ours.sendall
-    for come, go, write in ((widened(link), ours, requests), (ours, link, link.sendall)):
-        end = lambda go=go: go.shutdown(socket.SHUT_WR)
-        threading.Thread(target=pass_on_later, args=(come.recv, write, end), daemon=True).start()
+def serve_late(path, short):
+    """A server for each connection, whose bytes come late both ways, and whose DATA are short or not."""
+    program = os.path.join(os.path.dirname(path), "late_server")
+    if not os.path.exists(program):
+        subprocess.run(["cc", "-O2", "-o", program, os.path.join(ROOT, "tools", "late_server.c")], check=True)
+    words = [path, f"{DELAY * 1000:.0f}", str(SHORT_DATA if short else 0), SERVER]
+    child = subprocess.Popen([program] + words, stderr=subprocess.DEVNULL)
+    atexit.register(child.kill)
+    while not os.path.exists(path):
+        time.sleep(0.01)
 
 
 def serve(path, late, short=False):
     """Listens at a path: a server for each connection."""
+    if late:
+        return serve_late(path, short)
     listener = socket.socket(socket.AF_UNIX)
     listener.bind(path)
     listener.listen()
@@ -240,11 +187,8 @@ def serve(path, late, short=False):
     def each():
         while True:
             link, _ = listener.accept()
-            if late:
-                serve_late(link, short)
-            else:
-                subprocess.Popen([SERVER], stdin=link, stdout=link, stderr=subprocess.DEVNULL)
-                link.close()
+            subprocess.Popen([SERVER], stdin=link, stdout=link, stderr=subprocess.DEVNULL)
+            link.close()
 
     threading.Thread(target=each, daemon=True).start()
 
@@ -337,6 +281,9 @@ def table_of_short_data(folder):
         data = f"DATA of {SHORT_DATA} bytes" if short else "full DATA"
         row(f"{LARGE_DOWN} bytes down, {data}, sftp_transfer", best(folder, [COPIER, "unix:" + path, "get", large, copied], "", 3))
         row(f"{LARGE_DOWN} bytes down, {data}, sftp -b", best(folder, client_of(path), f"get {large} {copied}\n", 3))
+    asks = ["-B", str(SHORT_DATA), "-R", "1000"]
+    words = f"{LARGE_DOWN} bytes down, DATA of {SHORT_DATA} bytes, sftp -b {' '.join(asks)}"
+    row(words, best(folder, client_of(path) + asks, f"get {large} {copied}\n", 3))
 
 
 def client_of(path):
