@@ -33,7 +33,7 @@ def head(path):
 
 def items(path):
     """The public items of a file: the block in which each is, its kind, its name and its sentence."""
-    block, comment, found, ended = "", [], [], False
+    block, trait, comment, found, ended = "", False, [], [], False
     for line in open(path, encoding="utf-8"):
         line = line.rstrip("\n")
         doc = re.match(r"\s*/// ?(.*)", line)
@@ -48,14 +48,15 @@ def items(path):
             start = BLOCK.match(line)
             if start:
                 block = start.group(1) or (start.group(3) if start.group(2) else "")
+                trait = bool(start.group(2))
         item = ITEM.match(line)
         if item and (not line.startswith(" ") or block):
             found.append((block if line.startswith(" ") else "", item.group(1), item.group(2), sentence(comment)))
-        elif comment and block and TRAIT_FN.match(line):
+        elif comment and trait and TRAIT_FN.match(line):
             found.append((block, "fn", TRAIT_FN.match(line).group(1), sentence(comment)))
         comment, ended = [], False
         if line == "}":
-            block = ""
+            block, trait = "", False
     return found
 
 

@@ -173,6 +173,8 @@ def serve_late(path, short):
     child = subprocess.Popen([program] + words, stderr=subprocess.DEVNULL)
     atexit.register(child.kill)
     while not os.path.exists(path):
+        if child.poll() is not None:
+            sys.exit(f"bench: the late server ended with {child.returncode} before it listened at {path}")
         time.sleep(0.01)
 
 
