@@ -139,7 +139,8 @@ use Rattle.machine_model.specs.declared.node.Node.{Node}
 use Rattle.machine_model.specs.declared.opened.Held.{Held}
 use Rattle.machine_model.specs.declared.opened.Opened.{Opened}
 
-same : (tree : FileTree) (r : Request) (handle : List ℕ) {a : Reply} → is_handle a ≡ false → LeavesChanged tree r handle (a, tree)
+same : (tree : FileTree) (r : Request) (handle : List ℕ) {a : Reply} → is_handle a ≡ false
+    → LeavesChanged tree r handle (a, tree)
 same tree r handle e = record {
   change = Unchanged;
   may = tt;
@@ -150,7 +151,8 @@ same tree r handle e = record {
       λ t. absurd (let both : false ≡ true = sym e ∙ t in cc);
 }
 
-limits_leave : (tree : FileTree) (handle : List ℕ) (limits : Option Limits) → LeavesChanged tree request.LimitsQuery handle (limits_reply limits, tree)
+limits_leave : (tree : FileTree) (handle : List ℕ) (limits : Option Limits)
+    → LeavesChanged tree request.LimitsQuery handle (limits_reply limits, tree)
 limits_leave tree handle None = same tree _ handle refl
 limits_leave tree handle (Some limits) = same tree _ handle refl
 
@@ -168,9 +170,11 @@ either_by tree r handle false x y h k = k refl
 new : (tree : FileTree) (r : Request) (handle : List ℕ) (name : Name) (x : Answer) → node_at tree name ≡ None
     → (MayStand tree name → LeavesChanged tree r handle x) → LeavesChanged tree r handle (where_new tree name x)
 new tree r handle name x none h =
-    either_by tree r handle (not (is_directory (node_at tree (parent_of name)))) (refusal_answer tree SSH_FX_NO_SUCH_FILE)
+    either_by tree r handle (not (is_directory (node_at tree (parent_of name))))
+    (refusal_answer tree SSH_FX_NO_SUCH_FILE)
     (if is_long_name name then refusal_answer tree SSH_FX_FAILURE else x) (λ t. same tree r handle refl)
-    (λ t. either_by tree r handle (is_long_name name) (refusal_answer tree SSH_FX_FAILURE) x (λ v. same tree r handle refl)
+    (λ t. either_by tree r handle (is_long_name name) (refusal_answer tree SSH_FX_FAILURE) x
+    (λ v. same tree r handle refl)
     (λ v. h (none, not-false (is_directory (node_at tree (parent_of name))) t, v)))
 
 -- a size that isn't over a limit
@@ -179,14 +183,16 @@ within_limit tree file size e = ltb-false MAX_FILE_LEN size (or_parts (nat_lt MA
     (nat_lt MAX_TOTAL_LEN (all_bytes tree - size_of tree file + size)) e).0
 
 open_leaves : (tree : FileTree) (r : Request) (handle : List ℕ) (flags : ℕ) (name : Name) (n : Option Node)
-    → AsksToOpen r name → ((file : ℕ) → OpensAsked r (held_by flags file)) → (makes_or_empties flags ≡ true → DenotesName r name)
+    → AsksToOpen r name → ((file : ℕ) → OpensAsked r (held_by flags file))
+    → (makes_or_empties flags ≡ true → DenotesName r name)
     → node_at tree name ≡ n → LeavesChanged tree r handle (after_open tree handle flags name n)
 open_leaves tree r handle flags name (Some node.Directory) a h d e = same tree r handle refl
 open_leaves tree r handle flags name (Some (node.File file)) a h d e =
     either tree r handle (creates flags && is_exclusive flags) (refusal_answer tree SSH_FX_FAILURE)
     (if truncates flags then grant_answer (with_bytes tree file []) handle (held_by flags file) else
     grant_answer tree handle (held_by flags file)) (same tree r handle refl)
-    (either_by tree r handle (truncates flags) (grant_answer (with_bytes tree file []) handle (held_by flags file)) (grant_answer tree handle (held_by flags file))
+    (either_by tree r handle (truncates flags) (grant_answer (with_bytes tree file []) handle (held_by flags file))
+    (grant_answer tree handle (held_by flags file))
     (λ t. record {
       change = Truncated file (held_by flags file);
       may =
@@ -197,7 +203,14 @@ open_leaves tree r handle flags name (Some (node.File file)) a h d e =
       said = refl;
       named = λ t. refl;
     })
-    (λ t. record { change = Granted (held_by flags file); may = ((name, (a, e)), h file); checked = tt; is = refl; said = refl; named = λ t. refl }))
+    (λ t. record {
+      change = Granted (held_by flags file);
+      may = ((name, (a, e)), h file);
+      checked = tt;
+      is = refl;
+      said = refl;
+      named = λ t. refl;
+    }))
 open_leaves tree r handle flags name None a h d e =
     either_by tree r handle (not (creates flags)) (refusal_answer tree SSH_FX_NO_SUCH_FILE)
     (where_new tree name (grant_answer (with_file tree name) handle (held_by flags (length tree.files))))
@@ -214,7 +227,8 @@ open_leaves tree r handle flags name None a h d e =
       named = λ t. refl;
     }))
 
-close_leaves : (tree : FileTree) (r : Request) (handle h : List ℕ) (o : Option Opened) → ClosesHandle r h → LeavesChanged tree r handle (after_close tree h o)
+close_leaves : (tree : FileTree) (r : Request) (handle h : List ℕ) (o : Option Opened) → ClosesHandle r h
+    → LeavesChanged tree r handle (after_close tree h o)
 close_leaves tree r handle h None c = same tree r handle refl
 close_leaves tree r handle h (Some (opened.File held)) c = record
     { change = ClosedFile h held.file; may = c; checked = tt; is = refl; said = refl; named = λ t. absurd cc }
@@ -228,15 +242,18 @@ read_leaves tree r handle cap offset len (Some held) =
     let bytes : Answer = (reply.Content (take (capped_at cap len) (drop offset (bytes_of tree held.file))), tree) in
     let some : Answer = if nat_le (size_of tree held.file) offset then refusal_answer tree SSH_FX_EOF else bytes in
     let readable : Answer = if len == 0 then refusal_answer tree SSH_FX_FAILURE else some in
-    either tree r handle (not held.readable) (refusal_answer tree SSH_FX_PERMISSION_DENIED) readable (same tree r handle refl)
+    either tree r handle (not held.readable) (refusal_answer tree SSH_FX_PERMISSION_DENIED) readable
+    (same tree r handle refl)
     (either tree r handle (len == 0) (refusal_answer tree SSH_FX_FAILURE) some (same tree r handle refl)
-    (either tree r handle (nat_le (size_of tree held.file) offset) (refusal_answer tree SSH_FX_EOF) bytes (same tree r handle refl) (same tree r handle refl)))
+    (either tree r handle (nat_le (size_of tree held.file) offset) (refusal_answer tree SSH_FX_EOF) bytes
+    (same tree r handle refl) (same tree r handle refl)))
 
 writes_leave : (tree : FileTree) (r : Request) (handle : List ℕ) (file offset : ℕ) (piece : List ℕ)
     → ReachesFile tree r file → LeavesChanged tree r handle (answer_to_write tree file offset piece)
 writes_leave tree r handle file offset piece h =
     either_by tree r handle (is_over tree file (max (size_of tree file) (offset + length piece)))
-    (refusal_answer tree SSH_FX_FAILURE) (ok_answer (with_bytes tree file (written_at (bytes_of tree file) offset piece)))
+    (refusal_answer tree SSH_FX_FAILURE) (ok_answer (with_bytes tree file
+    (written_at (bytes_of tree file) offset piece)))
     (λ t. same tree r handle refl)
     (λ t. record {
       change = Rewritten file (written_at (bytes_of tree file) offset piece);
@@ -248,28 +265,32 @@ writes_leave tree r handle file offset piece h =
       named = λ t. absurd cc;
     })
 
-resizes_leave : (tree : FileTree) (r : Request) (handle : List ℕ) (file size : ℕ) → ReachesFile tree r file → LeavesChanged tree r handle (resize_answer tree file size)
+resizes_leave : (tree : FileTree) (r : Request) (handle : List ℕ) (file size : ℕ) → ReachesFile tree r file
+    → LeavesChanged tree r handle (resize_answer tree file size)
 resizes_leave tree r handle file size h =
     either_by tree r handle (is_over tree file size) (refusal_answer tree SSH_FX_FAILURE)
     (ok_answer (with_bytes tree file (resized_bytes size (bytes_of tree file)))) (λ t. same tree r handle refl)
     (λ t. record {
       change = Rewritten file (resized_bytes size (bytes_of tree file));
       may = h;
-      checked = let l = length_resized size (bytes_of tree file) in let w = within_limit tree file size t in omega (arith, l, w);
+      checked = let l = length_resized size (bytes_of tree file) in let w = within_limit tree file size t in
+          omega (arith, l, w);
       is = refl;
       said = refl;
       named = λ t. absurd cc;
     })
 
 write_leaves : (tree : FileTree) (r : Request) (handle : List ℕ) (offset : ℕ) (piece : List ℕ) (held : Option Held)
-    → ((h : Held) → held ≡ Some h → ReachesFile tree r h.file) → LeavesChanged tree r handle (after_write tree offset piece held)
+    → ((h : Held) → held ≡ Some h → ReachesFile tree r h.file)
+    → LeavesChanged tree r handle (after_write tree offset piece held)
 write_leaves tree r handle offset piece None h = same tree r handle refl
 write_leaves tree r handle offset piece (Some held) h =
     either tree r handle (not held.writable) (refusal_answer tree SSH_FX_PERMISSION_DENIED)
     (answer_to_write tree held.file (offset_of tree held offset) piece) (same tree r handle refl)
     (writes_leave tree r handle held.file (offset_of tree held offset) piece (h held refl))
 
-fstat_leaves : (tree : FileTree) (r : Request) (handle : List ℕ) (o : Option Opened) → LeavesChanged tree r handle (after_fstat tree o)
+fstat_leaves : (tree : FileTree) (r : Request) (handle : List ℕ) (o : Option Opened)
+    → LeavesChanged tree r handle (after_fstat tree o)
 fstat_leaves tree r handle None = same tree r handle refl
 fstat_leaves tree r handle (Some (opened.File held)) = same tree r handle refl
 fstat_leaves tree r handle (Some (opened.Directory entries)) = same tree r handle refl
@@ -278,15 +299,18 @@ sets_held_leaves : (tree : FileTree) (r : Request) (handle : List ℕ) (held : H
     → ReachesFile tree r held.file → LeavesChanged tree r handle (sets_held tree held size)
 sets_held_leaves tree r handle held None h = same tree r handle refl
 sets_held_leaves tree r handle held (Some size) h =
-    either tree r handle (not held.writable) (refusal_answer tree SSH_FX_PERMISSION_DENIED) (resize_answer tree held.file size)
+    either tree r handle (not held.writable) (refusal_answer tree SSH_FX_PERMISSION_DENIED)
+    (resize_answer tree held.file size)
     (same tree r handle refl) (resizes_leave tree r handle held.file size h)
 
 fsetstat_leaves : (tree : FileTree) (r : Request) (handle : List ℕ) (attrs : FileAttrs) (held : Option Held)
-    → ((h : Held) → held ≡ Some h → ReachesFile tree r h.file) → LeavesChanged tree r handle (after_fsetstat tree attrs held)
+    → ((h : Held) → held ≡ Some h → ReachesFile tree r h.file)
+    → LeavesChanged tree r handle (after_fsetstat tree attrs held)
 fsetstat_leaves tree r handle attrs None h = same tree r handle refl
 fsetstat_leaves tree r handle attrs (Some held) h = sets_held_leaves tree r handle held attrs.size (h held refl)
 
-fsync_leaves : (tree : FileTree) (r : Request) (handle : List ℕ) (held : Option Held) → LeavesChanged tree r handle (after_fsync tree held)
+fsync_leaves : (tree : FileTree) (r : Request) (handle : List ℕ) (held : Option Held)
+    → LeavesChanged tree r handle (after_fsync tree held)
 fsync_leaves tree r handle None = same tree r handle refl
 fsync_leaves tree r handle (Some held) = same tree r handle refl
 
@@ -301,7 +325,8 @@ copy_leaves tree r handle from_offset len to_offset (Some from) (Some to) h =
     (answer_to_write tree to.file (offset_of tree to to_offset) piece) (same tree r handle refl)
     (writes_leave tree r handle to.file (offset_of tree to to_offset) piece (h to refl))
 
-stat_leaves : (tree : FileTree) (r : Request) (handle : List ℕ) (n : Option Node) → LeavesChanged tree r handle (after_stat tree n)
+stat_leaves : (tree : FileTree) (r : Request) (handle : List ℕ) (n : Option Node)
+    → LeavesChanged tree r handle (after_stat tree n)
 stat_leaves tree r handle None = same tree r handle refl
 stat_leaves tree r handle (Some n) = same tree r handle refl
 
@@ -309,10 +334,12 @@ setstat_leaves : (tree : FileTree) (r : Request) (handle : List ℕ) (name : Nam
     → DenotesName r name → node_at tree name ≡ Some n → LeavesChanged tree r handle (sets_node tree size n)
 setstat_leaves tree r handle name None n d e = same tree r handle refl
 setstat_leaves tree r handle name (Some size) node.Directory d e = same tree r handle refl
-setstat_leaves tree r handle name (Some size) (node.File file) d e = resizes_leave tree r handle file size (inr (name, (d, e)))
+setstat_leaves tree r handle name (Some size) (node.File file) d e =
+    resizes_leave tree r handle file size (inr (name, (d, e)))
 
 any_setstat_leaves : (tree : FileTree) (r : Request) (handle : List ℕ) (name : Name) (attrs : FileAttrs)
-    (n : Option Node) → DenotesName r name → node_at tree name ≡ n → LeavesChanged tree r handle (after_setstat tree attrs n)
+    (n : Option Node) → DenotesName r name → node_at tree name ≡ n
+    → LeavesChanged tree r handle (after_setstat tree attrs n)
 any_setstat_leaves tree r handle name attrs None d e = same tree r handle refl
 any_setstat_leaves tree r handle name attrs (Some n) d e = setstat_leaves tree r handle name attrs.size n d e
 
@@ -338,9 +365,17 @@ rmdir_leaves tree r handle name (Some node.Directory) d e =
     (ok_answer (without_name tree name)) (λ t. same tree r handle refl)
     (λ t.
     let parts = or_parts (same_name name []) (has_child tree name) t in
-    record { change = RemovedDirectory name; may = d; checked = (e, differ_by name [] parts.0, parts.1); is = refl; said = refl; named = λ t. absurd cc })
+    record {
+      change = RemovedDirectory name;
+      may = d;
+      checked = (e, differ_by name [] parts.0, parts.1);
+      is = refl;
+      said = refl;
+      named = λ t. absurd cc;
+    })
 
-opendir_leaves : (tree : FileTree) (r : Request) (handle : List ℕ) (name : Name) (n : Option Node) → LeavesChanged tree r handle (after_opendir tree handle name n)
+opendir_leaves : (tree : FileTree) (r : Request) (handle : List ℕ) (name : Name) (n : Option Node)
+    → LeavesChanged tree r handle (after_opendir tree handle name n)
 opendir_leaves tree r handle name None = same tree r handle refl
 opendir_leaves tree r handle name (Some (node.File file)) = same tree r handle refl
 opendir_leaves tree r handle name (Some node.Directory) = record {
@@ -354,7 +389,8 @@ opendir_leaves tree r handle name (Some node.Directory) = record {
 }
 
 readdir_leaves : (tree : FileTree) (r : Request) (handle h : List ℕ) (cap : ℕ) (entries : Option (List NameEntry))
-    → ListsEntries r h → entries_of (opened_at tree h) ≡ entries → LeavesChanged tree r handle (after_readdir tree cap h entries)
+    → ListsEntries r h → entries_of (opened_at tree h) ≡ entries
+    → LeavesChanged tree r handle (after_readdir tree cap h entries)
 readdir_leaves tree r handle h cap None l e = same tree r handle refl
 readdir_leaves tree r handle h cap (Some []) l e = same tree r handle refl
 readdir_leaves tree r handle h cap (Some (first ∷ entries)) l e =
@@ -367,14 +403,25 @@ readdir_leaves tree r handle h cap (Some (first ∷ entries)) l e =
       named = λ t. absurd cc;
     }
 
-realpath_leaves : (tree : FileTree) (r : Request) (handle : List ℕ) (name : Name) → LeavesChanged tree r handle (after_realpath tree name)
+realpath_leaves : (tree : FileTree) (r : Request) (handle : List ℕ) (name : Name)
+    → LeavesChanged tree r handle (after_realpath tree name)
 realpath_leaves tree r handle name =
-    either tree r handle (nat_lt MAX_BODY_LEN (length (reply_body (path_reply name) 0))) (refusal_answer tree SSH_FX_FAILURE)
+    either tree r handle (nat_lt MAX_BODY_LEN (length (reply_body (path_reply name) 0)))
+    (refusal_answer tree SSH_FX_FAILURE)
     (let x : Answer = (path_reply name, tree) in x) (same tree r handle refl) (same tree r handle refl)
 
-moved_leaves : (tree : FileTree) (r : Request) (handle : List ℕ) (old to : Name) → MovesName r old to → MayMove tree old to
+moved_leaves : (tree : FileTree) (r : Request) (handle : List ℕ) (old to : Name) → MovesName r old to
+    → MayMove tree old to
     → MayStand tree to → LeavesChanged tree r handle (ok_answer (with_renamed tree old to))
-moved_leaves tree r handle old to d m u = record { change = Renamed old to; may = d; checked = (m, u); is = refl; said = refl; named = λ t. absurd cc }
+moved_leaves tree r handle old to d m u = record {
+  change = Renamed old to;
+  may = d;
+  checked = (m, u);
+  is = refl;
+  said =
+      refl;
+  named = λ t. absurd cc;
+}
 
 rename_leaves : (tree : FileTree) (r : Request) (handle : List ℕ) (old to : Name) (n there : Option Node)
     → MovesName r old to → node_at tree old ≡ n → node_at tree to ≡ there
@@ -384,7 +431,8 @@ rename_leaves tree r handle old to (Some n) (Some there) d e f = same tree r han
 rename_leaves tree r handle old to (Some n) None d e f =
     either_by tree r handle (is_within old to) (refusal_answer tree SSH_FX_FAILURE)
     (where_new tree to (ok_answer (with_renamed tree old to))) (λ t. same tree r handle refl)
-    (λ t. new tree r handle to (ok_answer (with_renamed tree old to)) f (λ u. moved_leaves tree r handle old to d (n, e, t) u))
+    (λ t. new tree r handle to (ok_answer (with_renamed tree old to)) f
+    (λ u. moved_leaves tree r handle old to d (n, e, t) u))
 
 replaces_leaves : (tree : FileTree) (r : Request) (handle : List ℕ) (old to : Name) (n : Node) (there : Option Node)
     → MovesName r old to → node_at tree old ≡ Some n → node_at tree to ≡ there → (is_within old to ≡ false)
@@ -395,27 +443,40 @@ replaces_leaves tree r handle old to n None d e f apart = new tree r handle to (
 replaces_leaves tree r handle old to node.Directory (Some there) d e f apart = same tree r handle refl
 replaces_leaves tree r handle old to (node.File file) (Some node.Directory) d e f apart = same tree r handle refl
 replaces_leaves tree r handle old to (node.File file) (Some (node.File gone)) d e f apart =
-    record { change = Replaced old to gone; may = d; checked = (file, e, f, apart.0, apart.1); is = refl; said = refl; named = λ t. absurd cc }
+    record {
+      change = Replaced old to gone;
+      may = d;
+      checked = (file, e, f, apart.0, apart.1);
+      is = refl;
+      said = refl;
+      named = λ t. absurd cc;
+    }
 
 posix_leaves : (tree : FileTree) (r : Request) (handle : List ℕ) (old to : Name) (n there : Option Node)
     → MovesName r old to → node_at tree old ≡ n → node_at tree to ≡ there
     → LeavesChanged tree r handle (after_posix_rename tree old to n there)
 posix_leaves tree r handle old to None there d e f = same tree r handle refl
 posix_leaves tree r handle old to (Some n) there d e f =
-    let rest : Answer = if is_within old to || is_within to old then refusal_answer tree SSH_FX_FAILURE else replace_answer tree old to n there in
+    let rest : Answer = if is_within old to || is_within to old then refusal_answer tree SSH_FX_FAILURE else
+    replace_answer tree old to n there in
     either tree r handle (same_name old to) (ok_answer tree) rest (same tree r handle refl)
-    (either_by tree r handle (is_within old to || is_within to old) (refusal_answer tree SSH_FX_FAILURE) (replace_answer tree old to n there) (λ t. same tree r handle refl)
+    (either_by tree r handle (is_within old to || is_within to old) (refusal_answer tree SSH_FX_FAILURE)
+    (replace_answer tree old to n there) (λ t. same tree r handle refl)
     (λ t. replaces_leaves tree r handle old to n there d e f (or_parts (is_within old to) (is_within to old) t)))
 
 offered : (tree : FileTree) (config : ServerConfig) (r : Request) (handle : List ℕ) (bit : ℕ) (x : Answer)
     → LeavesChanged tree r handle x → LeavesChanged tree r handle (where_offered tree config bit x)
-offered tree config r handle bit x h = either tree r handle (has_bit config.extensions.0 bit) x (refusal_answer tree SSH_FX_OP_UNSUPPORTED) h (same tree r handle refl)
+offered tree config r handle bit x h = either tree r handle (has_bit config.extensions.0 bit) x
+    (refusal_answer tree SSH_FX_OP_UNSUPPORTED) h (same tree r handle refl)
 
-answered_leaves : (tree : FileTree) (config : ServerConfig) (r : Request) (cap : ℕ) (handle : List ℕ) → LeavesChanged tree r handle (tree_answer tree config r cap handle)
+answered_leaves : (tree : FileTree) (config : ServerConfig) (r : Request) (cap : ℕ) (handle : List ℕ)
+    → LeavesChanged tree r handle (tree_answer tree config r cap handle)
 answered_leaves tree config (request.OpenFile path flags attrs) cap handle =
-    open_leaves tree _ handle flags.0 (components path) (node_at tree (components path)) refl (λ file. refl) (λ t. (t, refl)) refl
+    open_leaves tree _ handle flags.0 (components path) (node_at tree (components path)) refl (λ file. refl)
+    (λ t. (t, refl)) refl
 answered_leaves tree config (request.Close h) cap handle = close_leaves tree _ handle h (opened_at tree h) refl
-answered_leaves tree config (request.Read h offset len) cap handle = read_leaves tree _ handle cap offset len (file_of (opened_at tree h))
+answered_leaves tree config (request.Read h offset len) cap handle =
+    read_leaves tree _ handle cap offset len (file_of (opened_at tree h))
 answered_leaves tree config (request.Write h offset content) cap handle =
     write_leaves tree _ handle offset content (file_of (opened_at tree h)) (λ held e. inl (held, (e, refl)))
 answered_leaves tree config (request.Stat path) cap handle = stat_leaves tree _ handle (node_at tree (components path))
@@ -425,11 +486,16 @@ answered_leaves tree config (request.Setstat path attrs) cap handle =
     any_setstat_leaves tree _ handle (components path) attrs (node_at tree (components path)) refl refl
 answered_leaves tree config (request.Fsetstat h attrs) cap handle =
     fsetstat_leaves tree _ handle attrs (file_of (opened_at tree h)) (λ held e. inl (held, (e, refl)))
-answered_leaves tree config (request.Remove path) cap handle = remove_leaves tree _ handle (components path) (node_at tree (components path)) refl refl
-answered_leaves tree config (request.Mkdir path attrs) cap handle = mkdir_leaves tree _ handle (components path) (node_at tree (components path)) refl refl
-answered_leaves tree config (request.Rmdir path) cap handle = rmdir_leaves tree _ handle (components path) (node_at tree (components path)) refl refl
-answered_leaves tree config (request.Opendir path) cap handle = opendir_leaves tree _ handle (components path) (node_at tree (components path))
-answered_leaves tree config (request.Readdir h) cap handle = readdir_leaves tree _ handle h cap (entries_of (opened_at tree h)) refl refl
+answered_leaves tree config (request.Remove path) cap handle =
+    remove_leaves tree _ handle (components path) (node_at tree (components path)) refl refl
+answered_leaves tree config (request.Mkdir path attrs) cap handle =
+    mkdir_leaves tree _ handle (components path) (node_at tree (components path)) refl refl
+answered_leaves tree config (request.Rmdir path) cap handle =
+    rmdir_leaves tree _ handle (components path) (node_at tree (components path)) refl refl
+answered_leaves tree config (request.Opendir path) cap handle =
+    opendir_leaves tree _ handle (components path) (node_at tree (components path))
+answered_leaves tree config (request.Readdir h) cap handle =
+    readdir_leaves tree _ handle h cap (entries_of (opened_at tree h)) refl refl
 answered_leaves tree config (request.Realpath path) cap handle = realpath_leaves tree _ handle (components path)
 answered_leaves tree config (request.ExpandPath path) cap handle =
     offered tree config _ handle 8 (after_realpath tree (components path))
@@ -438,18 +504,23 @@ answered_leaves tree config (request.Rename old to) cap handle =
     rename_leaves tree _ handle (components old) (components to) (node_at tree (components old))
     (node_at tree (components to)) (refl, refl) refl refl
 answered_leaves tree config (request.PosixRename old to) cap handle =
-    offered tree config _ handle 1 (after_posix_rename tree (components old) (components to) (node_at tree (components old)) (node_at tree (components to)))
-    (posix_leaves tree _ handle (components old) (components to) (node_at tree (components old)) (node_at tree (components to)) (refl, refl) refl refl)
+    offered tree config _ handle 1 (after_posix_rename tree (components old) (components to)
+    (node_at tree (components old)) (node_at tree (components to)))
+    (posix_leaves tree _ handle (components old) (components to) (node_at tree (components old))
+    (node_at tree (components to)) (refl, refl) refl refl)
 answered_leaves tree config (request.Fsync h) cap handle = offered tree config _ handle 4
     (after_fsync tree (file_of (opened_at tree h))) (fsync_leaves tree _ handle (file_of (opened_at tree h)))
 answered_leaves tree config (request.CopyData from from_offset len to to_offset) cap handle =
-    offered tree config _ handle 16 (after_copy tree from_offset len to_offset (file_of (opened_at tree from)) (file_of (opened_at tree to)))
-    (copy_leaves tree _ handle from_offset len to_offset (file_of (opened_at tree from)) (file_of (opened_at tree to)) (λ held e. inl (held, (e, refl))))
+    offered tree config _ handle 16 (after_copy tree from_offset len to_offset (file_of (opened_at tree from))
+    (file_of (opened_at tree to)))
+    (copy_leaves tree _ handle from_offset len to_offset (file_of (opened_at tree from)) (file_of (opened_at tree to))
+    (λ held e. inl (held, (e, refl))))
 answered_leaves tree config request.LimitsQuery cap handle = limits_leave tree handle config.limits
 answered_leaves tree config r cap handle = same tree r handle refl
 
 pub apply_leaves : (tree : FileTree) (config : ServerConfig) (r : Request) (choice : Choice) (handle : List ℕ)
     → LeavesChanged tree r handle (apply tree config r choice handle)
 apply_leaves tree config r choice handle =
-    either tree r handle (choice.refuse == 0) (tree_answer tree config r choice.cap handle) (refusal_answer tree choice.refuse)
+    either tree r handle (choice.refuse == 0) (tree_answer tree config r choice.cap handle)
+    (refusal_answer tree choice.refuse)
     (answered_leaves tree config r choice.cap handle) (same tree r handle refl)

@@ -52,7 +52,8 @@ first_well_formed files dirs h = record {
     file_numbered name k has = elim (has_append (first_directories files dirs) (numbered_files 0 files)
         (name, node.File k) has) [
           | inl dir ↦ absurd (let is : node.File k ≡ node.Directory =
-              first_are_directories files dirs name (node.File k) dir in let both : false ≡ true = ap is_file (sym is) in
+              first_are_directories files dirs name (node.File k) dir in let both : false ≡ true = ap is_file (sym is)
+              in
               cc)
           | inr file ↦ file
         ]

@@ -283,14 +283,17 @@ no_prefix files dirs file to b has ne into within = elim (has_append (map compon
           let other = map_has (λ (file : FirstFile). parent_of (name_of file)) files to parent in
           let leads : is_within (name_of file) (parent_of (name_of other.0)) ≡ true =
           subst (λ (w : Name). is_within (name_of file) w ≡ true) (sym other.1.1) within in
-          let some = named_some (name_of other.0) (has_all may_be_named (map name_of files) (name_of other.0) b.files_named
+          let some = named_some (name_of other.0) (has_all may_be_named (map name_of files) (name_of other.0)
+          b.files_named
           (has_map name_of files other.0 other.1.0)) in
           elim (two_apart (map name_of files) (name_of file) (name_of other.0) b.apart (has_map name_of files file has)
           (has_map name_of files other.0 other.1.0)) [
-            | inl same ↦ above_parent (name_of file) ne (subst (λ (w : Name). is_within (name_of file) (parent_of w) ≡ true)
+            | inl same ↦ above_parent (name_of file) ne (subst (λ (w : Name). is_within (name_of file) (parent_of w)
+                ≡ true)
                 (sym same) leads)
             | inr outside ↦ absurd (let inside : is_within (name_of file) (name_of other.0) ≡ true =
-                parent_within (name_of file) (name_of other.0) some leads in let both : true ≡ false = sym inside ∙ outside
+                parent_within (name_of file) (name_of other.0) some leads in let both : true ≡ false = sym inside
+                ∙ outside
                 in cc)
           ])
     ]

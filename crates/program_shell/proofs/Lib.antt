@@ -5,4 +5,5 @@ pub mod Exits
 pub mod Completing
 pub mod Causing
 pub mod Stopping
+pub mod Choices
 mod Misfits

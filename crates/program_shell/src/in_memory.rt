@@ -1,5 +1,5 @@
 //! Reads a value, runs it over a server in memory or refuses it, and writes the answer.
-ghost use Rattle.std.specs.Prelude.{◌≡◌, ◌<◌, ◌-◌, ◌^◌, None, IfOk, IfSome};
+ghost use Rattle.std.specs.Prelude.{◌≡◌, ◌<◌, ◌-◌, ◌^◌, None, IfOk, IfSome, IsSome};
 ghost use Rattle.script_grammar.specs.CanRun.{CanBegin};
 ghost use Rattle.program_shell.specs.Ended.{EndsInMemory, IsNewServer, IsServerOf};
 ghost use Rattle.program_shell.specs.Replies.{RepliesInMemory};
@@ -35,8 +35,30 @@ pub fn new_server_of(alloc: Global, script: &Script) -> Result<MapServer, OutOfM
     )
 }
 
-/// Runs a value over a server of its own in memory, and returns the text of the run. The server is left in `kept`
-/// whether or not the run succeeded.
+/// Runs a value over a new server in memory, and returns the text of the run. The server is left in `kept` whether or
+/// not the run succeeded. Fails only if an allocation fails.
+fn text_kept<P: Program>(
+    alloc: Global,
+    program: &P,
+    value: &P::Value,
+    server: MapServer,
+    kept: &mut Option<MapServer>,
+) -> Result<Vec<u8>, OutOfMemory>
+    requires may { P.may program.now }
+    requires can { P.can program.now value.now }
+    requires new { IsNewServer (P.setup value.now) server }
+    ensures text { IfOk result (λ text. P.right program.now kept.new value.now text.items) }
+    ensures kept { IsSome kept.new }
+    ensures left { IfSome kept.new (IsServerOf (P.setup value.now)) }
+{
+    let mut server = server;
+    let text = program.text_over(alloc, &mut server, value);
+    *kept = Some(server);
+    text
+}
+
+/// Runs a value over a server of its own in memory, and returns the text of the run. If the server could be made, it is
+/// left in `kept` whether or not the run succeeded.
 ///
 /// # Errors
 ///
@@ -53,10 +75,8 @@ pub fn text_in_memory<P: Program>(
     ensures text { IfOk result (λ text. P.right program.now kept.new value.now text.items) }
     ensures left { IfSome kept.new (IsServerOf (P.setup value.now)) }
 {
-    let mut server = new_server_of(alloc, program.setup_of(value))?;
-    let text = program.text_over(alloc, &mut server, value);
-    *kept = Some(server);
-    text
+    let server = new_server_of(alloc, program.setup_of(value))?;
+    text_kept(alloc, program, value, server, kept)
 }
 
 /// Returns the answer to bytes, over a server in memory, which is left in `kept` if they read as a value. Fails only if

@@ -93,9 +93,10 @@ call_keeps n k d (Ok c) h named = record {
     h.0,
     h.1,
     h.2,
+    h.3,
     record {
-      ok = lanes_end d.script.lanes c h.3.ok (fits_within k c named.is);
-      count = let old = h.3.count in let l = lanes_count d.script.lanes c in let light = fits_light k c named.is in
+      ok = lanes_end d.script.lanes c h.4.ok (fits_within k c named.is);
+      count = let old = h.4.count in let l = lanes_count d.script.lanes c in let light = fits_light k c named.is in
           omega (arith, old, l, light);
     },
   );
@@ -126,7 +127,7 @@ turn_keeps L d of_lane word h = bind_keeps (number_in 0 greatest_u32 word) _ (λ
 
 -- with more room for what the lanes count
 pub roomier : (n m : ℕ) (d : Draft) → Sound (Within n) d.script → Sound (Within (n + m)) d.script
-roomier n m d h = (h.0, h.1, h.2, more n m d.script.lanes h.3)
+roomier n m d h = (h.0, h.1, h.2, h.3, more n m d.script.lanes h.4)
 
 -- a line whose words after the first are together at most k bytes long
 pub session_keeps : (n k : ℕ) (d : Draft) (word : List ℕ) (words : List (List ℕ)) → words_len words ≤ k
@@ -135,7 +136,7 @@ pub session_keeps : (n k : ℕ) (d : Draft) (word : List ℕ) (words : List (Lis
 session_keeps n k d word words le h =
     let now : Sound (Within (n + (65 + k))) d.script = roomier n (65 + k) d h in
     if_keeps (bytes_eq word (codes "lane")) _ _ (no_keeps (with_lane d) words
-    (h.0, h.1, h.2, begun n k d.script.lanes h.3))
+    (h.0, h.1, h.2, h.3, begun n k d.script.lanes h.4))
     (if_keeps (bytes_eq word (codes "step")) _ _ (one_keeps _ words (λ a. turn_keeps (Within (n + (65 + k))) d _ a now))
     (if_keeps (bytes_eq word (codes "cancel")) _ _ (one_keeps _ words
     (λ a. turn_keeps (Within (n + (65 + k))) d _ a now))

@@ -44,7 +44,8 @@ lines_keep script m n number d [] le h e =
       h.0,
       h.1,
       h.2,
-      record { ok = h.3.ok; count = let c = h.3.count in omega (arith, c, le) },
+      h.3,
+      record { ok = h.4.ok; count = let c = h.4.count in omega (arith, c, le) },
     )
 lines_keep script m n number d (line ∷ lines) le h e =
     go_keeps script m number (n + line_cost line) (read_line line_by d line)
@@ -73,17 +74,18 @@ sound bytes script e =
     (λ short is. lines_keep script (MAX_SCRIPT_LEN * 66) 0 1 (record { script = empty_script; named = [] })
     (lines_of bytes)
     (let fit = lines_fit bytes in let most = at_most MAX_SCRIPT_LEN (length bytes) short in omega (arith, fit, most))
-    (refl, omega arith, omega arith, record { ok = refl; count = omega arith }) is) e
+    (refl, omega arith, omega arith, refl, record { ok = refl; count = omega arith }) is) e
 
 pub script_can_run : (bytes : List ℕ) (script : Script) → script_of bytes ≡ Ok script → CanRun script
 script_can_run bytes script e =
     let s = sound bytes script e in
-    let count = s.3.count in
+    let count = s.4.count in
     record {
       begins = s.0;
       known = s.1;
       writes = s.2;
-      lanes = both_true (list_all lane_ok script.lanes) (nat_lt (sum_by lane_weight script.lanes) weight_limit) s.3.ok
+      unfeigned = s.3;
+      lanes = both_true (list_all lane_ok script.lanes) (nat_lt (sum_by lane_weight script.lanes) weight_limit) s.4.ok
           (less (sum_by lane_weight script.lanes) weight_limit (omega (arith, count)));
     }
 

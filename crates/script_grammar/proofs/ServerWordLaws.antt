@@ -50,8 +50,8 @@ lines_keep d (line ∷ lines) script k e = by_line (first_line d (words_of line)
 pub server_can_run : (lines : List (List ℕ)) (script : Script) → server_of lines ≡ Ok script → CanRun script
 server_can_run lines script e =
     let s = lines_keep (record { script = empty_script; named = [] }) lines script
-    (refl, omega arith, omega arith, refl) e in
-    record { begins = s.0; known = s.1; writes = s.2; lanes = s.3 }
+    (refl, omega arith, omega arith, refl, refl) e in
+    record { begins = s.0; known = s.1; writes = s.2; unfeigned = s.3; lanes = s.4 }
 
 -- ---- one word more
 

@@ -13,6 +13,7 @@ use Rattle.std.proofs.Common.{
   List,
   [],
   ◌∷◌,
+  ◌++◌,
   Option,
   Some,
   None,
@@ -29,12 +30,16 @@ use Rattle.std.proofs.Common.{
 }
 use Rattle.std.specs.Prelude.{◌&&◌, ◌==◌, MatchBool, nat_le, nat_lt, not, is_some, codes}
 use Rattle.std.specs.Int.RustNames.{bit_or}
+use Rattle.std.specs.List.{list_all}
 use Rattle.std.specs.Str.{bytes_eq}
 use Rattle.std.proofs.lemmas.Bool.{and_parts, leb-true}
 use Rattle.std.proofs.lemmas.Bool.Decides.{nat_tests}
+use Rattle.std.proofs.lemmas.List.Folds.{list_all-append}
 use Rattle.ssh_encoding.specs.Reading.{◌>>=◌}
+use Rattle.sftp_model.specs.declared.config.Choice.{Choice}
 use Rattle.sftp_model.specs.declared.options.SftpOptions.{SftpOptions}
 use Rattle.sftp_model.specs.Fits.{FitsSet}
+use Rattle.sftp_model.specs.Numbers.{SSH_FX_EOF}
 use Rattle.sftp_model.specs.Readings.{has_bit}
 use Rattle.machine_model.specs.Components.{components}
 use Rattle.machine_model.specs.FirstTree.{may_be_named, may_begin}
@@ -42,7 +47,7 @@ use Rattle.plan_model.specs.declared.call.Lane.{Lane}
 use Rattle.script_words.specs.declared.reason.Reason.{Reason}
 use Rattle.script_words.specs.declared.reason.Reason.TheVariants as reason
 use Rattle.script_grammar.specs.declared.script.Script.{Script}
-use Rattle.script_grammar.specs.CanRun.{CanBegin}
+use Rattle.script_grammar.specs.CanRun.{CanBegin, feigns_no_end}
 use Rattle.script_words.specs.Lines.{bytes_in, greatest_u32, greatest_u64, number_in, number_of, within}
 use Rattle.script_grammar.specs.Setup.{
   Draft,
@@ -70,11 +75,12 @@ use Rattle.script_grammar.specs.Setup.{
 use Rattle.script_grammar.proofs.FirstLaws.{dir_begins, file_begins}
 use Rattle.script_grammar.proofs.LineLaws.{Fact, Keeps, KeepsIn, bind_keeps, four_keeps, if_keeps, if_keeps_in, one_keeps, two_keeps, unless_keeps}
 
--- a server and a client can begin as the script says, and this holds of its lanes; a product, so that a line which
--- leaves these parts alone passes it on as it is
+-- A server and a client can begin as the script says, no choice feigns an end, and this holds of its lanes. It is a
+-- product, so that a line which leaves these parts unchanged passes it on as it is.
 abbrev pub Sound : (List Lane → Type 0) → Fact
 Sound L script = (may_begin script.files script.dirs ≡ true) × FitsSet script.server.extensions.0
-    × (1 ≤ script.options.tokio_compat_file_write_limit) × L script.lanes
+    × (1 ≤ script.options.tokio_compat_file_write_limit) × (list_all feigns_no_end script.choices ≡ true)
+    × L script.lanes
 
 -- ---- what a word that was read says
 
@@ -156,6 +162,7 @@ option_keeps L d key least most word set k wrote = bind_keeps (number_in least m
       k.1,
       wrote n (from_least least most (number_of word) n e),
       k.3,
+      k.4,
     )))
 
 options_keep : (L : List Lane → Type 0) (d : Draft) (name word : List ℕ) → Sound L d.script
@@ -180,6 +187,7 @@ ext_keeps L d name k = bit_keeps (extension_in name) _ (name_bit name)
       each_known n 64 d.script.server.extensions.0 e k.1,
       k.2,
       k.3,
+      k.4,
     )))
 
 limits_keep : (L : List Lane → Type 0) (d : Draft) (p r w h : List ℕ) → Sound L d.script
@@ -215,6 +223,7 @@ file_keeps L d a b k =
       k.1,
       k.2,
       k.3,
+      k.4,
     ))))
 
 pub dir_keeps : (L : List Lane → Type 0) (d : Draft) (a : List ℕ) → Sound L d.script → Keeps (Sound L) (dir_line d a)
@@ -225,12 +234,31 @@ dir_keeps L d a k =
       k.1,
       k.2,
       k.3,
+      k.4,
     )))
+
+-- a code that was read is not that of an end
+is_no_end : (m : Result ℕ Reason) (x : ℕ) → (m >>= λ n. if n == 1 then Err reason.Range else Ok n) ≡ Ok x
+    → not (x == SSH_FX_EOF) ≡ true
+is_no_end (Err why) x e = absurd cc
+is_no_end (Ok n) x e = by_test (n == 1) refl e
+  where
+    by_test : (b : Bool) → (n == 1) ≡ b → (if b then Err reason.Range else Ok n) ≡ Ok x → not (x == SSH_FX_EOF) ≡ true
+    by_test true t e = absurd cc
+    by_test false t e = let same : n ≡ x = cc in subst (λ (k : ℕ). not (k == SSH_FX_EOF) ≡ true) same (rw t refl)
+
+another : (choices : List Choice) (refuse cap : ℕ) → list_all feigns_no_end choices ≡ true
+    → not (refuse == SSH_FX_EOF) ≡ true
+    → list_all feigns_no_end (choices ++ record { refuse = refuse; cap = cap } ∷ []) ≡ true
+another choices refuse cap h e =
+    rw (list_all-append feigns_no_end choices (record { refuse = refuse; cap = cap } ∷ []), h, e) refl
 
 choice_keeps : (L : List Lane → Type 0) (d : Draft) (a b : List ℕ) → Sound L d.script
     → Keeps (Sound L) (choice_line d a b)
 choice_keeps L d a b k = bind_keeps (refusal_in a) _ (λ x e. bind_keeps (number_in 0 greatest_u32 b) _
-    (λ y i. record { is = k }))
+    (λ y i. record {
+      is = (k.0, k.1, k.2, another d.script.choices x y k.3 (is_no_end (number_in 0 greatest_u32 a) x e), k.4);
+    }))
 
 pick_keeps : (L : List Lane → Type 0) (d : Draft) (a : List ℕ) → Sound L d.script → Keeps (Sound L) (pick_line d a)
 pick_keeps L d a k = bind_keeps (number_in 0 greatest_u32 a) _ (λ x e. record { is = k })
@@ -257,5 +285,6 @@ pub setup_kept : (is : Bool) (old new : Draft) (word : List ℕ) (words : List (
 setup_kept false old new word words h can = subst (λ (d : Draft). CanBegin d.script) (sym h.1) can
 setup_kept true old new word words h can =
     let k = kept_in (setup_line old word words) new (Sound (λ (lanes : List Lane). Unit {0}))
-    (setup_keeps (λ (lanes : List Lane). Unit {0}) old word words (can.begins, can.known, can.writes, tt)) h in
-    record { begins = k.0; known = k.1; writes = k.2 }
+    (setup_keeps (λ (lanes : List Lane). Unit {0}) old word words
+    (can.begins, can.known, can.writes, can.unfeigned, tt)) h in
+    record { begins = k.0; known = k.1; writes = k.2; unfeigned = k.3 }

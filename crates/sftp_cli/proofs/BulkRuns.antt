@@ -1,6 +1,6 @@
 -- A script that three numbers make may be run.
 use Rattle.std.proofs.Common.{◌≡◌, arith, refl, sym, subst}
-use Rattle.sftp_cli.proofs.ScriptLaws.{lanes_ok}
+use Rattle.sftp_cli.proofs.ScriptLaws.{choices_feign_no_end, lanes_ok}
 use Rattle.sftp_cli.specs.Bulk.{bulk_script}
 use Rattle.script_grammar.specs.CanRun.{CanRun}
 use Rattle.script_grammar.specs.declared.script.Script.{Script}
@@ -14,5 +14,6 @@ bulk_runs n script b is =
       begins = refl;
       known = omega arith;
       writes = omega arith;
+      unfeigned = choices_feign_no_end n.start n.lanes n.calls;
       lanes = lanes_ok n.start n.lanes n.calls b.lanes b.all;
     })

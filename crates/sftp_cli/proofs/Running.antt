@@ -8,6 +8,7 @@ use Rattle.sftp_model.specs.declared.options.SftpOptions.{SftpOptions}
 use Rattle.sftp_model.specs.declared.reply.Reply.{Reply}
 use Rattle.plan_model.specs.declared.call.Lane.{Lane}
 use Rattle.session_model.specs.declared.report.Report.{Report}
+use Rattle.script_grammar.specs.CanRun.{CanRun}
 use Rattle.script_grammar.specs.declared.script.Script.{Script}
 use Rattle.session_model.specs.declared.turn.Turn.{Turn}
 use Rattle.plan_model.specs.Lanes.{are_ok}
@@ -21,6 +22,7 @@ use Rattle.machine_laws.proofs.Whole.{version_is_told, run_is_served}
 use Rattle.sftp_lanes.specs.Reported.{IsReport}
 use Rattle.sftp_lanes.specs.ServesFiles.{ServesFiles}
 use Rattle.program_shell.specs.Ended.{IsServerOf}
+use Rattle.program_shell.proofs.Choices.{begins_run, begins_unfeigned}
 use Rattle.program_shell.proofs.Stopping.{begins_well, from_empty}
 use Rattle.sftp_cli.specs.Printed.{IsPrinted, IsServedReport, report_text}
 
@@ -69,15 +71,16 @@ served_report lanes options turns old now r ok new none same serving report =
 -- the text of a run over the server of a script
 pub is_printed : (form : Form) (script : Script) (lanes : List Lane) (turns : List Turn) (old now : Serving)
     (report : Report) (r : Result (Vec ℕ Global) OutOfMemory) → lanes ≡ script.lanes → turns ≡ script.turns
-    → IsServerOf script old → now.first ≡ old.first
+    → CanRun script → IsServerOf script old → now.first ≡ old.first
     → IsServedReport lanes script.options turns now report
     → IfOk r (λ text. text.items ≡ report_text form report now.now.state.machine.tree)
     → IfOk r (λ text. IsPrinted form (Some now) script text.items)
-is_printed form script lanes turns old now report (Err e) l t first same run is = tt
-is_printed form script lanes turns old now report (Ok text) l t first same run is = record {
+is_printed form script lanes turns old now report (Err e) l t can first same run is = tt
+is_printed form script lanes turns old now report (Ok text) l t can first same run is = record {
   server = now;
   is_kept = refl;
   first = same ∙ first;
+  begins = begins_unfeigned script now (begins_run script can) (same ∙ first);
   report = report;
   run = subst (λ (x : List Turn). IsServedReport script.lanes script.options x now report) t
       (subst (λ (x : List Lane). IsServedReport x script.options turns now report) l run);

@@ -10,6 +10,7 @@ use Rattle.sftp_model.specs.Fits.{FitsLimits, FitsNumber}
 use Rattle.plan_model.specs.declared.call.Call.{Call}
 use Rattle.plan_model.specs.declared.call.Lane.{Lane}
 use Rattle.plan_model.specs.Lanes.{are_ok, is_within, lane_weight, weight, weight_limit}
+use Rattle.script_grammar.specs.CanRun.{feigns_no_end}
 use Rattle.sftp_cli.specs.Bulk.{RandomDraw, bulk_script, bulk_server, call_of, choice, count_of, draw, next_drawn_number, each, lane_of, turn_of, value_of}
 
 -- ---- lists that are drawn
@@ -128,3 +129,8 @@ pub codes_fit : (start lanes calls : ℕ) → All (λ choice. FitsNumber choice.
     (bulk_script start lanes calls).choices
 codes_fit start lanes calls = each_is (λ (c : Choice). FitsNumber c.refuse) (λ k. choice) (λ k x. omega arith) 0
     (count_of lanes calls) _
+
+-- no choice refuses anything
+pub choices_feign_no_end : (start lanes calls : ℕ)
+    → list_all feigns_no_end (bulk_script start lanes calls).choices ≡ true
+choices_feign_no_end start lanes calls = each_passes feigns_no_end (λ k. choice) (λ k x. refl) 0 (count_of lanes calls) _

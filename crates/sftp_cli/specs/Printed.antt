@@ -5,6 +5,7 @@ use Rattle.std.specs.List.{sum_by}
 use Rattle.sftp_model.specs.declared.options.SftpOptions.{SftpOptions}
 use Rattle.sftp_model.specs.declared.flags.Extensions.{Extensions}
 use Rattle.machine_model.specs.FileTree.{FileTree}
+use Rattle.machine_model.specs.Trees.{IsTree}
 use Rattle.machine_model.specs.Listing.{has_file, in_name_order, node_bytes}
 use Rattle.sftp_cli.specs.declared.summary.Summary.{Summary}
 use Rattle.sftp_cli.specs.Summary.{capped_at_u64, summary_of, summary_text}
@@ -23,6 +24,7 @@ use Rattle.script_text.specs.Texts.{text_with_files}
 use Rattle.sftp_map_server.specs.Serving.{Server, Serving, version_reply}
 use Rattle.machine_laws.specs.ServedRuns.{IsServedRun}
 use Rattle.run_laws.specs.KeepsFiles.{KeepsFiles}
+use Rattle.run_laws.specs.Steps.{FeignNoEnd}
 use Rattle.script_text.specs.Traces.{journal_of}
 use Rattle.program_shell.specs.Ended.{IsServerOf}
 use Rattle.sftp_cli.specs.declared.printed.Form.{Form}
@@ -71,11 +73,13 @@ pub record IsServedReport (lanes : List Lane) (options : SftpOptions) (turns : L
   pub outcomes : report.outcomes ≡ outcomes_below past (length lanes)
 
 -- The text is that of a run of a script's lanes over the script's server, which was kept, and of the files and
--- directories that are left there.
+-- directories that are left there. No choice of the server feigns an end, and it starts with a tree, so each listing
+-- that ended with names is whole.
 pub record IsPrinted (form : Form) (kept : Option Serving) (script : Script) (text : List ℕ) : Type 0 where
   pub server : Serving
   pub is_kept : kept ≡ Some server
   pub first : IsServerOf script server
+  pub begins : FeignNoEnd server.first.state.choices × IsTree server.first.state.machine.tree
   pub report : Report
   pub run : IsServedReport script.lanes script.options script.turns server report
   pub is : text ≡ report_text form report server.now.state.machine.tree

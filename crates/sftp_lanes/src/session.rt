@@ -22,6 +22,7 @@ use session_model::{Call, Entry, Event, Lane, Outcome, Report};
 use session_work::Lanes;
 use sftp_core::{Chunk, Fault, Info, TakeError};
 use sftp_model::{Reply, SftpOptions};
+use sftp_values::Items;
 use sftp_wire::read_reply;
 use ssh_encoding::OutOfMemory;
 use std::alloc::Global;
@@ -203,6 +204,23 @@ impl Session {
     {
         let trace = Vec::with_capacity(self.alloc, self.journal().len())?;
         Ok(self.report_into(trace))
+    }
+
+    /// Ends the session, and returns its journal, the first entry first. No memory is allocated. Nothing is sent.
+    pub fn into_journal(self) -> Items<Entry>
+        ensures { reverse result ≡ past_of self.work }
+    {
+        let Session {
+            alloc: _,
+            lanes: _,
+            options: _,
+            phase: _,
+            version: _,
+            info: _,
+            work,
+        } = self;
+        let (journal, _outcomes) = work.into_told();
+        Items::new(journal)
     }
 
     /// Ends the session, and reports what it did, with its events in an empty list that has room for the journal. No

@@ -351,7 +351,7 @@ list_refused bytes (script.Line n why) le refused = refused_at bytes n why le re
 
 nothing_good : IsGood 0 nothing_read
 nothing_good = record {
-  begins = record { begins = refl; known = omega arith; writes = omega arith };
+  begins = record { begins = refl; known = omega arith; writes = omega arith; unfeigned = refl };
   ok = refl;
   count =
       omega arith;

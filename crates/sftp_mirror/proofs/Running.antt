@@ -21,8 +21,10 @@ use Rattle.mirror_jobs.specs.Verdicts.{verdicts_of}
 use Rattle.sftp_mirror.specs.declared.copy.CopyReport.{CopyReport}
 use Rattle.sftp_mirror.specs.declared.list.CopyList.{CopyList}
 use Rattle.sftp_mirror.specs.declared.schedule.Schedule.{Schedule}
+use Rattle.sftp_mirror.specs.CanCopy.{CanCopy}
 use Rattle.sftp_mirror.specs.Copies.{IsCopyReport, MayCopy}
 use Rattle.program_shell.specs.Ended.{IsServerOf}
+use Rattle.program_shell.proofs.Choices.{begins_unfeigned}
 use Rattle.program_shell.proofs.Stopping.{begins_well, from_empty}
 use Rattle.sftp_mirror.specs.Printed.{IsCopied, IsServedCopy, copy_text}
 
@@ -63,15 +65,17 @@ served_copy schedule jobs options old now r may new none same serving copied =
 
 -- the text of what was copied over the server of a list
 pub is_copied : (schedule : Schedule) (list : CopyList) (jobs : List Job) (old now : Serving) (report : CopyReport)
-    (r : Result (Vec ℕ Global) OutOfMemory) → jobs ≡ list.jobs → IsServerOf list.script old → now.first ≡ old.first
+    (r : Result (Vec ℕ Global) OutOfMemory) → jobs ≡ list.jobs → CanCopy list → IsServerOf list.script old
+    → now.first ≡ old.first
     → IsServedCopy schedule jobs list.script.options now report
     → IfOk r (λ text. text.items ≡ copy_text jobs report.verdicts now.now.state.machine.tree)
     → IfOk r (λ text. IsCopied schedule (Some now) list text.items)
-is_copied schedule list jobs old now report (Err e) j first same run is = tt
-is_copied schedule list jobs old now report (Ok text) j first same run is = record {
+is_copied schedule list jobs old now report (Err e) j can first same run is = tt
+is_copied schedule list jobs old now report (Ok text) j can first same run is = record {
   server = now;
   is_kept = refl;
   first = same ∙ first;
+  begins = begins_unfeigned list.script now can.begins (same ∙ first);
   report = report;
   run = subst (λ (x : List Job). IsServedCopy schedule x list.script.options now report) j run;
   is = is ∙ ap (λ (x : List Job). copy_text x report.verdicts now.now.state.machine.tree) j;

@@ -4,12 +4,14 @@ use Rattle.std.specs.Prelude.{◌≡◌, ℕ, List, [], ◌++◌, length, Option
 use Rattle.sftp_model.specs.declared.options.SftpOptions.{SftpOptions}
 use Rattle.sftp_model.specs.declared.flags.Extensions.{Extensions}
 use Rattle.machine_model.specs.FileTree.{FileTree}
+use Rattle.machine_model.specs.Trees.{IsTree}
 use Rattle.session_model.specs.declared.entry.Entry.{Entry}
 use Rattle.session_model.specs.Closes.{AreClosed}
 use Rattle.session_model.specs.Readings.{outcomes_below}
 use Rattle.session_model.specs.Runs.{IsRun}
 use Rattle.session_model.specs.Settings.{version_reply_of, setting_of}
 use Rattle.session_model.specs.Shown.{ShowsExchange}
+use Rattle.run_laws.specs.Steps.{FeignNoEnd}
 use Rattle.script_text.specs.Texts.{dir_lines, file_lines}
 use Rattle.sftp_map_server.specs.Serving.{Serving, version_reply}
 use Rattle.machine_laws.specs.ServedRuns.{IsServedRun}
@@ -56,11 +58,13 @@ abbrev pub copy_text : List Job → List Verdict → FileTree → List ℕ
 copy_text jobs verdicts tree = verdict_lines jobs verdicts ++ file_lines tree ++ dir_lines tree
 
 -- The text is that of the copies of a list's files over the list's server, which was kept, and of the files and
--- directories that are left there.
+-- directories that are left there. No choice of the server feigns an end, so bytes reported as read are
+-- those that the file had at first.
 pub record IsCopied (schedule : Schedule) (kept : Option Serving) (list : CopyList) (text : List ℕ) : Type 0 where
   pub server : Serving
   pub is_kept : kept ≡ Some server
   pub first : IsServerOf list.script server
+  pub begins : FeignNoEnd server.first.state.choices × IsTree server.first.state.machine.tree
   pub report : CopyReport
   pub run : IsServedCopy schedule list.jobs list.script.options server report
   pub is : text ≡ copy_text list.jobs report.verdicts server.now.state.machine.tree

@@ -125,6 +125,7 @@ served_view size ops options old now r may new none same serving report =
     record {
       extensions = report.extensions;
       past = past;
+      journal = report.journal;
       run = report.run;
       over = report.over;
       version = shows_version f picks (version_reply_of report.extensions) past now.log now.now first shown served;

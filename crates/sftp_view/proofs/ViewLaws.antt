@@ -328,23 +328,6 @@ module _ {S : Type 0} where
         caused = caused_on before.link y c.link u (Ok answers) caused (ok_caused y c.link tt answers all.caused);
       }
 
-  -- no memory was there for the report
-  pub starved_stops : {block capacity : ℕ} {ops : List ViewOp} (before now : RunState S) {answers : List Answer}
-      {kept : Kept (List ℕ)} (given : SessionInputs)
-      → before.seen.given ≡ given → IsDone block capacity ops before now answers kept
-      → IfLogged (EndsAs given IsJournal now.link.ended error.OutOfMemory) before.link.log now.link.log
-  starved_stops before now given is done =
-      subst (λ (g : SessionInputs). IfLogged (EndsAs g IsJournal now.link.ended error.OutOfMemory) before.link.log
-      now.link.log) is
-      (ends_by IsJournal before now error.OutOfMemory (inr (record {
-        past = now.seen.progress.past;
-        is = done.run;
-        so_far = (done.later, done.fixed);
-        same = done.same;
-        ahead = even refl;
-        log = told_as _ _ before.link.log now.link.log done.log (λ p q shown. (q, (shown, inl (inl refl))));
-      })))
-
   pub stops_as_given : (before now : RunState S) (e : Error) (given : SessionInputs) → before.seen.given ≡ given
       → HasStopped IsJournal before now e
       → IfLogged (EndsAs given IsJournal now.link.ended e) before.link.log now.link.log

@@ -1,6 +1,6 @@
 -- believed
 -- The text that the program must write for the bytes of a list, over a server of its files in memory.
-use Rattle.std.specs.Prelude.{◌≡◌, ℕ, List, [], ◌++◌, Option, Some}
+use Rattle.std.specs.Prelude.{◌≡◌, ℕ, List, [], ◌++◌, Option, Some, reverse}
 use Rattle.sftp_model.specs.declared.options.SftpOptions.{SftpOptions}
 use Rattle.sftp_model.specs.declared.flags.Extensions.{Extensions}
 use Rattle.machine_model.specs.FileTree.{FileTree}
@@ -34,6 +34,7 @@ pub record IsServedView (size : CacheSize) (ops : List ViewOp) (options : SftpOp
     (report : ViewReport) : Type 0 where
   pub extensions : Extensions
   pub past : List Entry
+  pub journal : reverse report.journal ≡ past
   pub run : IsJournal (setting_of one_lane options extensions past) past
   pub over : IsOver (setting_of one_lane options extensions past) past
   pub version : version_reply_of extensions ≡ version_reply server.first.state.machine.config

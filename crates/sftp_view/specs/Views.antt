@@ -1,6 +1,6 @@
 -- believed: done_in
 -- The operations that a view can be given, and its report.
-use Rattle.std.specs.Prelude.{◌≡◌, ◌≤◌, ℕ, true, List, [], Option, Result, IfOk, IfErr}
+use Rattle.std.specs.Prelude.{◌≡◌, ◌≤◌, ℕ, true, List, [], Option, Result, IfOk, IfErr, reverse}
 use Rattle.sftp_model.specs.declared.error.Error.{Error}
 use Rattle.sftp_model.specs.declared.flags.Extensions.{Extensions}
 use Rattle.sftp_model.specs.declared.options.SftpOptions.{SftpOptions}
@@ -9,7 +9,7 @@ use Rattle.sftp_link.specs.Told.{IfLogged}
 use Rattle.session_model.specs.declared.entry.Entry.{Entry}
 use Rattle.session_model.specs.Calls.{calls_added_to}
 use Rattle.session_model.specs.Journals.{IsJournal, IsOver}
-use Rattle.session_model.specs.Readings.{outcomes_of, trace_of}
+use Rattle.session_model.specs.Readings.{outcomes_of}
 use Rattle.session_model.specs.Settings.{version_reply_of, setting_of}
 use Rattle.session_model.specs.Shown.{ShowsExchange}
 use Rattle.session_driver.specs.Logs.{ShowsJournal}
@@ -68,15 +68,15 @@ pub record ViewsFiles {Service : Type 0} (block capacity : ℕ) (ops : List View
 
 -- ---- A whole view
 
--- The report's events are those of a run so far after which the session is over, and the link's log shows it, if the
--- link records a log. The calls that were added are exactly those that the operations make by the outcomes of these
+-- The report's journal is a run so far after which the session is over, and the link's log shows it, if the link
+-- records a log. The calls that were added are exactly those that the operations make by the outcomes of these
 -- calls, in their order. The answers, hits and misses are theirs. If the replies are those of a file machine whose
 -- choices refuse nothing, the files alone determine the answers, the hits, the misses and the files that are left.
 pub record IsViewReport (block capacity : ℕ) (ops : List ViewOp) (options : SftpOptions)
     (before after : Option (List Piece)) (r : ViewReport) : Type 0 where
   pub extensions : Extensions
   pub past : List Entry
-  pub trace : r.report.trace ≡ trace_of past
+  pub journal : reverse r.journal ≡ past
   pub run : IsJournal (setting_of one_lane options extensions past) past
   pub over : IsOver (setting_of one_lane options extensions past) past
   pub calls : calls_added_to past 0 ≡ (done_in block capacity ops past).calls

@@ -27,7 +27,7 @@ pub(crate) fn view_served(
     ensures run { IfOk result (λ report. IsServedView size ops.now options.now server.new report) }
     ensures first { server.new.first ≡ server.old.first }
 {
-    let result = run_view(alloc, server, size.block, size.capacity, ops, options);
+    let result = run_view(alloc, server, ops, size.block, size.capacity, options);
     // For the contract: its log is that of a server.
     let _ended = server.is_ended();
     match result {

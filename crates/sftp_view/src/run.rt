@@ -15,7 +15,7 @@ ghost use Rattle.sftp_view.specs.Views.{IsNewView, IsViewReport, MayView, ViewsF
 use crate::close::close_session;
 use crate::ops::View;
 use session_driver::open;
-use session_model::{Lane, Report};
+use session_model::{Entry, Lane};
 use sftp_lanes::Session;
 use sftp_link::Link;
 use sftp_model::{Error, SftpOptions};
@@ -29,14 +29,14 @@ use view_model::{Answer, BlockCache, ViewOp};
 /// Used in `crates/sftp_view/src/printed.rt`.
 #[derive(Debug, Drop)]
 pub struct ViewReport {
-    /// The run of the lane whose calls were made.
-    pub report: Report,
     /// The answer to each operation.
     pub answers: Items<Answer>,
     /// The number of lookups that found their block in the cache.
     pub hits: u64,
     /// The number of lookups that did not find their block in the cache.
     pub misses: u64,
+    /// The journal of the session, with the calls that were made, the first entry first.
+    pub journal: Items<Entry>,
 }
 
 impl View {
@@ -94,8 +94,8 @@ fn new_view(
 
 /// Does operations on remote files over a link, through a cache of at most `capacity` blocks of this length.
 ///
-/// With `Ok` the report is that of a session that is over. The link's log, if the link records one, shows VERSION and
-/// its journal. The one lane has no calls at first; calls were added to it and run one at a time. They are exactly
+/// With `Ok` the report's journal is that of a session that is over. The link's log, if the link records one, shows
+/// VERSION and that journal. The one lane has no calls at first; calls were added to it and run one at a time. They are exactly
 /// those that the operations make by the outcomes of these calls, as `viewed` defines, and the answers, hits and misses
 /// are those of `viewed`.
 ///
@@ -112,9 +112,9 @@ fn new_view(
 pub fn run_view<L: Link>(
     alloc: Global,
     link: &mut L,
+    ops: &[ViewOp],
     block: u32,
     capacity: u32,
-    ops: &[ViewOp],
     options: &SftpOptions,
 ) -> Result<ViewReport, Error>
     requires may { MayView block capacity ops.now }
@@ -136,13 +136,10 @@ pub fn run_view<L: Link>(
         cache: _,
         block: _,
     } = view;
-    match session.into_report() {
-        Ok(report) => Ok(ViewReport {
-            report,
-            answers,
-            hits,
-            misses,
-        }),
-        Err(OutOfMemory) => Err(Error::OutOfMemory),
-    }
+    Ok(ViewReport {
+        answers,
+        hits,
+        misses,
+        journal: session.into_journal(),
+    })
 }

@@ -276,7 +276,7 @@ lines_kept long n d next (text ∷ lines) h e = by_line (read_line line_by d tex
 
 nothing_good : (block : ℕ) → IsGood block (nothing_read block)
 nothing_good block = record {
-  begins = record { begins = refl; known = omega arith; writes = omega arith };
+  begins = record { begins = refl; known = omega arith; writes = omega arith; unfeigned = refl };
   unrefused =
       refl;
   same = refl;

@@ -3,7 +3,7 @@ use Rattle.sftp_lanes.specs.Seen.{session_inputs, seen_of}
 use Rattle.link_frames.proofs.Joining.{escaped}
 use Rattle.sftp_view.specs.Doings.{one_lane}
 use Rattle.sftp_view.proofs.MemoryLaws.{stops_for_memory}
-use Rattle.sftp_view.proofs.ViewLaws.{may_new, starved_stops, stops_as_given}
+use Rattle.sftp_view.proofs.ViewLaws.{may_new, stops_as_given}
 use Rattle.sftp_view.proofs.run.run_view.Goals as goal
 
 pub drive-requires-clause-may : goal.drive-requires-clause-may
@@ -17,12 +17,6 @@ returns-in_err-answers-clause-stops g c =
     (run_state (seen_of c.drive.new.self.session) (g.L.LinkState.state c.drive.new.link))
     c.in_err-answers.field-0.0 (session_inputs one_lane c.args.options.now) c.in-Ok.ensures.session.made_of
     c.in_err-answers.ensures.left)
-
-pub returns-clause-stops : goal.returns-clause-stops
-returns-clause-stops g c =
-    starved_stops (run_state (seen_of c.in-Ok.view.session) (g.L.LinkState.state c.args.link.now))
-    (run_state (seen_of c.drive.new.self.session) (g.L.LinkState.state c.drive.new.link))
-    (session_inputs one_lane c.args.options.now) c.in-Ok.ensures.session.made_of c.in_ok-answers.ensures.done
 
 pub returns-in_err-answers-clause-complete : goal.returns-in_err-answers-clause-complete
 returns-in_err-answers-clause-complete g c =
