@@ -61,8 +61,8 @@ reply_answers state r choice h =
     (status_allowed r SSH_FX_FAILURE h refl) (tree_answers state.tree state.config r choice
     (numbered_handle state.grants) h).allowed
 
--- the reply is one that a tree may give
-may_reply : (state : MachineState) (r : Request) (choice : Choice) → IsFit state.tree → choice.refuse < 2 ^ 32
+-- The reply is one that a tree may give.
+pub may_reply : (state : MachineState) (r : Request) (choice : Choice) → IsFit state.tree → choice.refuse < 2 ^ 32
     → GivesWithin choice.cap r → MayReply (answer state r choice).0
 may_reply state r choice fit code within =
     let x : Answer = defined state r choice in

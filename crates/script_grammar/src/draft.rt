@@ -101,7 +101,7 @@ impl Draft {
     ///
     /// # Errors
     ///
-    /// `RefusesReply` with the reason if the line is refused, or `OutOfMemory` if an allocation fails.
+    /// `Refused` with the reason if the line is refused, or `OutOfMemory` if an allocation fails.
     #[tactic(auto, using(crate::proofs::SetupLaws::setup_kept))]
     pub fn read_setup(&mut self, alloc: Global, word: &[u8], line: &[u8]) -> Result<bool, LineError>
         ensures ok { IfOk result (λ is. MatchBool is

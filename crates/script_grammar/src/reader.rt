@@ -27,7 +27,7 @@ pub trait LineReader {
     ///
     /// # Errors
     ///
-    /// `RefusesReply` with the reason if the line is refused, or `OutOfMemory` if an allocation fails.
+    /// `Refused` with the reason if the line is refused, or `OutOfMemory` if an allocation fails.
     fn read_words(&mut self, alloc: Global, word: &[u8], line: &[u8]) -> Result<(), LineError>
         ensures ok { OnOk result (line_by self.old word.now (words_of line.now) ≡ Ok self.new) }
         ensures refused { IfErr result (λ e. RefusesLine (line_by self.old word.now (words_of line.now)) e) };

@@ -68,7 +68,7 @@ fn first_line(alloc: Global, draft: &mut Draft, line: &[u8]) -> Result<(), LineE
 ///
 /// # Errors
 ///
-/// `RefusesReply` with the reason of the first argument that is no such line. `OutOfMemory` if an allocation fails; it may
+/// `Refused` with the reason of the first argument that is no such line. `OutOfMemory` if an allocation fails; it may
 /// come in place of any other result.
 #[tactic(auto, using(crate::proofs::ServerWordLaws::word_read, crate::proofs::ServerWordLaws::words_end, crate::proofs::ServerWordLaws::word_refused))]
 pub fn read_server_words(alloc: Global, words: &[String]) -> Result<Script, LineError>

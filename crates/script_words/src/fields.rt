@@ -34,7 +34,7 @@ pub trait Field {
     ///
     /// # Errors
     ///
-    /// `RefusesReply` with the reason if the word is no field of this kind, or `OutOfMemory` if an allocation fails.
+    /// `Refused` with the reason if the word is no field of this kind, or `OutOfMemory` if an allocation fails.
     fn read(alloc: Global, word: &[u8]) -> Result<Self::Value, LineError>
         ensures ok { IfOk result (λ value. reads word.now ≡ Ok value) }
         ensures refused { IfErr result (λ e. RefusesLine (reads word.now) e) };
@@ -194,7 +194,7 @@ impl Field for Flags {
 ///
 /// # Errors
 ///
-/// `RefusesReply` with `Count` if the line has more or fewer words; otherwise the error of the field.
+/// `Refused` with `Count` if the line has more or fewer words; otherwise the error of the field.
 #[tactic(auto, using(crate::proofs::Counts::not_one))]
 pub fn one<A: Field>(alloc: Global, line: &[u8]) -> Result<A::Value, LineError>
     ensures ok { IfOk result (λ x. one_word A.reads (words_of line.now) ≡ Ok x) }
@@ -208,7 +208,7 @@ pub fn one<A: Field>(alloc: Global, line: &[u8]) -> Result<A::Value, LineError>
 ///
 /// # Errors
 ///
-/// `RefusesReply` with `Count` if the line has more or fewer words; otherwise the error of the first field that is refused.
+/// `Refused` with `Count` if the line has more or fewer words; otherwise the error of the first field that is refused.
 #[tactic(auto, using(crate::proofs::Counts::not_two))]
 pub fn pair<A: Field, B: Field>(
     alloc: Global,
@@ -227,7 +227,7 @@ pub fn pair<A: Field, B: Field>(
 ///
 /// # Errors
 ///
-/// `RefusesReply` with `Count` if the line has more or fewer words; otherwise the error of the first field that is refused.
+/// `Refused` with `Count` if the line has more or fewer words; otherwise the error of the first field that is refused.
 #[tactic(auto, using(crate::proofs::Counts::not_three))]
 pub fn triple<A: Field, B: Field, C: Field>(
     alloc: Global,
@@ -247,7 +247,7 @@ pub fn triple<A: Field, B: Field, C: Field>(
 ///
 /// # Errors
 ///
-/// `RefusesReply` with `Count` if the line has more or fewer words; otherwise with the reason of the slot, or with that of
+/// `Refused` with `Count` if the line has more or fewer words; otherwise with the reason of the slot, or with that of
 /// the target if the slot is read.
 #[tactic(auto, using(crate::proofs::Counts::not_three))]
 pub fn slot_and_position(line: &[u8]) -> Result<(u8, SeekFrom), LineError>

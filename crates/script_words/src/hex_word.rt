@@ -14,7 +14,7 @@ pub(crate) const NOTHING: &[u8] = b"-";
 ///
 /// # Errors
 ///
-/// `RefusesReply` with `Hex` if the digits are misspelled, or `OutOfMemory` if an allocation fails.
+/// `Refused` with `Hex` if the digits are misspelled, or `OutOfMemory` if an allocation fails.
 #[tactic(auto, using(crate::proofs::HexLaws::digits_refused))]
 pub fn bytes_in(alloc: Global, word: &[u8]) -> Result<ByteText, LineError>
     ensures ok { IfOk result (λ bytes. bytes_in word.now ≡ Ok bytes) }

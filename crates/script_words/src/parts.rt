@@ -29,7 +29,7 @@ fn each_in(alloc: Global, line: &[u8]) -> Result<Vec<ByteText>, LineError>
 ///
 /// # Errors
 ///
-/// `RefusesReply` with `Count` if there are fewer than two words, otherwise with the reason of the first word that is
+/// `Refused` with `Count` if there are fewer than two words, otherwise with the reason of the first word that is
 /// refused; or `OutOfMemory` if an allocation fails.
 #[tactic(auto, using(crate::proofs::PartLaws::too_few, crate::proofs::PartLaws::slot_refused, crate::proofs::PartLaws::parts_refused, crate::proofs::PartLaws::parts_read))]
 pub fn slot_and_parts(alloc: Global, line: &[u8]) -> Result<(u8, Items<ByteText>), LineError>
