@@ -100,6 +100,10 @@ refuse "get, put or list is missing after 'unix:s'" sftp_transfer unix:s
 refuse "unknown command 'gte', which is not get, put or list" sftp_transfer unix:s gte a b
 refuse "unknown option '--resum'" sftp_transfer unix:s get --resum a b
 refuse "unknown option '-x'" sftp_transfer unix:s list -x
+refuse "unknown option '-rx'" sftp_transfer unix:s get -rx a b
+refuse "unknown option '--resume=1'" sftp_transfer unix:s get --resume=1 a b
+refuse "the number of '--files' is from 1 to 256, not '300'" sftp_transfer unix:s get --files=300 a b
+refuse "the number of '--limit' is from 1 to 1073741824, not '2G'" sftp_transfer unix:s get --limit 2G a b
 refuse "option '--files' needs a number" sftp_transfer unix:s put -r --files
 refuse "the number of '--window' is from 1 to 1024, not '1025'" sftp_transfer unix:s get --window 1025 a b
 refuse "the number of '--limit' is from 1 to 1073741824, not 'a'" sftp_transfer unix:s get --limit a b

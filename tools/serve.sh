@@ -45,6 +45,12 @@ sftp_over() {
     (cd "$room" && timeout 60 sftp -D "$server $1" -b commands >said 2>&1)
 }
 
+# the hexadecimal digits of what standard input holds, or `-`
+hex() {
+    digits=$(od -An -v -tx1 | tr -d ' \n')
+    echo "${digits:--}"
+}
+
 # what sftp said, without its commands
 lines() {
     grep -v '^sftp>' "$room/said" | tr -d '\r'
@@ -123,6 +129,33 @@ END
     printf hi | cmp -s - "$room/after"
     tell 'a file after them' $?
 
+    # with --long a tree of 200 files is listed and fetched as it is: 10 directories with 20 files each, of 0 to 19 bytes
+    rm -rf "$room/tree" "$room/got"
+    mkdir "$room/tree"
+    words=--long
+    for d in 0 1 2 3 4 5 6 7 8 9; do
+        mkdir "$room/tree/d$d"
+        for f in 0 1 2 3 4 5 6 7 8 9 10 11 12 13 14 15 16 17 18 19; do
+            head -c "$f" /dev/zero | tr '\0' "$d" >"$room/tree/d$d/f$f"
+            name=$(printf 't/d%s/f%s' "$d" "$f" | hex)
+            words="$words 'file $name $(hex <"$room/tree/d$d/f$f")'"
+        done
+    done
+    printf 'get -r t got\nls -l t/d3\nls -l t\n' | sftp_over "$words"
+    tell 'sftp -r of a tree' $?
+    diff -r "$room/tree" "$room/got" >>"$room/said" 2>&1
+    tell 'a tree of 200 files' $?
+    {
+        for d in 0 1 2 3 4 5 6 7 8 9; do
+            printf 'drwxr-xr-x    1 root     root     %8d Jan  1  1970 d%s\n' 0 "$d"
+        done
+        for f in 0 1 2 3 4 5 6 7 8 9 10 11 12 13 14 15 16 17 18 19; do
+            printf -- '-rw-r--r--    1 root     root     %8d Jan  1  1970 f%s\n' "$f" "$f"
+        done
+    } | LC_ALL=C sort >"$room/wanted"
+    lines | grep 'Jan  1  1970' | LC_ALL=C sort | diff "$room/wanted" - >>"$room/said"
+    tell 'ls -l of a tree' $?
+
     # a word that is refused ends it before anything is said
     echo ls | sftp_over "'server cut 4'"
     [ $? -ne 0 ] && grep -q '^sftp_serve: word 1 mode' "$room/said"
@@ -130,12 +163,6 @@ END
 }
 
 # ---- the client of crates/sftp_cli
-
-# the hexadecimal digits of what standard input holds, or `-`
-hex() {
-    digits=$(od -An -v -tx1 | tr -d ' \n')
-    echo "${digits:--}"
-}
 
 # runs the script of standard input over the server, and keeps the outcomes of its calls
 cli_over() {

@@ -3,7 +3,6 @@ use Rattle.std.proofs.Common.{◌≡◌, inl, inr, ℕ, List, refl, ap}
 use Rattle.std.specs.Prelude.{Option, Ok, Err}
 use Rattle.sftp_link.specs.Views.{DialView, SourceView}
 use Rattle.sftp_map_server.specs.Serving.{Serving}
-use Rattle.script_grammar.specs.declared.script.Script.{Script}
 use Rattle.program_shell.specs.declared.ending.Answered.{Answered}
 use Rattle.program_shell.specs.declared.ending.Answered.TheVariants.{Done, Stopped, Refused}
 use Rattle.program_shell.specs.declared.ending.ProgramFailure.TheVariants.{SourceFailed, SinkFailed, OutOfMemory, DialFailed}
@@ -49,23 +48,23 @@ has_causes end before now s k d = record {
 }
 
 -- over a server in memory the dial stays
-memory_dial : {T History : Type 0} (read : List ℕ → ReadAs T) (setup : T → Script)
+memory_dial : {T History : Type 0} (read : List ℕ → ReadAs T) (leaves : T → Serving → Type 0)
     (right : Option Serving → T → List ℕ → Type 0) (end : End) (kept : Option Serving) (o p : Outside History)
-    → EndsInMemory read setup right end kept o.source p.source o.sink p.sink → p.dial.faults ≡ o.dial.faults
+    → EndsInMemory read leaves right end kept o.source p.source o.sink p.sink → p.dial.faults ≡ o.dial.faults
     → DialCause end o.dial.faults p.dial.faults
-memory_dial read setup right (Ok answered) kept o p e same = same
-memory_dial read setup right (Err SourceFailed) kept o p e same = same
-memory_dial read setup right (Err SinkFailed) kept o p e same = same
-memory_dial read setup right (Err OutOfMemory) kept o p e same = same
-memory_dial read setup right (Err DialFailed) kept o p e same = absurd e.left
+memory_dial read leaves right (Ok answered) kept o p e same = same
+memory_dial read leaves right (Err SourceFailed) kept o p e same = same
+memory_dial read leaves right (Err SinkFailed) kept o p e same = same
+memory_dial read leaves right (Err OutOfMemory) kept o p e same = same
+memory_dial read leaves right (Err DialFailed) kept o p e same = absurd e.left
 
-pub memory_causes : {T History : Type 0} (read : List ℕ → ReadAs T) (setup : T → Script)
+pub memory_causes : {T History : Type 0} (read : List ℕ → ReadAs T) (leaves : T → Serving → Type 0)
     (right : Option Serving → T → List ℕ → Type 0) (end : End) (kept : Option Serving) (before now : Outside History)
-    → EndsInMemory read setup right end kept before.source now.source before.sink now.sink → now.dial ≡ before.dial
+    → EndsInMemory read leaves right end kept before.source now.source before.sink now.sink → now.dial ≡ before.dial
     → HasCauses (status_of end) before now
-memory_causes read setup right end kept before now h stays =
+memory_causes read leaves right end kept before now h stays =
     has_causes end before now h.source h.sink
-    (memory_dial read setup right end kept before now h (ap (λ (v : DialView _). v.faults) stays))
+    (memory_dial read leaves right end kept before now h (ap (λ (v : DialView _). v.faults) stays))
 
 -- at the sink alone the source and the dial stay
 pub sink_causes : {History : Type 0} (right : Answered → List ℕ → Type 0) (end : End) (before now : Outside History)

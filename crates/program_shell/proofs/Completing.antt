@@ -4,7 +4,6 @@ use Rattle.std.specs.Prelude.{Option, Some, None, Ok, Err}
 use Rattle.sftp_link.specs.Told.{IfLogged, ReadUpTo}
 use Rattle.sftp_link.specs.Views.{DialView, LastLink, SinkView, SourceView}
 use Rattle.sftp_map_server.specs.Serving.{Serving}
-use Rattle.script_grammar.specs.declared.script.Script.{Script}
 use Rattle.program_shell.specs.declared.ending.Answered.{Answered}
 use Rattle.program_shell.specs.declared.ending.Answered.TheVariants.{Done, Stopped, Refused}
 use Rattle.program_shell.specs.declared.ending.ProgramFailure.TheVariants.{SourceFailed, SinkFailed, OutOfMemory, DialFailed}
@@ -67,20 +66,20 @@ memory_status right kept (Err why) Done text h = absurd h
 memory_status right kept (Err why) Stopped text h = absurd h
 memory_status right kept (Err why) Refused text h = refl
 
-pub in_memory : {T : Type 0} (read : List ℕ → ReadAs T) (setup : T → Script)
+pub in_memory : {T : Type 0} (read : List ℕ → ReadAs T) (leaves : T → Serving → Type 0)
     (right : Option Serving → T → List ℕ → Type 0) (end : End) (kept : Option Serving) (from from_now : SourceView)
-    (to to_now : SinkView) → RefusesLong read → EndsInMemory read setup right end kept from from_now to to_now
+    (to to_now : SinkView) → RefusesLong read → EndsInMemory read leaves right end kept from from_now to to_now
     → from_now.faults ≡ from.faults → to_now.faults ≡ to.faults
     → CompletesSource read IsWhole (status_of end) from.left
-in_memory read setup right (Ok answered) kept from from_now to to_now long e s k had is =
+in_memory read leaves right (Ok answered) kept from from_now to to_now long e s k had is =
     answered_for read (RightInMemory right kept) IsWhole answered e.wrote.text from from_now long
     (λ r. memory_status right kept r answered e.wrote.text) e.wrote.is had is
-in_memory read setup right (Err SourceFailed) kept from from_now to to_now long e s k had is =
+in_memory read leaves right (Err SourceFailed) kept from from_now to to_now long e s k had is =
     absurd (let rose : from.faults < from_now.faults = e.source in omega (arith, rose, s))
-in_memory read setup right (Err SinkFailed) kept from from_now to to_now long e s k had is =
+in_memory read leaves right (Err SinkFailed) kept from from_now to to_now long e s k had is =
     absurd (let rose : to.faults < to_now.faults = e.sink in omega (arith, rose, k))
-in_memory read setup right (Err OutOfMemory) kept from from_now to to_now long e s k had is = inr refl
-in_memory read setup right (Err DialFailed) kept from from_now to to_now long e s k had is = absurd e.left
+in_memory read leaves right (Err OutOfMemory) kept from from_now to to_now long e s k had is = inr refl
+in_memory read leaves right (Err DialFailed) kept from from_now to to_now long e s k had is = absurd e.left
 
 -- ---- over a link
 

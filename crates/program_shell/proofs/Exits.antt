@@ -5,7 +5,6 @@ use Rattle.ssh_encoding.specs.declared.out_of_memory.OutOfMemory.{OutOfMemory as
 use Rattle.sftp_link.specs.Told.{IfLogged, ReadUpTo}
 use Rattle.sftp_link.specs.Views.{DialView, LastLink, SinkView, SourceView}
 use Rattle.sftp_map_server.specs.Serving.{Serving}
-use Rattle.script_grammar.specs.declared.script.Script.{Script}
 use Rattle.program_shell.specs.declared.ending.Answered.{Answered}
 use Rattle.program_shell.specs.declared.ending.Answered.TheVariants.{Done, Stopped, Refused}
 use Rattle.program_shell.specs.declared.ending.ProgramFailure.{ProgramFailure}
@@ -18,7 +17,6 @@ use Rattle.program_shell.specs.Ended.{
   EndsInMemory,
   EndsOverLink,
   GaveValue,
-  IsServerOf,
   KeptInMemory,
   IsOnlyAnswer,
   ReadAs,
@@ -52,58 +50,58 @@ each_kept P Q (Some server) f h = f server h
 -- ---- over a server in memory
 
 -- a server of a value that a source gave
-abbrev FromSource : {T : Type 0} → (List ℕ → ReadAs T) → (T → Script) → SourceView → SourceView → Serving → Type 0
-FromSource {T = T} read setup from now server =
-    (value : T) × GaveValue read value from now × IsServerOf (setup value) server
+abbrev FromSource : {T : Type 0} → (List ℕ → ReadAs T) → (T → Serving → Type 0) → SourceView → SourceView → Serving → Type 0
+FromSource {T = T} read leaves from now server =
+    (value : T) × GaveValue read value from now × leaves value server
 
 -- a server that is kept for the bytes is one of a value that the source gave
-kept_from : {T : Type 0} (read : List ℕ → ReadAs T) (setup : T → Script)
+kept_from : {T : Type 0} (read : List ℕ → ReadAs T) (leaves : T → Serving → Type 0)
     (right : Option Serving → T → List ℕ → Type 0) (bytes : List ℕ) (r : Result Printed Starved)
     (kept : Option Serving) (from now : SourceView) → Read bytes from now
-    → RepliesInMemory read setup right bytes r kept → IfSome kept (FromSource read setup from now)
-kept_from {T = T} read setup right bytes r kept from now t h =
-    each_kept (λ server. (value : T) × (read bytes ≡ Ok value) × IsServerOf (setup value) server)
-    (FromSource read setup from now) kept
+    → RepliesInMemory read leaves right bytes r kept → IfSome kept (FromSource read leaves from now)
+kept_from {T = T} read leaves right bytes r kept from now t h =
+    each_kept (λ server. (value : T) × (read bytes ≡ Ok value) × leaves value server)
+    (FromSource read leaves from now) kept
     (λ server v. (v.0, gave_value read bytes v.0 from now h.long v.1 t, v.2)) h.left
 
 -- the source was not read
-pub memory_unread : {T : Type 0} (read : List ℕ → ReadAs T) (setup : T → Script)
+pub memory_unread : {T : Type 0} (read : List ℕ → ReadAs T) (leaves : T → Serving → Type 0)
     (right : Option Serving → T → List ℕ → Type 0) (why : ProgramFailure) (kept : Option Serving)
     (from now : SourceView)
     (to : SinkView) → GivesBytes (Err why) from now → kept ≡ None
-    → EndsInMemory read setup right (Err why) kept from now to to
-memory_unread read setup right SourceFailed kept from now to g none =
+    → EndsInMemory read leaves right (Err why) kept from now to to
+memory_unread read leaves right SourceFailed kept from now to g none =
     record { wrote = nothing_new to.written; left = none; source = g.cause; sink = refl }
-memory_unread read setup right SinkFailed kept from now to g none = absurd (g.only.0 refl)
-memory_unread read setup right OutOfMemory kept from now to g none = record {
+memory_unread read leaves right SinkFailed kept from now to g none = absurd (g.only.0 refl)
+memory_unread read leaves right OutOfMemory kept from now to g none = record {
   wrote = inl (nothing_new to.written);
-  left = none_kept (FromSource read setup from now) kept none;
+  left = none_kept (FromSource read leaves from now) kept none;
   source = g.cause;
   sink = refl;
 }
-memory_unread read setup right DialFailed kept from now to g none = absurd (g.only.1 refl)
+memory_unread read leaves right DialFailed kept from now to g none = absurd (g.only.1 refl)
 
 -- there was no memory for the answer
-pub memory_starved : {T : Type 0} (read : List ℕ → ReadAs T) (setup : T → Script)
+pub memory_starved : {T : Type 0} (read : List ℕ → ReadAs T) (leaves : T → Serving → Type 0)
     (right : Option Serving → T → List ℕ → Type 0) (bytes : List ℕ) (e : Starved) (kept : Option Serving)
     (from now : SourceView) (to : SinkView) → Read bytes from now → now.faults ≡ from.faults
-    → RepliesInMemory read setup right bytes (Err e) kept
-    → EndsInMemory read setup right (Err OutOfMemory) kept from now to to
-memory_starved read setup right bytes e kept from now to t same r = record {
+    → RepliesInMemory read leaves right bytes (Err e) kept
+    → EndsInMemory read leaves right (Err OutOfMemory) kept from now to to
+memory_starved read leaves right bytes e kept from now to t same r = record {
   wrote = inl (nothing_new to.written);
-  left = kept_from read setup right bytes (Err e) kept from now t r;
+  left = kept_from read leaves right bytes (Err e) kept from now t r;
   source = same;
   sink = refl;
 }
 
 -- the answer was to be written
-pub memory_answered : {T : Type 0} (read : List ℕ → ReadAs T) (setup : T → Script)
+pub memory_answered : {T : Type 0} (read : List ℕ → ReadAs T) (leaves : T → Serving → Type 0)
     (right : Option Serving → T → List ℕ → Type 0) (bytes text : List ℕ) (reply : Printed) (end : End)
     (kept : Option Serving) (from now : SourceView) (to to_now : SinkView) → Read bytes from now
-    → now.faults ≡ from.faults → RepliesInMemory read setup right bytes (Ok reply) kept → text ≡ reply.text.items
+    → now.faults ≡ from.faults → RepliesInMemory read leaves right bytes (Ok reply) kept → text ≡ reply.text.items
     → EndsAtSink (IsOnlyAnswer reply.answered text) end to to_now
-    → EndsInMemory read setup right end kept from now to to_now
-memory_answered read setup right bytes text reply end kept from now to to_now t same r is w =
+    → EndsInMemory read leaves right end kept from now to to_now
+memory_answered read leaves right bytes text reply end kept from now to to_now t same r is w =
     let answered = reply.answered in
     let whole = AnswersSource read (RightInMemory right kept) from now in
     let all : whole answered text = record {
@@ -113,8 +111,8 @@ memory_answered read setup right bytes text reply end kept from now to to_now t 
     } in
     record {
       wrote = wrote_as (IsOnlyAnswer answered text) whole (just whole answered text all) end to to_now w.wrote;
-      left = at_sink (λ why. KeptInMemory read setup why kept from now) (IsOnlyAnswer answered text) end to to_now w tt
-          (kept_from read setup right bytes (Ok reply) kept from now t r);
+      left = at_sink (λ why. KeptInMemory read leaves why kept from now) (IsOnlyAnswer answered text) end to to_now w tt
+          (kept_from read leaves right bytes (Ok reply) kept from now t r);
       source = source_stays (IsOnlyAnswer answered text) end to to_now from.faults now.faults w same;
       sink = w.cause;
     }

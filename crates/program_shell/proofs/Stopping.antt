@@ -1,4 +1,4 @@
--- Runs of lanes that stop: over a link whose log was empty, and, only for want of memory, over a server in memory.
+-- Runs of lanes that stop: over a link whose log was empty, and, only if an allocation fails, over a server in memory.
 use Rattle.std.proofs.Common.{◌≡◌, ℕ, Bool, true, List, [], refl, ap, sym, subst}
 use Rattle.std.specs.Prelude.{Some, Result, Ok, Err, IfOk, reverse}
 use Rattle.ssh_encoding.specs.declared.out_of_memory.OutOfMemory.{OutOfMemory}
@@ -77,10 +77,17 @@ pub begins_well : (first : Server) → IsUnopened first → IsWellFormed first.s
 begins_well first u = subst (λ (x : Server). IsWellFormed x.state.machine.tree) (sym u.is)
     (first_well_formed u.files u.dirs u.may)
 
--- the error is want of memory
+-- The error is that of an allocation.
 pub only_for_memory : (given : SessionInputs) (old now : Serving) (e : Error) → are_ok given.lanes ≡ true
     → IsUnopened old.first → old.log ≡ [] → now.first ≡ old.first → IsServing now.first now.now now.log now.ended
     → StopsForMemory given (server_view old) (server_view now) e → e ≡ error.OutOfMemory
 only_for_memory given old now e ok new none same serving stops =
     stops now.log (ap (λ (l : List Piece). Some l) none) refl
     (server_serves given now ok (subst IsUnopened (sym same) new) serving) refl
+
+-- The end of a run over a new server that stopped because an allocation failed.
+pub stops_new : (such : Error → List Piece → List Piece → Type 0)
+    (before log : List Piece) (e : Error) → before ≡ [] → e ≡ error.OutOfMemory
+    → IfLogged (such e) (Some before) (Some log) → such error.OutOfMemory [] log
+stops_new such before log e none is stops =
+    subst (λ (x : Error). such x [] log) is (from_empty (such e) before log none stops)

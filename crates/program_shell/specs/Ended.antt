@@ -159,20 +159,21 @@ RightInMemory right kept (Err why) Refused text = (text ≡ refusal_line why.0 w
 RightInMemory right kept read answered text = ⊥
 
 -- The server that is kept if there is no answer: none if the source failed. If an allocation failed, a kept server is
--- one of the value that the source returned.
-abbrev pub KeptInMemory : {T : Type 0} → (List ℕ → ReadAs T) → (T → Script) → ProgramFailure → Option Serving → SourceView
-    → SourceView → Type 0
-KeptInMemory read setup SourceFailed kept before now = kept ≡ None
-KeptInMemory {T = T} read setup OutOfMemory kept before now =
-    IfSome kept (λ server. (value : T) × GaveValue read value before now × IsServerOf (setup value) server)
-KeptInMemory read setup SinkFailed kept before now = Unit {0}
-KeptInMemory read setup DialFailed kept before now = ⊥
+-- one that the value which the source returned leaves.
+abbrev pub KeptInMemory : {T : Type 0} → (List ℕ → ReadAs T) → (T → Serving → Type 0) → ProgramFailure
+    → Option Serving → SourceView → SourceView → Type 0
+KeptInMemory read leaves SourceFailed kept before now = kept ≡ None
+KeptInMemory {T = T} read leaves OutOfMemory kept before now =
+    IfSome kept (λ server. (value : T) × GaveValue read value before now × leaves value server)
+KeptInMemory read leaves SinkFailed kept before now = Unit {0}
+KeptInMemory read leaves DialFailed kept before now = ⊥
 
-pub record EndsInMemory {T : Type 0} (read : List ℕ → ReadAs T) (setup : T → Script)
+-- A value is read, and run over a server in memory. `leaves` says what a run leaves of it, `right` which text is right.
+pub record EndsInMemory {T : Type 0} (read : List ℕ → ReadAs T) (leaves : T → Serving → Type 0)
     (right : Option Serving → T → List ℕ → Type 0) (end : End) (kept : Option Serving) (from from_now : SourceView)
     (to to_now : SinkView) : Type 0 where
   pub wrote : WroteAnswer (AnswersSource read (RightInMemory right kept) from from_now) end to to_now
-  pub left : IfErr end (λ why. KeptInMemory read setup why kept from from_now)
+  pub left : IfErr end (λ why. KeptInMemory read leaves why kept from from_now)
   pub source : SourceCause end from.faults from_now.faults
   pub sink : SinkCause end to.faults to_now.faults
 

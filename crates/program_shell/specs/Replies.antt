@@ -5,7 +5,6 @@ use Rattle.ssh_encoding.specs.declared.out_of_memory.OutOfMemory.{OutOfMemory}
 use Rattle.sftp_link.specs.Told.{IfLogged, ReadUpTo}
 use Rattle.sftp_link.specs.Views.{DialView, LastLink, SourceView}
 use Rattle.sftp_map_server.specs.Serving.{Serving}
-use Rattle.script_grammar.specs.declared.script.Script.{Script}
 use Rattle.program_shell.specs.declared.ending.Answered.{Answered}
 use Rattle.program_shell.specs.declared.ending.ProgramFailure.{ProgramFailure}
 use Rattle.program_shell.specs.declared.ending.ProgramFailure.TheVariants.{SourceFailed, SinkFailed, DialFailed}
@@ -14,7 +13,6 @@ use Rattle.program_shell.specs.Ended.{
   DialCause,
   DialledAt,
   DialsAfter,
-  IsServerOf,
   ReadAs,
   RefusesLong,
   RightInMemory,
@@ -30,11 +28,11 @@ pub record GivesBytes (result : Result (Vec ℕ Global) ProgramFailure) (before 
   pub only : IfErr result (λ e. (e ≢ SinkFailed) × (e ≢ DialFailed))
 
 -- The reply to bytes over a server in memory, which is kept if they read as a value.
-pub record RepliesInMemory {T : Type 0} (read : List ℕ → ReadAs T) (setup : T → Script)
+pub record RepliesInMemory {T : Type 0} (read : List ℕ → ReadAs T) (leaves : T → Serving → Type 0)
     (right : Option Serving → T → List ℕ → Type 0) (bytes : List ℕ) (result : Result Printed OutOfMemory)
     (kept : Option Serving) : Type 0 where
   pub ok : IfOk result (λ reply. RightInMemory right kept (read bytes) reply.answered reply.text.items)
-  pub left : IfSome kept (λ server. (value : T) × (read bytes ≡ Ok value) × IsServerOf (setup value) server)
+  pub left : IfSome kept (λ server. (value : T) × (read bytes ≡ Ok value) × leaves value server)
   pub long : RefusesLong read
 
 -- The reply to a value, over a link that was dialled once.

@@ -1,7 +1,7 @@
 //! Reads a value, runs it over a server in memory or refuses it, and writes the answer.
 ghost use Rattle.std.specs.Prelude.{◌≡◌, ◌<◌, ◌-◌, ◌^◌, None, IfOk, IfSome, IsSome};
 ghost use Rattle.script_grammar.specs.CanRun.{CanBegin};
-ghost use Rattle.program_shell.specs.Ended.{EndsInMemory, IsNewServer, IsServerOf};
+ghost use Rattle.program_shell.specs.Ended.{EndsInMemory, IsNewServer};
 ghost use Rattle.program_shell.specs.Replies.{RepliesInMemory};
 
 use crate::ending::{Answered, ProgramFailure};
@@ -49,7 +49,7 @@ fn text_kept<P: Program>(
     requires new { IsNewServer (P.setup value.now) server }
     ensures text { IfOk result (λ text. P.right program.now kept.new value.now text.items) }
     ensures kept { IsSome kept.new }
-    ensures left { IfSome kept.new (IsServerOf (P.setup value.now)) }
+    ensures left { IfSome kept.new (P.leaves program.now value.now) }
 {
     let mut server = server;
     let text = program.text_over(alloc, &mut server, value);
@@ -73,7 +73,7 @@ pub fn text_in_memory<P: Program>(
     requires can { P.can program.now value.now }
     requires none { kept.old ≡ None }
     ensures text { IfOk result (λ text. P.right program.now kept.new value.now text.items) }
-    ensures left { IfSome kept.new (IsServerOf (P.setup value.now)) }
+    ensures left { IfSome kept.new (P.leaves program.now value.now) }
 {
     let server = new_server_of(alloc, program.setup_of(value))?;
     text_kept(alloc, program, value, server, kept)
@@ -89,7 +89,7 @@ fn reply_in_memory<P: Program>(
 ) -> Result<Printed, OutOfMemory>
     requires may { P.may program.now }
     requires none { kept.old ≡ None }
-    ensures { RepliesInMemory (P.reads program.now) P.setup (P.right program.now) bytes.now result kept.new }
+    ensures { RepliesInMemory (P.reads program.now) (P.leaves program.now) (P.right program.now) bytes.now result kept.new }
 {
     match program.read(alloc, bytes) {
         Ok(value) => {
@@ -121,7 +121,7 @@ pub fn answer_in_memory<P: Program, S: Source, K: Sink>(
     requires source { (S.state source.old).faults < 2 ^ 64 - 1 }
     requires sink { (K.state sink.old).faults < 2 ^ 64 - 1 }
     requires none { kept.old ≡ None }
-    ensures { EndsInMemory (P.reads program.now) P.setup (P.right program.now) result kept.new
+    ensures { EndsInMemory (P.reads program.now) (P.leaves program.now) (P.right program.now) result kept.new
         (S.state source.old) (S.state source.new) (K.state sink.old) (K.state sink.new) }
 {
     let bytes = read_bytes(alloc, source)?;

@@ -36,6 +36,9 @@ pub trait Program {
     // The lines of setup of a value.
     ghost setup: { Self.Value → Setup };
 
+    // Holds of a server over which a value was run, whether or not the run succeeded.
+    ghost leaves: { Self → Self.Value → Serving → Type 0 };
+
     // Holds if a text is right for a value, over the server that is kept.
     ghost right: { Self → Option Serving → Self.Value → List ℕ → Type 0 };
 
@@ -73,7 +76,7 @@ pub trait Program {
         requires can { can self.now value.now }
         requires new { IsNewServer (setup value.now) server.old }
         ensures text { IfOk result (λ text. right self.now (Some server.new) value.now text.items) }
-        ensures first { server.new.first ≡ server.old.first };
+        ensures left { leaves self.now value.now server.new };
 }
 
 /// A program that also runs a value over any link.

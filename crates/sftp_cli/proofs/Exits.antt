@@ -6,19 +6,20 @@ use Rattle.sftp_map_server.specs.Serving.{Serving}
 use Rattle.script_grammar.specs.declared.script.Script.{Script}
 use Rattle.program_shell.specs.declared.ending.Answered.TheVariants.{Done}
 use Rattle.program_shell.specs.declared.ending.ProgramFailure.TheVariants.{OutOfMemory}
-use Rattle.program_shell.specs.Ended.{End, EndsAtSink, IsServerOf, IsOnlyAnswer}
+use Rattle.program_shell.specs.Ended.{End, EndsAtSink, IsOnlyAnswer}
 use Rattle.program_shell.specs.Texts.{answered_of, text_of}
 use Rattle.program_shell.proofs.Writing.{at_sink, nothing_new, right_at_sink}
 use Rattle.sftp_cli.specs.declared.bulk.Numbers.{Numbers}
 use Rattle.sftp_cli.specs.declared.printed.Form.TheVariants as form
 use Rattle.sftp_cli.specs.Ended.{EndsSummed, RightSummary}
+use Rattle.sftp_cli.specs.Left.{LeavesServer}
 use Rattle.sftp_cli.specs.Printed.{IsPrinted}
 use Rattle.sftp_cli.specs.Words.{AtPath, Bulk, InMemory, Text, asked_by, bulk_of, help_text, is_script, server_of}
 
 -- ---- a script that three numbers make
 
 pub summary_starved : (script : Script) (kept : Option Serving) (to : SinkView)
-    → IfSome kept (λ server. IsServerOf script server)
+    → IfSome kept (LeavesServer script)
     → EndsSummed script (Err OutOfMemory) kept to to
 summary_starved script kept to k =
     record {
@@ -28,17 +29,17 @@ summary_starved script kept to k =
 
 -- what is kept is a server of the script, under another name for it
 kept_as : (script made : Script) (kept : Option Serving) → made ≡ script
-    → IfSome kept (λ server. IsServerOf made server)
-    → IfSome kept (λ server. IsServerOf script server)
-kept_as script made kept is k = subst (λ (s : Script). IfSome kept (λ server. IsServerOf s server)) is k
+    → IfSome kept (LeavesServer made)
+    → IfSome kept (LeavesServer script)
+kept_as script made kept is k = subst (λ (s : Script). IfSome kept (LeavesServer s)) is k
 
 pub summary_unwritten : (script made : Script) (kept : Option Serving) (to : SinkView) → made ≡ script
-    → IfSome kept (λ server. IsServerOf made server) → EndsSummed script (Err OutOfMemory) kept to to
+    → IfSome kept (LeavesServer made) → EndsSummed script (Err OutOfMemory) kept to to
 summary_unwritten script made kept to is k = summary_starved script kept to (kept_as script made kept is k)
 
 pub summary_answered : (script made : Script) (kept : Option Serving) (text items : List ℕ) (end : End)
     (to to_now : SinkView) → made ≡ script → text ≡ items → IsPrinted form.Summary kept made items
-    → IfSome kept (λ server. IsServerOf made server) → EndsAtSink (IsOnlyAnswer Done text) end to to_now
+    → IfSome kept (LeavesServer made) → EndsAtSink (IsOnlyAnswer Done text) end to to_now
     → EndsSummed script end kept to to_now
 summary_answered script made kept text items end to to_now is same r k w =
     let right : RightSummary kept script Done text = (
@@ -49,7 +50,7 @@ summary_answered script made kept text items end to to_now is same r k w =
     let left = kept_as script made kept is k in
     record {
       writes = right_at_sink (RightSummary kept script) Done text end to to_now right w;
-      left = at_sink (λ why. IfSome kept (λ server. IsServerOf script server)) (IsOnlyAnswer Done text) end to to_now w
+      left = at_sink (λ why. IfSome kept (LeavesServer script)) (IsOnlyAnswer Done text) end to to_now w
           left left;
     }
 

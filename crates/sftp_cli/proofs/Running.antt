@@ -1,9 +1,10 @@
 -- A run of lanes over a server that nothing was sent to is served.
-use Rattle.std.proofs.Common.{◌≡◌, ℕ, true, List, [], refl, ap, sym, ◌∙◌, subst}
+use Rattle.std.proofs.Common.{◌≡◌, ℕ, true, List, [], refl, ap, sym, ◌∙◌, subst, inl, inr}
 use Rattle.std.specs.Prelude.{Option, Some, None, Result, Ok, Err, IfOk, Vec}
 use Rattle.std.specs.declared.alloc.Global.{Global}
 use Rattle.ssh_encoding.specs.declared.out_of_memory.OutOfMemory.{OutOfMemory}
 use Rattle.std.specs.Option.{unwrap_or}
+use Rattle.sftp_model.specs.declared.error.Error.TheVariants as error
 use Rattle.sftp_model.specs.declared.options.SftpOptions.{SftpOptions}
 use Rattle.sftp_model.specs.declared.reply.Reply.{Reply}
 use Rattle.plan_model.specs.declared.call.Lane.{Lane}
@@ -15,7 +16,9 @@ use Rattle.plan_model.specs.Lanes.{are_ok}
 use Rattle.session_model.specs.Settings.{version_reply_of, setting_of}
 use Rattle.session_model.specs.Shown.{ShowsExchange}
 use Rattle.sftp_cli.specs.declared.printed.Form.{Form}
+use Rattle.session_driver.specs.Logs.{EndsSession}
 use Rattle.session_driver.specs.Session.{SessionInputs, IsFixed}
+use Rattle.sftp_lanes.specs.Seen.{session_inputs}
 use Rattle.sftp_map_server.specs.Serving.{IsServing, Serving, version_reply}
 use Rattle.sftp_map_server.specs.Unopened.{IsUnopened}
 use Rattle.machine_laws.proofs.Whole.{version_is_told, run_is_served}
@@ -24,6 +27,7 @@ use Rattle.sftp_lanes.specs.ServesFiles.{ServesFiles}
 use Rattle.program_shell.specs.Ended.{IsServerOf}
 use Rattle.program_shell.proofs.Choices.{begins_run, begins_unfeigned}
 use Rattle.program_shell.proofs.Stopping.{begins_well, from_empty}
+use Rattle.sftp_cli.specs.Left.{LeavesServer}
 use Rattle.sftp_cli.specs.Printed.{IsPrinted, IsServedReport, report_text}
 
 -- a value in Some
@@ -85,4 +89,30 @@ is_printed form script lanes turns old now report (Ok text) l t can first same r
   run = subst (λ (x : List Turn). IsServedReport script.lanes script.options x now report) t
       (subst (λ (x : List Lane). IsServedReport x script.options turns now report) l run);
   is = is;
+}
+
+-- ---- the server that is left
+
+pub reported_leaves : (script : Script) (lanes : List Lane) (turns : List Turn) (old now : Serving) (report : Report)
+    → lanes ≡ script.lanes → turns ≡ script.turns → IsServerOf script old → now.first ≡ old.first
+    → IsServedReport lanes script.options turns now report → LeavesServer script now
+reported_leaves script lanes turns old now report l t first same run = record {
+  first = same ∙ first;
+  ran = inl (
+    report,
+    subst (λ (x : List Turn). IsServedReport script.lanes script.options x now report) t
+        (subst (λ (x : List Lane). IsServedReport x script.options turns now report) l run),
+  );
+}
+
+pub stopped_leaves : (script : Script) (lanes : List Lane) (turns : List Turn) (old now : Serving)
+    → lanes ≡ script.lanes → turns ≡ script.turns → IsServerOf script old → now.first ≡ old.first
+    → EndsSession (session_inputs lanes script.options) turns now.ended error.OutOfMemory [] now.log
+    → LeavesServer script now
+stopped_leaves script lanes turns old now l t first same stops = record {
+  first = same ∙ first;
+  ran = inr (subst (λ (x : List Turn). EndsSession (session_inputs script.lanes script.options) x now.ended
+      error.OutOfMemory [] now.log) t
+      (subst (λ (x : List Lane). EndsSession (session_inputs x script.options) turns now.ended error.OutOfMemory []
+      now.log) l stops));
 }

@@ -13,19 +13,19 @@ use Rattle.program_shell.specs.Ended.{
   EndsAtSink,
   EndsInMemory,
   EndsOverLink,
-  IsServerOf,
   IsOnlyAnswer,
   status_of,
 }
 use Rattle.program_shell.specs.Outside.{Outside}
 use Rattle.sftp_cli.specs.declared.printed.Form.TheVariants as form
 use Rattle.sftp_cli.specs.Dialled.{RunsOver}
+use Rattle.sftp_cli.specs.Left.{LeavesServer}
 use Rattle.sftp_cli.specs.Printed.{IsPrinted}
 use Rattle.sftp_cli.specs.Words.{Asked, InMemory, AtPath, Bulk, Text}
 
 -- A script from the source is run over a server of its own files in memory, and the text of the run is written.
 abbrev pub EndsScript : End → Option Serving → SourceView → SourceView → SinkView → SinkView → Type 0
-EndsScript = EndsInMemory script_of (λ script. script) (IsPrinted form.Whole)
+EndsScript = EndsInMemory script_of LeavesServer (IsPrinted form.Whole)
 
 -- A script from the source is run over a link to the server at a path, and the text of the run is written.
 abbrev pub EndsScriptAt : {History : Type 0} → (List ℕ → History → History) → List ℕ → End → Outside History
@@ -40,7 +40,7 @@ RightSummary kept script answered text = (answered ≡ Done) × IsPrinted form.S
 
 pub record EndsSummed (script : Script) (end : End) (kept : Option Serving) (before now : SinkView) : Type 0 where
   pub writes : EndsAtSink (RightSummary kept script) end before now
-  pub left : IfErr end (λ why. IfSome kept (λ server. IsServerOf script server))
+  pub left : IfErr end (λ why. IfSome kept (LeavesServer script))
 
 -- ---- All arguments
 

@@ -1,6 +1,7 @@
 pub mod Words
 pub mod Printed
 pub mod Dialled
+pub mod Left
 pub mod Ended
 pub mod Completed
 pub mod Bulk

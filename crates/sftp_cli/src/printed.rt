@@ -1,7 +1,10 @@
 //! Runs lanes over a server in memory, and makes the text of the run.
-ghost use Rattle.std.specs.Prelude.{◌≡◌, [], true, IfOk};
+ghost use Rattle.std.specs.Prelude.{◌≡◌, [], true, IfErr, IfOk};
+ghost use Rattle.sftp_model.specs.declared.error.Error.TheVariants as error;
 ghost use Rattle.machine_model.specs.Listing.{file_at};
 ghost use Rattle.plan_model.specs.Lanes.{are_ok};
+ghost use Rattle.session_driver.specs.Logs.{EndsSession};
+ghost use Rattle.sftp_lanes.specs.Seen.{session_inputs};
 ghost use Rattle.sftp_map_server.specs.Unopened.{IsUnopened};
 ghost use Rattle.sftp_cli.specs.declared.printed.Form.TheVariants as form;
 ghost use Rattle.sftp_cli.specs.Printed.{IsServedReport, bytes_left, file_len_of, report_text};
@@ -40,6 +43,7 @@ pub(crate) fn served_run(
     requires unopened { IsUnopened server.old.first }
     requires quiet { server.old.log ≡ [] }
     ensures run { IfOk result (λ report. IsServedReport lanes.now options.now turns.now server.new report) }
+    ensures stops { IfErr result (λ e. EndsSession (session_inputs lanes.now options.now) turns.now server.new.ended error.OutOfMemory [] server.new.log) }
     ensures first { server.new.first ≡ server.old.first }
 {
     let result = run_lanes(alloc, server, lanes, turns, options);

@@ -2,6 +2,7 @@
 ghost use Rattle.script_grammar.specs.CanRun.{CanRun};
 ghost use Rattle.script_grammar.specs.Scripts.{script_of};
 ghost use Rattle.sftp_cli.specs.Dialled.{RunsOver};
+ghost use Rattle.sftp_cli.specs.Left.{LeavesServer};
 ghost use Rattle.sftp_cli.specs.Printed.{IsPrinted};
 
 use crate::printed::{Form, report_text, served_run};
@@ -24,6 +25,8 @@ impl Program for Form {
     ghost can = { λ form. CanRun };
 
     ghost setup = { λ script. script };
+
+    ghost leaves = { λ form. LeavesServer };
 
     ghost right = { IsPrinted };
 

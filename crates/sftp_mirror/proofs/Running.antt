@@ -1,9 +1,10 @@
 -- Files that are copied over a server that nothing was sent to: the run is served.
-use Rattle.std.proofs.Common.{◌≡◌, ℕ, List, [], refl, ap, sym, ◌∙◌, subst}
+use Rattle.std.proofs.Common.{◌≡◌, ℕ, List, [], refl, ap, sym, ◌∙◌, subst, inl, inr}
 use Rattle.std.specs.Prelude.{Option, Some, None, Result, Ok, Err, IfOk, Vec}
 use Rattle.std.specs.declared.alloc.Global.{Global}
 use Rattle.ssh_encoding.specs.declared.out_of_memory.OutOfMemory.{OutOfMemory}
 use Rattle.std.specs.Option.{unwrap_or}
+use Rattle.sftp_model.specs.declared.error.Error.TheVariants as error
 use Rattle.sftp_model.specs.declared.options.SftpOptions.{SftpOptions}
 use Rattle.sftp_model.specs.declared.outcome.Outcome.{Outcome}
 use Rattle.sftp_model.specs.declared.reply.Reply.{Reply}
@@ -11,7 +12,9 @@ use Rattle.plan_model.specs.declared.call.Lane.{Lane}
 use Rattle.session_model.specs.declared.turn.Turn.{Turn}
 use Rattle.session_model.specs.Settings.{version_reply_of, setting_of}
 use Rattle.session_model.specs.Shown.{ShowsExchange}
+use Rattle.session_driver.specs.Logs.{EndsSession}
 use Rattle.session_driver.specs.Session.{SessionInputs, IsFixed}
+use Rattle.sftp_lanes.specs.Seen.{session_inputs}
 use Rattle.sftp_map_server.specs.Serving.{IsServing, Serving, version_reply}
 use Rattle.sftp_map_server.specs.Unopened.{IsUnopened}
 use Rattle.machine_laws.proofs.Whole.{version_is_told, run_is_served}
@@ -26,6 +29,7 @@ use Rattle.sftp_mirror.specs.Copies.{IsCopyReport, MayCopy}
 use Rattle.program_shell.specs.Ended.{IsServerOf}
 use Rattle.program_shell.proofs.Choices.{begins_unfeigned}
 use Rattle.program_shell.proofs.Stopping.{begins_well, from_empty}
+use Rattle.sftp_mirror.specs.Left.{LeavesServer}
 use Rattle.sftp_mirror.specs.Printed.{IsCopied, IsServedCopy, copy_text}
 
 -- a value in Some
@@ -79,4 +83,25 @@ is_copied schedule list jobs old now report (Ok text) j can first same run is = 
   report = report;
   run = subst (λ (x : List Job). IsServedCopy schedule x list.script.options now report) j run;
   is = is ∙ ap (λ (x : List Job). copy_text x report.verdicts now.now.state.machine.tree) j;
+}
+
+-- ---- the server that is left
+
+pub reported_leaves : (schedule : Schedule) (list : CopyList) (jobs : List Job) (old now : Serving)
+    (report : CopyReport) → jobs ≡ list.jobs → IsServerOf list.script old → now.first ≡ old.first
+    → IsServedCopy schedule jobs list.script.options now report → LeavesServer schedule list now
+reported_leaves schedule list jobs old now report j first same run = record {
+  first = same ∙ first;
+  ran = inl (report, subst (λ (x : List Job). IsServedCopy schedule x list.script.options now report) j run);
+}
+
+pub stopped_leaves : (schedule : Schedule) (list : CopyList) (jobs : List Job) (old now : Serving) → jobs ≡ list.jobs
+    → IsServerOf list.script old → now.first ≡ old.first
+    → EndsSession (session_inputs (lanes_of schedule.width jobs) list.script.options)
+    (turns_of schedule.width schedule.rounds jobs) now.ended error.OutOfMemory [] now.log
+    → LeavesServer schedule list now
+stopped_leaves schedule list jobs old now j first same stops = record {
+  first = same ∙ first;
+  ran = inr (subst (λ (x : List Job). EndsSession (session_inputs (lanes_of schedule.width x) list.script.options)
+      (turns_of schedule.width schedule.rounds x) now.ended error.OutOfMemory [] now.log) j stops);
 }

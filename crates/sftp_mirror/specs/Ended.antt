@@ -14,6 +14,7 @@ use Rattle.program_shell.specs.Ended.{
 use Rattle.program_shell.specs.Outside.{Outside}
 use Rattle.sftp_mirror.specs.declared.schedule.Schedule.{Schedule}
 use Rattle.sftp_mirror.specs.Dialled.{RunsOver}
+use Rattle.sftp_mirror.specs.Left.{LeavesServer}
 use Rattle.sftp_mirror.specs.Lists.{list_of}
 use Rattle.sftp_mirror.specs.Printed.{IsCopied}
 use Rattle.sftp_mirror.specs.Words.{Asked, AtPath, InMemory, Text}
@@ -21,7 +22,7 @@ use Rattle.sftp_mirror.specs.Words.{Asked, AtPath, InMemory, Text}
 -- The files of a list from the source are copied over a server of its own in memory, and the text of the copies is
 -- written.
 abbrev pub EndsList : Schedule → End → Option Serving → SourceView → SourceView → SinkView → SinkView → Type 0
-EndsList schedule = EndsInMemory list_of (λ list. list.script) (IsCopied schedule)
+EndsList schedule = EndsInMemory list_of (LeavesServer schedule) (IsCopied schedule)
 
 -- The files of a list from the source are copied over a link to the server at a path, and the text of the copies is
 -- written.

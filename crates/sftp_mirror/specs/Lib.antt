@@ -4,5 +4,6 @@ pub mod Copies
 pub mod Words
 pub mod Printed
 pub mod Dialled
+pub mod Left
 pub mod Ended
 pub mod Completed

@@ -1,5 +1,9 @@
 //! Copies the files of a list over a server in memory, and makes the text of the results.
-ghost use Rattle.std.specs.Prelude.{◌≡◌, [], IfOk};
+ghost use Rattle.std.specs.Prelude.{◌≡◌, [], IfErr, IfOk};
+ghost use Rattle.sftp_model.specs.declared.error.Error.TheVariants as error;
+ghost use Rattle.session_driver.specs.Logs.{EndsSession};
+ghost use Rattle.sftp_lanes.specs.Seen.{session_inputs};
+ghost use Rattle.mirror_jobs.specs.JobLanes.{lanes_of, turns_of};
 ghost use Rattle.sftp_map_server.specs.Unopened.{IsUnopened};
 ghost use Rattle.sftp_mirror.specs.Copies.{MayCopy};
 ghost use Rattle.sftp_mirror.specs.Printed.{IsServedCopy, copy_text};
@@ -26,6 +30,8 @@ pub(crate) fn copy_served(
     requires unopened { IsUnopened server.old.first }
     requires quiet { server.old.log ≡ [] }
     ensures run { IfOk result (λ report. IsServedCopy schedule jobs.now options.now server.new report) }
+    ensures stops { IfErr result (λ e. EndsSession (session_inputs (lanes_of schedule.width jobs.now) options.now)
+        (turns_of schedule.width schedule.rounds jobs.now) server.new.ended error.OutOfMemory [] server.new.log) }
     ensures first { server.new.first ≡ server.old.first }
 {
     let result = copy_jobs(

@@ -1,6 +1,7 @@
 //! Copies the files of a list by a schedule, over a server in memory or over a link, and returns the text.
 ghost use Rattle.sftp_mirror.specs.CanCopy.{CanCopy};
 ghost use Rattle.sftp_mirror.specs.Dialled.{RunsOver};
+ghost use Rattle.sftp_mirror.specs.Left.{LeavesServer};
 ghost use Rattle.sftp_mirror.specs.Lists.{list_of};
 ghost use Rattle.sftp_mirror.specs.Printed.{IsCopied};
 ghost use Rattle.sftp_mirror.specs.Words.{IsSchedule};
@@ -27,6 +28,8 @@ impl Program for Schedule {
     ghost can = { λ schedule. CanCopy };
 
     ghost setup = { λ list. list.script };
+
+    ghost leaves = { LeavesServer };
 
     ghost right = { IsCopied };
 

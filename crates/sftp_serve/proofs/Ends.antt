@@ -1,6 +1,6 @@
 -- What a server ended with, both ways.
 use Rattle.std.proofs.Common.{◌≡◌, ◌<◌, ℕ, Bool, true, List, [], ◌++◌, Option, None, Some, refl, sym, subst, arith, inl, inr}
-use Rattle.std.specs.Prelude.{◌⊎◌, IfOk, Result, Ok, Err}
+use Rattle.std.specs.Prelude.{◌≢◌, ◌⊎◌, IfOk, Result, Ok, Err}
 use Rattle.sftp_link.specs.declared.piece.Piece.{Piece}
 use Rattle.sftp_link.specs.Dialled.{IsEmptyLog}
 use Rattle.sftp_link.specs.Told.{IfLogged}
@@ -102,16 +102,18 @@ rose_not a b lt same = absurd (omega (arith, lt, same))
 
 pub serves_stream : {Service : Type 0} (first : ServedState) (status : ℕ) (before now : LinkView Service)
     → IsStatus status → MayServe before → IfLogged (HaltsAll first status now.ended) before.log now.log
-    → (status ≡ 0 → now.ended ≡ true) → (status ≡ 3 → before.faults < now.faults) → ServesStream first status before now
-serves_stream first status before now is may halts ended fault = record {
+    → (status ≡ 0 → now.ended ≡ true) → (status ≡ 3 → before.faults < now.faults)
+    → (status ≢ 3 → now.faults ≡ before.faults) → ServesStream first status before now
+serves_stream first status before now is may halts ended fault unfailed = record {
   ends = told_ends first status now.ended before.log now.log may.unused halts;
   exactly = told_exactly first status (now.faults ≡ before.faults) now.ended before.log now.log is
       (λ three same. rose_not before.faults now.faults (fault three) same) may.unused halts;
   ended = ended;
   fault = fault;
+  unfailed = unfailed;
 }
 
--- nothing was done, for want of memory
+-- Nothing was done, since an allocation failed.
 starved : (first : ServedState) (ended : Bool) (log : List Piece) → log ≡ [] → ShowsStop first 5 ended log
 starved first ended log e = subst (ShowsStop first 5 ended) (sym e)
     (halted stop.OutOfMemory first first 0 ended [] (omega arith)
@@ -126,7 +128,7 @@ pub starved_serves : {Service : Type 0} (first : ServedState) (link : LinkView S
     → ServesStream first 5 link link
 starved_serves first link may =
     serves_stream first 5 link link (inr (inr (inr (inl refl)))) may (told_starved first link.ended link.log may.unused)
-    (λ zero. absurd cc) (λ three. absurd cc)
+    (λ zero. absurd cc) (λ three. absurd cc) (λ other. refl)
 
 -- what holds of each value holds of the one that is there
 pub any_ok : {T E : Type 0} (P : T → Type 0) (r : Result T E) → ((x : T) → P x) → IfOk r P

@@ -1,3 +1,4 @@
+pub mod Details
 pub mod Stream
 pub mod Logs
 pub mod StreamRows

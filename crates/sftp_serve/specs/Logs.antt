@@ -1,6 +1,6 @@
 -- believed, except MayServe
 -- The log of a link on which a stream is served, with its newest piece first.
-use Rattle.std.specs.Prelude.{◌≡◌, ◌⊎◌, ◌<◌, ℕ, ◌-◌, ◌^◌, Bool, true, List, [], ◌∷◌, ◌++◌}
+use Rattle.std.specs.Prelude.{◌≡◌, ◌≢◌, ◌⊎◌, ◌<◌, ℕ, ◌-◌, ◌^◌, Bool, true, List, [], ◌∷◌, ◌++◌}
 use Rattle.sftp_link.specs.declared.piece.Piece.{Piece}
 use Rattle.sftp_link.specs.declared.piece.Piece.TheVariants.{Sent, Got}
 use Rattle.sftp_link.specs.Dialled.{IsEmptyLog}
@@ -73,8 +73,8 @@ pub record MayServe {Service : Type 0} (link : LinkView Service) : Type 0 where
   pub faults : link.faults < 2 ^ 64 - 1
   pub unused : IsEmptyLog link.log
 
--- The facts about a call, by its status. With 0 the stream's end was met, and with 3 the link failed; these two also
--- hold for links that record no log.
+-- The facts about a call, by its status. With 0 the stream's end was met, with 3 the link failed, and with any other
+-- it did not; these three also hold for links that record no log.
 pub record ServesStream {Service : Type 0} (first : ServedState) (status : ℕ) (before now : LinkView Service) :
     Type 0 where
   pub ends : IfLogged (λ old new. EndsStream first status now.ended new) before.log now.log
@@ -82,3 +82,4 @@ pub record ServesStream {Service : Type 0} (first : ServedState) (status : ℕ) 
       before.log now.log
   pub ended : status ≡ 0 → now.ended ≡ true
   pub fault : status ≡ 3 → before.faults < now.faults
+  pub unfailed : status ≢ 3 → now.faults ≡ before.faults

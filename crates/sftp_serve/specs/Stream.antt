@@ -47,17 +47,19 @@ use Rattle.sftp_model.specs.RequestReadings.{request_at}
 use Rattle.sftp_wire.specs.FrameReader.{fault_of, missing_bytes}
 use Rattle.machine_answers.specs.MachineState.{MachineState, answer}
 use Rattle.sftp_map_server.specs.Serving.{AllShort, id_of, is_hello, version_reply}
+use Rattle.sftp_serve.specs.Details.{shown_reply}
 
 -- ---- One frame
 
--- A flag that is true if the hello came, and the machine.
+-- A flag that is true if replies are full, one that is true if the hello came, and the machine.
 pub record ServedState : Type 0 where
+  pub long : Bool
   pub greeted : Bool
   pub machine : MachineState
 
 -- The state before the first frame.
-abbrev pub first_state : MachineState → ServedState
-first_state machine = record { greeted = false; machine = machine }
+abbrev pub first_state : Bool → MachineState → ServedState
+first_state long machine = record { long = long; greeted = false; machine = machine }
 
 -- No request is refused, and a DATA has at most the number of bytes that a frame can carry.
 abbrev pub every_choice : Choice
@@ -70,13 +72,16 @@ is_welcome other = false
 
 -- VERSION is sent, and the hello came.
 abbrev pub version_answer : ServedState → List ℕ × ServedState
-version_answer s = (reply_frame (version_reply s.machine.config) 0, record { greeted = true; machine = s.machine })
+version_answer s = (
+  reply_frame (version_reply s.machine.config) 0,
+  record { long = s.long; greeted = true; machine = s.machine },
+)
 
 -- The machine's answer to a request, under the request's id.
 abbrev pub machine_answer : ServedState → Option ℕ → Request → List ℕ × ServedState
 machine_answer s id r = (
-  reply_frame (answer s.machine r every_choice).0 (id_of id),
-  record { greeted = s.greeted; machine = (answer s.machine r every_choice).1 },
+  reply_frame (shown_reply s.long (answer s.machine r every_choice).0) (id_of id),
+  record { long = s.long; greeted = s.greeted; machine = (answer s.machine r every_choice).1 },
 )
 
 -- The answer to an extension that the protocol's profile doesn't have.

@@ -1,5 +1,5 @@
 -- Worked examples of streams: frames and their answers, and near misses beside them.
-use Rattle.std.specs.Prelude.{◌≡◌, ℕ, List, [], ◌∷◌, ◌++◌, codes, Option, Some, None, is_some, true, refl}
+use Rattle.std.specs.Prelude.{false, ◌≡◌, ℕ, List, [], ◌∷◌, ◌++◌, codes, Option, Some, None, is_some, true, refl}
 use Rattle.std.specs.Option.{option_map}
 use Rattle.ssh_encoding.specs.Reading.{byte_at, prefix_at}
 use Rattle.ssh_encoding.specs.Writing.{string, uint32, uint64}
@@ -24,7 +24,7 @@ use Rattle.sftp_serve.specs.Stream.{ServedState, answers, first_state, answer_to
 
 -- The state before the first frame, with these files, these extensions and no limits.
 abbrev server_with : List FirstFile → ℕ → ServedState
-server_with files bits = first_state (record {
+server_with files bits = first_state false (record {
   tree = first_tree files [];
   config =
       record { extensions = record { 0 = bits }; limits = None; cut = 0 };

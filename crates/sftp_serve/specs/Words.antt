@@ -6,6 +6,9 @@ use Rattle.std.specs.Prelude.{
   ℕ,
   ◌-◌,
   ◌==◌,
+  Bool,
+  false,
+  drop,
   List,
   [],
   ◌∷◌,
@@ -27,11 +30,20 @@ use Rattle.script_grammar.specs.ServerWords.{server_of}
 use Rattle.machine_model.specs.FirstTree.{first_tree}
 use Rattle.sftp_serve.specs.Stream.{ServedState, first_state}
 
--- ---- The first content of a server
+-- ---- The arguments of a server
+
+-- True if the first argument is `--long`.
+abbrev pub is_long : List (List ℕ) → Bool
+is_long [] = false
+is_long (word ∷ words) = bytes_eq word (codes "--long")
+
+-- The arguments that are lines: those after `--long`, or all.
+abbrev pub server_lines : List (List ℕ) → List (List ℕ)
+server_lines words = if is_long words then drop 1 words else words
 
 -- The files, directories and offers of a script, before the first frame.
-abbrev pub script_state : Script → ServedState
-script_state script = first_state (record {
+abbrev pub script_state : Bool → Script → ServedState
+script_state long script = first_state long (record {
   tree = first_tree script.files script.dirs;
   config = script.server;
   grants = 0;
@@ -50,7 +62,7 @@ pub record IsRefusedWord (words : List (List ℕ)) (number : ℕ) (why : Reason)
 -- The text of `--help`.
 unfoldable pub help_text : List ℕ
 help_text =
-    codes "Usage: sftp_serve [WORD ..] | --help | --version\n"
+    codes "Usage: sftp_serve [--long] [WORD ..] | --help | --version\n"
     ++ codes "\n"
     ++ codes "Serves files and directories in memory by SFTP version 3 on standard input and output,\n"
     ++ codes "to one client and until its stream ends. Each WORD is one of\n"
@@ -61,10 +73,13 @@ help_text =
     ++ codes "  'server limits P R W H'   the limits that limits@openssh.com reports: the most bytes of\n"
     ++ codes "                            a packet, of a READ and of a WRITE, and the most handles\n"
     ++ codes "\n"
+    ++ codes "With --long files have all attributes, and the entries of listings have long names; modes,\n"
+    ++ codes "owners and times are always the same.\n"
+    ++ codes "\n"
     ++ codes "NAME of a file or a directory, and CONTENT, are hexadecimal, or - for no bytes. OpenSSH's\n"
     ++ codes "client can start the server itself:\n"
     ++ codes "\n"
-    ++ codes "  sftp -D \"sftp_serve 'dir 64' 'server ext posix-rename'\"\n"
+    ++ codes "  sftp -D \"sftp_serve --long 'dir 64' 'server ext posix-rename'\"\n"
     ++ codes "\n"
     ++ codes "Exit status:\n"
     ++ codes "  0  the stream ended after a frame\n"

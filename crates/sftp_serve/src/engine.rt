@@ -1,5 +1,5 @@
 //! The loop that answers the frames that come over a link, one after another.
-ghost use Rattle.std.specs.Prelude.{◌≡◌, ◌<◌, ◌-◌, ◌^◌, ◌⊎◌, length, true, if◌then◌else◌};
+ghost use Rattle.std.specs.Prelude.{◌≡◌, ◌≢◌, ◌<◌, ◌-◌, ◌^◌, ◌⊎◌, length, true, if◌then◌else◌};
 ghost use Rattle.sftp_link.specs.Told.{IfLogged};
 ghost use Rattle.sftp_wire.specs.FrameReader.{nothing};
 ghost use Rattle.sftp_serve.specs.declared.stop.Stop.TheVariants as stop;
@@ -116,6 +116,7 @@ fn serve_frames<L: Link>(alloc: Global, link: &mut L, server: &mut Server) -> u8
     ensures log { IfLogged (HaltsAll server.old result (L.LinkState.state link.new).ended) (L.LinkState.state link.old).log (L.LinkState.state link.new).log }
     ensures ended { result ≡ 0 → (L.LinkState.state link.new).ended ≡ true }
     ensures fault { result ≡ 3 → (L.LinkState.state link.old).faults < (L.LinkState.state link.new).faults }
+    ensures unfailed { result ≢ 3 → (L.LinkState.state link.new).faults ≡ (L.LinkState.state link.old).faults }
     ensures status { (result ≡ 0) ⊎ (result ≡ 1) ⊎ (result ≡ 3) ⊎ (result ≡ 5) ⊎ (result ≡ 7) }
 {
     let mut reader = FrameReader::new(alloc);
@@ -130,11 +131,16 @@ fn serve_frames<L: Link>(alloc: Global, link: &mut L, server: &mut Server) -> u8
 
 /// Serves a machine on a link, and returns the exit status.
 #[tactic(auto, using(crate::proofs::Ends::serves_stream))]
-pub(crate) fn serve_machine<L: Link>(alloc: Global, machine: Machine, link: &mut L) -> u8
+pub(crate) fn serve_machine<L: Link>(
+    alloc: Global,
+    machine: Machine,
+    long: bool,
+    link: &mut L,
+) -> u8
     requires { MayServe (L.LinkState.state link.old) }
-    ensures serves { ServesStream (first_state machine) result (L.LinkState.state link.old) (L.LinkState.state link.new) }
+    ensures serves { ServesStream (first_state long machine) result (L.LinkState.state link.old) (L.LinkState.state link.new) }
     ensures status { (result ≡ 0) ⊎ (result ≡ 1) ⊎ (result ≡ 3) ⊎ (result ≡ 5) ⊎ (result ≡ 7) }
 {
-    let mut server = Server::new(alloc, machine);
+    let mut server = Server::new(alloc, machine, long);
     serve_frames(alloc, link, &mut server)
 }

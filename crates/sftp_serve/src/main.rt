@@ -2,6 +2,7 @@
 //! (draft-ietf-secsh-filexfer-02).
 #![tactic(auto)]
 
+mod details;
 mod engine;
 mod laws;
 mod serve;
@@ -46,13 +47,16 @@ fn main(rt: HostRuntime) -> ExitCode {
     };
     if let Some(cause) = words::cause_of(status) {
         let refused = if status == serve::WORDS {
-            words::refused_word(rt.alloc(), &words)
+            words::refused_word(rt.alloc(), words::server_lines(&words))
         } else {
             Ok(None)
         };
         // If standard error fails too, the message is lost.
         let _ = match refused {
-            Ok(Some((number, why))) => eprintln!(rt; "sftp_serve: word {number} {why}"),
+            Ok(Some((line, why))) => {
+                let number = line + usize::from(words::is_long(&words));
+                eprintln!(rt; "sftp_serve: word {number} {why}")
+            }
             _ if unread == Some(serve::WORDS) => {
                 eprintln!(rt; "sftp_serve: an argument is not UTF-8 (try --help)")
             }

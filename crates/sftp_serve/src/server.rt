@@ -5,6 +5,7 @@ ghost use Rattle.sftp_model.specs.Numbers.{SSH_FX_OP_UNSUPPORTED};
 ghost use Rattle.sftp_map_server.specs.Serving.{id_of as id_by, is_hello as is_hello_by};
 ghost use Rattle.sftp_serve.specs.Stream.{IsSaid, machine_answer, every_choice, id_in as id_in_by, is_welcome as is_welcome_by, answer_to_frame, to_refused, to_request, unknown_id as unknown_id_by, unsupported_answer, version_answer};
 
+use crate::details::shown_frame;
 use machine_answers::Machine;
 use sftp_map_server::{frame_of, version};
 use sftp_model::numbers::{MAX_TRANSFER_LEN, SSH_FX_OP_UNSUPPORTED, SSH_FXP_EXTENDED};
@@ -15,11 +16,12 @@ use ssh_encoding::OutOfMemory;
 use std::alloc::Global;
 use std::marker::Model;
 
-/// A machine, and a flag that is true if the hello came.
+/// A machine, a flag that is true if replies have all attributes and long names, and one that is true if the hello came.
 #[derive(Drop)]
 pub(crate) struct Server {
     alloc: Global,
     machine: Machine,
+    long: bool,
     greeted: bool,
 }
 
@@ -28,7 +30,7 @@ impl Model for Server {
 
     ghost Value = { ServedState };
 
-    ghost view = { λ s. record { greeted = s.greeted; machine = s.machine } };
+    ghost view = { λ s. record { long = s.long; greeted = s.greeted; machine = s.machine } };
 }
 
 /// Returns the choice for each request: none is refused, and a DATA is cut to the length that a frame can carry.
@@ -110,12 +112,13 @@ fn unsupported(alloc: Global) -> Reply
 
 impl Server {
     /// Returns the state before the first frame.
-    pub(crate) fn new(alloc: Global, machine: Machine) -> Server
-        ensures { result ≡ record { greeted = false; machine = machine } }
+    pub(crate) fn new(alloc: Global, machine: Machine, long: bool) -> Server
+        ensures { result ≡ record { long = long; greeted = false; machine = machine } }
     {
         Server {
             alloc,
             machine,
+            long,
             greeted: false,
         }
     }
@@ -134,8 +137,10 @@ impl Server {
         requires { IsAfterHello request.now }
         ensures { IfOk result (λ frame. machine_answer self.old id request.now ≡ (frame.items, self.new)) }
     {
+        // For the contract: its files and directories are consistent.
+        let _count = self.machine.grant_count();
         let answered = self.machine.answer(request, every_choice())?;
-        let frame = frame_of(self.alloc, answered.reply(), id_of(id))?;
+        let frame = shown_frame(self.alloc, self.long, answered.reply(), id_of(id))?;
         self.machine.commit(answered)?;
         Ok(frame)
     }

@@ -3,7 +3,7 @@ ghost use Rattle.std.specs.Prelude.{◌≡◌, map, Err, IfOk, IsOk, MatchOption
 ghost use Rattle.std.specs.Option.{option_copied};
 ghost use Rattle.std.specs.String.{string_bytes};
 ghost use Rattle.script_grammar.specs.ServerWords.{server_of};
-ghost use Rattle.sftp_serve.specs.Words.{IsRefusedWord, cause_of, help_text, text_for, version_text};
+ghost use Rattle.sftp_serve.specs.Words.{IsRefusedWord, cause_of, help_text, is_long, server_lines, text_for, version_text};
 
 use script_grammar::{LineError, Reason, read_server_words};
 use ssh_encoding::OutOfMemory;
@@ -15,7 +15,7 @@ fn help_text() -> &'static str
     ensures { result.now ≡ help_text }
 {
     "\
-Usage: sftp_serve [WORD ..] | --help | --version
+Usage: sftp_serve [--long] [WORD ..] | --help | --version
 
 Serves files and directories in memory by SFTP version 3 on standard input and output,
 to one client and until its stream ends. Each WORD is one of
@@ -26,10 +26,13 @@ to one client and until its stream ends. Each WORD is one of
   'server limits P R W H'   the limits that limits@openssh.com reports: the most bytes of
                             a packet, of a READ and of a WRITE, and the most handles
 
+With --long files have all attributes, and the entries of listings have long names; modes,
+owners and times are always the same.
+
 NAME of a file or a directory, and CONTENT, are hexadecimal, or - for no bytes. OpenSSH's
 client can start the server itself:
 
-  sftp -D \"sftp_serve 'dir 64' 'server ext posix-rename'\"
+  sftp -D \"sftp_serve --long 'dir 64' 'server ext posix-rename'\"
 
 Exit status:
   0  the stream ended after a frame
@@ -65,6 +68,23 @@ pub(crate) fn text_for(words: &[String]) -> Option<&'static str>
         }
         _ => None,
     }
+}
+
+/// Returns true if the first argument is `--long`.
+pub(crate) fn is_long(words: &[String]) -> bool
+    ensures { result ≡ is_long (map string_bytes words.now) }
+{
+    match words {
+        [word, ..] => word.as_str() == "--long",
+        [] => false,
+    }
+}
+
+/// Returns the arguments that are lines: those after `--long`, or all.
+pub(crate) fn server_lines(words: &[String]) -> &[String]
+    ensures { map string_bytes result.now ≡ server_lines (map string_bytes words.now) }
+{
+    if is_long(words) { &words[1..] } else { words }
 }
 
 /// Returns the message on standard error for a status; `None` for 0.

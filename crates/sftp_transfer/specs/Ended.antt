@@ -1,6 +1,6 @@
 -- believed, except ended_by
 -- The effects of a run of the program on its environment, and its exit status.
-use Rattle.std.specs.Prelude.{◌≡◌, ◌&&◌, ℕ, Bool, true, false, List, [], ◌∷◌, codes, Option, Some, None, if◌then◌else◌}
+use Rattle.std.specs.Prelude.{◌≡◌, ◌&&◌, ◌||◌, ℕ, Bool, true, false, List, [], ◌∷◌, codes, Option, Some, None, if◌then◌else◌}
 use Rattle.std.specs.Str.{bytes_eq}
 use Rattle.transfer_args.specs.Words.{LinkWord, WorkWords, asked_by}
 use Rattle.sftp_transfer.specs.declared.ended.Reach.{Reach}
@@ -40,8 +40,8 @@ ended_by starved complete all_done =
 abbrev pub text_of : List (List ℕ) → Option Text
 text_of [] = None
 text_of (word ∷ []) =
-    if bytes_eq word (codes "--help") then Some text.Help
-    else if bytes_eq word (codes "--version") then Some text.Version
+    if bytes_eq word (codes "--help") || bytes_eq word (codes "-h") then Some text.Help
+    else if bytes_eq word (codes "--version") || bytes_eq word (codes "-V") then Some text.Version
     else None
 text_of (word ∷ another ∷ words) = None
 

@@ -68,15 +68,15 @@ pub(crate) fn ended_by(starved: bool, complete: bool, all_done: bool) -> Reach
     }
 }
 
-/// Returns the text that the single argument `--help` or `--version` asks for.
+/// Returns the text that the single argument `--help`, `-h`, `--version` or `-V` asks for.
 pub(crate) fn text_of(words: &[String]) -> Option<Text>
     ensures { result ≡ text_of (map string_bytes words.now) }
 {
     match words {
         [word] => {
-            if word.as_str() == "--help" {
+            if word.as_str() == "--help" || word.as_str() == "-h" {
                 Some(Text::Help)
-            } else if word.as_str() == "--version" {
+            } else if word.as_str() == "--version" || word.as_str() == "-V" {
                 Some(Text::Version)
             } else {
                 None

@@ -26,10 +26,13 @@ standard input and output are the connection. With ssh:
   --progress   report the progress on standard error
   --files N    copy N files at once, 1 to 256; the default is 32
   --window N   keep N requests in flight for each file, 1 to 1024; the default is 64
-  --limit N    keep at most N bytes in flight for all files together; the default is 16777216
+  --limit N    keep at most N bytes in flight for all files together, such as 64M; the default
+               is 16M
   --timeout N  give up after N seconds without any progress, 0 to 86400; the default is 60,
                and 0 is no limit
   -l           list types and sizes
+
+Options of one letter may share a word, as in -rp, and numbers may follow as in --files=8.
 
 If the target is a directory, or if there are several sources, each source is copied into
 the target. A file NAME is written as .NAME.part beside it, and gets its name once all its

@@ -1,5 +1,5 @@
 -- A view over a server that nothing was sent to: its session is served.
-use Rattle.std.proofs.Common.{◌≡◌, ◌≤◌, ℕ, suc, true, List, [], ◌∷◌, All, refl, ap, sym, ◌∙◌, subst, arith}
+use Rattle.std.proofs.Common.{◌≡◌, ◌≤◌, ℕ, suc, true, List, [], ◌∷◌, All, refl, ap, sym, ◌∙◌, subst, arith, inl, inr}
 use Rattle.std.specs.Prelude.{Option, Some, None, Result, Ok, Err, IfOk, Vec, nat_le}
 use Rattle.std.specs.declared.alloc.Global.{Global}
 use Rattle.std.specs.List.{list_all, sum_by}
@@ -8,16 +8,20 @@ use Rattle.std.proofs.lemmas.Bool.Decides.{nat_tests}
 use Rattle.ssh_encoding.specs.declared.out_of_memory.OutOfMemory.{OutOfMemory}
 use Rattle.sftp_model.specs.Fits.{FitsNumber}
 use Rattle.sftp_model.specs.declared.config.Choice.{Choice}
+use Rattle.sftp_model.specs.declared.error.Error.TheVariants as error
 use Rattle.sftp_model.specs.declared.options.SftpOptions.{SftpOptions}
 use Rattle.machine_model.specs.FitTrees.{IsFit}
 use Rattle.sftp_model.specs.Numbers.{SSH_FX_OK}
 use Rattle.machine_model.proofs.FirstFits.{first_fits}
+use Rattle.session_driver.specs.Logs.{EndsAs}
 use Rattle.session_model.specs.Calls.{Setting, calls_added_to}
+use Rattle.session_model.specs.Journals.{IsJournal}
 use Rattle.session_model.specs.Readings.{answer, outcomes_of}
 use Rattle.session_model.specs.Served.{ServesJournal}
 use Rattle.session_model.specs.Settings.{version_reply_of, setting_of}
 use Rattle.session_model.specs.Shown.{ShowsExchange}
 use Rattle.session_model.specs.declared.entry.Entry.{Entry}
+use Rattle.sftp_lanes.specs.Seen.{session_inputs}
 use Rattle.sftp_map_server.specs.Serving.{ServerState, IsServed, IsServing, Server, Serving, first_state, fresh_server}
 use Rattle.sftp_map_server.specs.Unopened.{IsUnopened}
 use Rattle.machine_laws.proofs.Numbering.{numbered_by}
@@ -40,6 +44,7 @@ use Rattle.view_model.specs.Calls.{AreFew, call_limit}
 use Rattle.view_model.specs.ViewOps.{are_ok, count, count_limit, is_within}
 use Rattle.view_model.specs.declared.op.ViewOp.{ViewOp}
 use Rattle.sftp_view.specs.Doings.{one_lane}
+use Rattle.sftp_view.specs.Left.{LeavesServer}
 use Rattle.sftp_view.specs.Printed.{IsServedView, IsViewed, view_text}
 use Rattle.sftp_view.specs.Views.{IsViewReport, MayView, done_in}
 use Rattle.sftp_view.specs.declared.run.ViewReport.{ViewReport}
@@ -187,3 +192,19 @@ may_view size list ops same fits can = record {
   any = fits.any;
   ok = ap (λ (w : List ViewOp). are_ok size.block w) same ∙ can.ok;
 }
+
+-- ---- the server that is left
+
+pub reported_leaves : (size : CacheSize) (list : ViewList) (ops : List ViewOp) (old now : Serving)
+    (report : ViewReport) → ops ≡ list.ops → IsServerOf list.script old → now.first ≡ old.first
+    → IsServedView size ops list.script.options now report → LeavesServer size list now
+reported_leaves size list ops old now report o first same run = record {
+  first = same ∙ first;
+  ran = inl (report, subst (λ (x : List ViewOp). IsServedView size x list.script.options now report) o run);
+}
+
+pub stopped_leaves : (size : CacheSize) (list : ViewList) (old now : Serving) → IsServerOf list.script old
+    → now.first ≡ old.first
+    → EndsAs (session_inputs one_lane list.script.options) IsJournal now.ended error.OutOfMemory [] now.log
+    → LeavesServer size list now
+stopped_leaves size list old now first same stops = record { first = same ∙ first; ran = inr stops }

@@ -6,6 +6,7 @@ use Rattle.sftp_map_server.specs.Serving.{Serving}
 use Rattle.program_shell.specs.Ended.{End, EndsAtSink, EndsInMemory, IsOnlyAnswer, status_of}
 use Rattle.view_model.specs.Lists.{list_of}
 use Rattle.view_model.specs.declared.cache_size.CacheSize.{CacheSize}
+use Rattle.sftp_view.specs.Left.{LeavesServer}
 use Rattle.sftp_view.specs.Printed.{IsViewed}
 use Rattle.sftp_view.specs.Words.{Asked, Text, Through}
 
@@ -22,7 +23,7 @@ pub record MayFail (streams : Streams) : Type 0 where
 -- The operations of a list from the source are done over a server of its own in memory, and the text of the answers is
 -- written.
 abbrev pub EndsList : CacheSize → End → Option Serving → SourceView → SourceView → SinkView → SinkView → Type 0
-EndsList size = EndsInMemory (list_of size.block) (λ list. list.script) (IsViewed size)
+EndsList size = EndsInMemory (list_of size.block) (LeavesServer size) (IsViewed size)
 
 -- The end for each request, the server that is kept, and the unused parts of the environment, which are unchanged.
 abbrev pub EndsSo : Asked → End → Option Serving → Streams → Streams → Type 0

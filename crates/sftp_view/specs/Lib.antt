@@ -6,5 +6,6 @@ pub mod Closing
 pub mod Views
 pub mod Printed
 pub mod Words
+pub mod Left
 pub mod Ended
 pub mod Completed

@@ -1,6 +1,11 @@
 //! Does the operations of a list over a server in memory, and makes the text of their answers.
-ghost use Rattle.std.specs.Prelude.{◌≡◌, [], IfOk};
+ghost use Rattle.std.specs.Prelude.{◌≡◌, [], IfErr, IfOk};
+ghost use Rattle.sftp_model.specs.declared.error.Error.TheVariants as error;
+ghost use Rattle.session_driver.specs.Logs.{EndsAs};
+ghost use Rattle.session_model.specs.Journals.{IsJournal};
+ghost use Rattle.sftp_lanes.specs.Seen.{session_inputs};
 ghost use Rattle.sftp_map_server.specs.Unopened.{IsUnopened};
+ghost use Rattle.sftp_view.specs.Doings.{one_lane};
 ghost use Rattle.sftp_view.specs.Printed.{IsServedView, view_text};
 ghost use Rattle.sftp_view.specs.Views.{MayView};
 
@@ -25,6 +30,7 @@ pub(crate) fn view_served(
     requires unopened { IsUnopened server.old.first }
     requires quiet { server.old.log ≡ [] }
     ensures run { IfOk result (λ report. IsServedView size ops.now options.now server.new report) }
+    ensures stops { IfErr result (λ e. EndsAs (session_inputs one_lane options.now) IsJournal server.new.ended error.OutOfMemory [] server.new.log) }
     ensures first { server.new.first ≡ server.old.first }
 {
     let result = run_view(alloc, server, ops, size.block, size.capacity, options);

@@ -2,6 +2,7 @@
 ghost use Rattle.view_model.specs.CacheSizes.{IsCacheSize};
 ghost use Rattle.view_model.specs.CanView.{CanView};
 ghost use Rattle.view_model.specs.Lists.{list_of};
+ghost use Rattle.sftp_view.specs.Left.{LeavesServer};
 ghost use Rattle.sftp_view.specs.Printed.{IsViewed};
 
 use crate::printed::{view_served, view_text};
@@ -28,6 +29,8 @@ impl Program for CachedView {
     ghost can = { λ view. CanView view.size.block };
 
     ghost setup = { λ list. list.script };
+
+    ghost leaves = { λ view. LeavesServer view.size };
 
     ghost right = { λ view. IsViewed view.size };
 

@@ -1,1 +1,2 @@
 mod LastLaws
+mod FewLaws

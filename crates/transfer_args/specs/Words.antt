@@ -15,14 +15,16 @@ use Rattle.std.specs.Prelude.{
   ◌∷◌,
   codes,
   drop,
+  length,
   map,
   nat_le,
+  nat_lt,
   Option,
   Some,
   None,
   if◌then◌else◌,
 }
-use Rattle.std.specs.List.{starts_with}
+use Rattle.std.specs.List.{after_first, before_first, position_or_len, starts_with}
 use Rattle.std.specs.Option.{option_and_then, option_map}
 use Rattle.std.specs.Str.{bytes_eq}
 use Rattle.std.specs.String.{string_bytes}
@@ -59,6 +61,33 @@ abbrev pub number_in : ℕ → ℕ → List ℕ → Option ℕ
 number_in least most [] = None
 number_in least most (b ∷ bytes) = from_least least (digits_behind most 0 (b ∷ bytes))
 
+-- The factor of a unit of bytes.
+abbrev pub unit_of : ℕ → Option ℕ
+unit_of b =
+    if b == 75 then Some 1024
+    else if b == 77 then Some 1048576
+    else if b == 71 then Some 1073741824
+    else None
+
+-- The product, if it is at most `most`.
+abbrev pub scaled : ℕ → ℕ → Option ℕ → Option ℕ
+scaled most number None = None
+scaled most number (Some unit) = if nat_le (number * unit) most then Some (number * unit) else None
+
+-- The number of bytes that continues `number` with these decimal digits, after which `K`, `M` or `G` may come.
+abbrev pub size_behind : ℕ → ℕ → List ℕ → Option ℕ
+size_behind most number [] = Some number
+size_behind most number (b ∷ bytes) =
+    if nat_le 48 b && nat_le b 57 then (
+    if nat_le (number * 10 + (b - 48)) most then size_behind most (number * 10 + (b - 48)) bytes else None
+    ) else if length bytes == 0 then scaled most number (unit_of b) else None
+
+-- A number of bytes from `least` to `most`: decimal digits, and then nothing, `K`, `M` or `G` for 1024, 1048576 or
+-- 1073741824 times the number.
+abbrev pub size_in : ℕ → ℕ → List ℕ → Option ℕ
+size_in least most [] = None
+size_in least most (b ∷ bytes) = from_least least (size_behind most 0 (b ∷ bytes))
+
 -- ---- Options
 
 -- The options of a command line that has none.
@@ -77,24 +106,35 @@ plain_options = record {
   timeout = 60;
 }
 
--- The options of a copy after an option that is a word alone.
-abbrev pub copy_flag_of : Options → List ℕ → Option Options
-copy_flag_of o word =
-    if bytes_eq word (codes "-r") then Some (record o { recursive = true })
-    else if bytes_eq word (codes "-p") then Some (record o { preserve = true })
-    else if bytes_eq word (codes "-q") then Some (record o { quiet = true })
-    else if bytes_eq word (codes "--progress") then Some (record o { progress = true })
+-- The options after an option of one letter: `r`, `p` and `q` for a copy, `l` for a listing.
+abbrev pub letter_of : Verb → Options → ℕ → Option Options
+letter_of verb.Copy o letter =
+    if letter == 114 then Some (record o { recursive = true })
+    else if letter == 112 then Some (record o { preserve = true })
+    else if letter == 113 then Some (record o { quiet = true })
+    else None
+letter_of verb.List o letter = if letter == 108 then Some (record o { long = true }) else None
+
+-- The options after the letters of one word, as in `-rp`.
+abbrev pub letters_of : Verb → Options → List ℕ → Option Options
+letters_of verb o [] = Some o
+letters_of verb o (letter ∷ letters) = option_and_then (λ more. letters_of verb more letters) (letter_of verb o letter)
+
+-- The options after an option that is a word alone.
+abbrev pub long_flag_of : Verb → Options → List ℕ → Option Options
+long_flag_of verb.Copy o word =
+    if bytes_eq word (codes "--progress") then Some (record o { progress = true })
     else if bytes_eq word (codes "--resume") then Some (record o { resume = true })
     else if bytes_eq word (codes "--verify") then Some (record o { verify = true })
     else None
+long_flag_of verb.List o word = None
 
--- The options of a listing after an option that is a word alone.
-abbrev pub list_flag_of : Options → List ℕ → Option Options
-list_flag_of o word = if bytes_eq word (codes "-l") then Some (record o { long = true }) else None
-
+-- A hyphen has at least one letter after it, and two hyphens a name.
 abbrev pub flag_of : Verb → Options → List ℕ → Option Options
-flag_of verb.Copy o word = copy_flag_of o word
-flag_of verb.List o word = list_flag_of o word
+flag_of verb o [] = None
+flag_of verb o (hyphen ∷ []) = None
+flag_of verb o (hyphen ∷ letter ∷ letters) =
+    if letter == 45 then long_flag_of verb o (hyphen ∷ letter ∷ letters) else letters_of verb o (letter ∷ letters)
 
 -- The option of a copy that a number follows, if the word is one.
 abbrev pub copy_counted_by : List ℕ → Option Counted
@@ -115,7 +155,7 @@ counted_by verb.List word = if bytes_eq word (codes "--timeout") then Some count
 abbrev pub with_count : Options → Counted → List ℕ → Option Options
 with_count o counted.Window word = option_map (λ n. record o { window = n }) (number_in 1 1024 word)
 with_count o counted.Files word = option_map (λ n. record o { files = n }) (number_in 1 256 word)
-with_count o counted.Limit word = option_map (λ n. record o { limit = n }) (number_in 1 1073741824 word)
+with_count o counted.Limit word = option_map (λ n. record o { limit = n }) (size_in 1 1073741824 word)
 with_count o counted.Timeout word = option_map (λ n. record o { timeout = n }) (number_in 0 86400 word)
 
 -- ---- The address of the server
@@ -149,8 +189,20 @@ abbrev pub by_counted : {A : Type 0} → (Counted → A) → A → Option Counte
 by_counted with_number other None = other
 by_counted with_number other (Some counted) = with_number counted
 
+-- True for an equals sign.
+abbrev pub is_equals : ℕ → Bool
+is_equals b = b == 61
+
+-- The options after an option that is one word: its name and its number with an equals sign between them, or a flag.
+abbrev pub option_of : Verb → Options → List ℕ → Option Options
+option_of verb o word =
+    if nat_lt (position_or_len is_equals word) (length word) then
+    by_counted (λ counted. with_count o counted (after_first is_equals word)) None
+    (counted_by verb (before_first is_equals word))
+    else flag_of verb o word
+
 -- The options at the front, and the words after them. A word that begins with "-" is an option, and "--" ends the
--- options. An option that takes a number is followed by its number.
+-- options. An option that takes a number has it after an equals sign, or as the next word.
 abbrev pub options_by : Verb → Options → Option Counted → List (List ℕ) → Option (Options × List (List ℕ))
 options_by verb o None [] = Some (o, [])
 options_by verb o (Some counted) [] = None
@@ -159,7 +211,7 @@ options_by verb o (Some counted) (word ∷ words) = option_and_then (λ more. op
 options_by verb o None (word ∷ words) =
     if bytes_eq word (codes "--") then Some (o, words)
     else by_counted (λ counted. options_by verb o (Some counted) words)
-    (if is_option word then option_and_then (λ more. options_by verb more None words) (flag_of verb o word)
+    (if is_option word then option_and_then (λ more. options_by verb more None words) (option_of verb o word)
     else Some (o, word ∷ words))
     (counted_by verb word)
 

@@ -1,6 +1,6 @@
 //! The reason why a command line can't be used.
 use crate::options::{Counted, Verb};
-use crate::parser::{counted_by, link_at, options_by, plain_options, with_count, with_flag};
+use crate::parser::{counted_by, link_at, options_by, plain_options, with_count, with_option};
 use std::fmt;
 
 /// The reason why a command line can't be used.
@@ -40,6 +40,16 @@ fn range_of(counted: Counted) -> (u32, u32) {
     }
 }
 
+/// Returns the reason why a word can't be used that begins with `-`.
+fn bad_word(verb: Verb, word: &str) -> Misfit<'_> {
+    if let Some((name, number)) = word.split_once('=') {
+        if let Some(counted) = counted_by(verb, name) {
+            return Misfit::BadNumber(name, range_of(counted), number);
+        }
+    }
+    Misfit::UnknownOption(word)
+}
+
 /// Returns the reason why the options at the front can't be used, if it is one of them.
 fn bad_option(verb: Verb, words: &[String]) -> Option<Misfit<'_>> {
     let options = plain_options();
@@ -55,8 +65,8 @@ fn bad_option(verb: Verb, words: &[String]) -> Option<Misfit<'_>> {
             awaited = Some((word, counted));
         } else if word == "--" || !word.starts_with('-') {
             return None;
-        } else if with_flag(verb, options, word).is_none() {
-            return Some(Misfit::UnknownOption(word));
+        } else if with_option(verb, options, word).is_none() {
+            return Some(bad_word(verb, word));
         }
     }
     match awaited {

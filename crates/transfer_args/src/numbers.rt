@@ -1,6 +1,6 @@
 //! The numbers that follow options.
-ghost use Rattle.std.specs.Prelude.{◌≡◌};
-ghost use Rattle.transfer_args.specs.Words.{digits_behind, number_in};
+ghost use Rattle.std.specs.Prelude.{◌≡◌, ◌≤◌};
+ghost use Rattle.transfer_args.specs.Words.{digits_behind, number_in, scaled, size_behind, size_in, unit_of};
 
 /// Returns the number that decimal digits write, or `None` if it is more than `most`.
 fn number(most: u32, digits: &[u8]) -> Option<u32>
@@ -29,6 +29,68 @@ pub(crate) fn number_in(least: u32, most: u32, word: &[u8]) -> Option<u32>
     }
     match number(most, word) {
         Some(number) if number >= least => Some(number),
+        _ => None,
+    }
+}
+
+/// Returns the factor of a unit of bytes, or `None` if the letter is none.
+fn unit_of(letter: u8) -> Option<u64>
+    ensures { result ≡ unit_of letter }
+{
+    match letter {
+        b'K' => Some(1024),
+        b'M' => Some(1048576),
+        b'G' => Some(1073741824),
+        _ => None,
+    }
+}
+
+/// Returns a number of a unit in bytes, or `None` if it is more than `most` or the letter is no unit.
+fn scaled(most: u32, number: u64, letter: u8) -> Option<u32>
+    requires { number ≤ most }
+    ensures { result ≡ scaled most number (unit_of letter) }
+{
+    let size = number * unit_of(letter)?;
+    if size > u64::from(most) {
+        return None;
+    }
+    Some(size as u32)
+}
+
+/// Returns the number of bytes that decimal digits write, after which a unit may come, or `None` if it is more than
+/// `most`.
+fn size(most: u32, word: &[u8]) -> Option<u32>
+    ensures { result ≡ size_behind most 0 word.now }
+{
+    let mut number: u64 = 0;
+    let mut rest = word;
+    while let [byte, later @ ..] = rest {
+        if !(b'0'..=b'9').contains(byte) {
+            return if later.is_empty() {
+                scaled(most, number, *byte)
+            } else {
+                None
+            };
+        }
+        number = number * 10 + u64::from(*byte - b'0');
+        if number > u64::from(most) {
+            return None;
+        }
+        rest = later;
+    }
+    Some(number as u32)
+}
+
+/// Returns the number of bytes that a word writes in decimal digits, with a unit after them or none, if it is from
+/// `least` to `most`.
+pub(crate) fn size_in(least: u32, most: u32, word: &[u8]) -> Option<u32>
+    ensures { result ≡ size_in least most word.now }
+{
+    if word.is_empty() {
+        return None;
+    }
+    match size(most, word) {
+        Some(size) if size >= least => Some(size),
         _ => None,
     }
 }

@@ -2,10 +2,10 @@
 ghost use Rattle.std.specs.Prelude.{◌≡◌, None, map};
 ghost use Rattle.std.specs.Option.{option_map};
 ghost use Rattle.std.specs.String.{string_bytes};
-ghost use Rattle.transfer_args.specs.Words.{asked_at, asked_by, asked_seen, copy_by, copy_counted_by, copy_flag_of, counted_by, flag_of, link_at, link_seen, list_at, list_by, list_flag_of, options_by, plain_options, split_last, with_count, work_by, work_seen};
+ghost use Rattle.transfer_args.specs.Words.{asked_at, asked_by, asked_seen, copy_by, copy_counted_by, counted_by, flag_of, letter_of, letters_of, link_at, link_seen, list_at, list_by, long_flag_of, option_of, options_by, plain_options, split_last, with_count, work_by, work_seen};
 
 use crate::asked::{Asked, Direction, LinkAt, Listing, Transfer, Work};
-use crate::numbers::number_in;
+use crate::numbers::{number_in, size_in};
 use crate::options::{Counted, Options, Verb};
 
 /// Returns the options of a command line that has none.
@@ -70,7 +70,7 @@ pub(crate) fn with_count(options: Options, counted: Counted, word: &str) -> Opti
             ..options
         }),
         Counted::Limit => Some(Options {
-            limit: number_in(1, 1073741824, word)?,
+            limit: size_in(1, 1073741824, word)?,
             ..options
         }),
         Counted::Timeout => Some(Options {
@@ -80,67 +80,94 @@ pub(crate) fn with_count(options: Options, counted: Counted, word: &str) -> Opti
     }
 }
 
-/// Returns the options of a copy after an option that is a word alone, or `None` if the word is no such option.
-fn with_copy_flag(options: Options, word: &str) -> Option<Options>
-    ensures { result ≡ copy_flag_of options word.now }
+/// Returns the options after an option of one letter, or `None` if the verb has no such option.
+fn with_letter(verb: Verb, options: Options, letter: u8) -> Option<Options>
+    ensures { result ≡ letter_of verb options letter }
 {
-    if word == "-r" {
-        Some(Options {
+    match (verb, letter) {
+        (Verb::Copy, b'r') => Some(Options {
             recursive: true,
             ..options
-        })
-    } else if word == "-p" {
-        Some(Options {
+        }),
+        (Verb::Copy, b'p') => Some(Options {
             preserve: true,
             ..options
-        })
-    } else if word == "-q" {
-        Some(Options {
+        }),
+        (Verb::Copy, b'q') => Some(Options {
             quiet: true,
             ..options
-        })
-    } else if word == "--progress" {
-        Some(Options {
-            progress: true,
-            ..options
-        })
-    } else if word == "--resume" {
-        Some(Options {
-            resume: true,
-            ..options
-        })
-    } else if word == "--verify" {
-        Some(Options {
-            verify: true,
-            ..options
-        })
-    } else {
-        None
-    }
-}
-
-/// Returns the options of a listing after an option that is a word alone, or `None` if the word is no such option.
-fn with_list_flag(options: Options, word: &str) -> Option<Options>
-    ensures { result ≡ list_flag_of options word.now }
-{
-    if word == "-l" {
-        Some(Options {
+        }),
+        (Verb::List, b'l') => Some(Options {
             long: true,
             ..options
-        })
-    } else {
-        None
+        }),
+        _ => None,
     }
 }
 
-/// Returns the options of a verb after an option that is a word alone, or `None` if the word is no such option.
-pub(crate) fn with_flag(verb: Verb, options: Options, word: &str) -> Option<Options>
-    ensures { result ≡ flag_of verb options word.now }
+/// Returns the options after the letters of one word, or `None` if one of them is no option of the verb.
+fn with_letters(verb: Verb, options: Options, letters: &[u8]) -> Option<Options>
+    ensures { result ≡ letters_of verb options letters.now }
+{
+    let mut options = options;
+    let mut rest = letters;
+    while let [letter, later @ ..] = rest {
+        options = with_letter(verb, options, *letter)?;
+        rest = later;
+    }
+    Some(options)
+}
+
+/// Returns the options after an option that is a word alone, or `None` if the verb has no such option.
+fn with_long_flag(verb: Verb, options: Options, word: &str) -> Option<Options>
+    ensures { result ≡ long_flag_of verb options word.now }
 {
     match verb {
-        Verb::Copy => with_copy_flag(options, word),
-        Verb::List => with_list_flag(options, word),
+        Verb::Copy => {
+            if word == "--progress" {
+                Some(Options {
+                    progress: true,
+                    ..options
+                })
+            } else if word == "--resume" {
+                Some(Options {
+                    resume: true,
+                    ..options
+                })
+            } else if word == "--verify" {
+                Some(Options {
+                    verify: true,
+                    ..options
+                })
+            } else {
+                None
+            }
+        }
+        Verb::List => None,
     }
+}
+
+/// Returns the options after a word of letters or a name, or `None` if the verb has no such option.
+fn with_flag(verb: Verb, options: Options, word: &str) -> Option<Options>
+    ensures { result ≡ flag_of verb options word.now }
+{
+    match word.as_bytes() {
+        [_, b'-', ..] => with_long_flag(verb, options, word),
+        [_, letters @ ..] if !letters.is_empty() => with_letters(verb, options, letters),
+        _ => None,
+    }
+}
+
+/// Returns the options after an option that is one word, or `None` if the verb has no such option or its number is out
+/// of its range.
+pub(crate) fn with_option(verb: Verb, options: Options, word: &str) -> Option<Options>
+    ensures { result ≡ option_of verb options word.now }
+{
+    let Some((name, number)) = word.split_once('=') else {
+        return with_flag(verb, options, word);
+    };
+    let counted = counted_by(verb, name)?;
+    with_count(options, counted, number)
 }
 
 /// Returns the address of the server that a word writes.
@@ -184,7 +211,7 @@ pub(crate) fn options_by(verb: Verb, words: &[String]) -> Option<(Options, &[Str
                 } else if let Some(counted) = counted_by(verb, word) {
                     awaited = Some(counted);
                 } else if word.starts_with('-') {
-                    options = with_flag(verb, options, word)?;
+                    options = with_option(verb, options, word)?;
                 } else {
                     return Some((options, rest));
                 }

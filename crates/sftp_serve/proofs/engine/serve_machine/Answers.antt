@@ -9,7 +9,7 @@ pub returns-clause-serves : goal.returns-clause-serves
 returns-clause-serves g c =
     let before = g.L.LinkState.state c.args.link.now in
     let now = g.L.LinkState.state c.serve_frames.new.link in
-    let halts : IfLogged (HaltsAll (first_state c.args.machine) c.serve_frames.result now.ended) before.log now.log =
+    let halts : IfLogged (HaltsAll (first_state c.args.long c.args.machine) c.serve_frames.result now.ended) before.log now.log =
     search rules in
-    serves_stream (first_state c.args.machine) c.serve_frames.result before now c.serve_frames.ensures.status c.requires
-    halts c.serve_frames.ensures.ended c.serve_frames.ensures.fault
+    serves_stream (first_state c.args.long c.args.machine) c.serve_frames.result before now c.serve_frames.ensures.status c.requires
+    halts c.serve_frames.ensures.ended c.serve_frames.ensures.fault c.serve_frames.ensures.unfailed
