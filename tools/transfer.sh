@@ -413,6 +413,32 @@ run socket put -p --verify -- "$room/near/kept/-r/--" "$room/far/kept/-r"
     [ "$(stat -c %a "$room/far/kept/-r/--")" = 604 ]
 tell 'permissions and times of one file up' $?
 
+# without -p a file has the permissions of its source, as far as the umask permits them, and so has its part
+umask 022
+mkdir "$room/far/modes" "$room/near/modes"
+for mode in 600 640 755 777; do
+    for place in far near; do
+        echo "$mode" >"$room/$place/modes/$mode"
+        chmod "$mode" "$room/$place/modes/$mode"
+    done
+done
+run socket get -r -q "$room/far/modes" "$room/near/came"
+[ $status -eq 0 ] && [ "$(cd "$room/near/came" && stat -c '%a %n' *)" = "$(printf '600 600\n640 640\n755 755\n755 777')" ]
+tell 'permissions without -p, down' $?
+run socket put -r -q "$room/near/modes" "$room/far/came"
+[ $status -eq 0 ] && [ "$(cd "$room/far/came" && stat -c '%a %n' *)" = "$(printf '600 600\n640 640\n755 755\n755 777')" ]
+tell 'permissions without -p, up' $?
+for way in get put; do
+    case $way in get) there=far && here=near ;; put) there=near && here=far ;; esac
+    head -c 8000000 /dev/urandom >"$room/$there/secret"
+    chmod 600 "$room/$there/secret"
+    case $way in get) cut=reads ;; put) cut=writes ;; esac
+    run $cut $way -p "$room/$there/secret" "$room/$here/secret"
+    [ $status -eq 1 ] && [ "$(stat -c %a "$room/$here/.secret.part")" = 600 ]
+    tell "permissions of a part, $way" $?
+    rm -f "$room/$here/.secret.part" "$room/$there/secret"
+done
+
 # ---- what is listed
 
 run socket list "$room/far/tree/with space/deeper"

@@ -11,6 +11,7 @@ use Rattle.sftp_cli.specs.declared.printed.Form.TheVariants as form
 use Rattle.sftp_cli.specs.Completed.{CompletesProgram}
 use Rattle.sftp_cli.specs.Dialled.{RunsOver}
 use Rattle.sftp_cli.specs.Ended.{EndsSo, ProgramEnds}
+use Rattle.sftp_cli.specs.Left.{LeavesServer}
 use Rattle.sftp_cli.specs.Printed.{IsPrinted}
 use Rattle.sftp_cli.specs.Words.{Asked, InMemory, AtPath, Bulk, Text}
 use Rattle.sftp_cli.proofs.Reading.{long_refused}
@@ -23,7 +24,7 @@ completes_so : {History : Type 0} (dialled : List ℕ → History → History) (
     → now.source.faults ≡ before.source.faults → now.sink.faults ≡ before.sink.faults
     → CompletesProgram asked (status_of end) before.source.left
 completes_so dialled InMemory end kept before now h s k =
-    in_memory script_of (λ script. script) (IsPrinted form.Whole) end kept before.source now.source before.sink now.sink
+    in_memory script_of LeavesServer (IsPrinted form.Whole) end kept before.source now.source before.sink now.sink
     long_refused h.0 s k
 completes_so dialled (AtPath path seconds) end kept before now h s k =
     over_link script_of RunsOver dialled path end before now long_refused unrefused h.0 s k

@@ -8,6 +8,7 @@ use Rattle.program_shell.specs.Outside.{Outside}
 use Rattle.program_shell.proofs.Causing.{has_causes, memory_causes, sink_causes}
 use Rattle.sftp_mirror.specs.Ended.{EndsSo, ProgramEnds}
 use Rattle.sftp_mirror.specs.Lists.{list_of}
+use Rattle.sftp_mirror.specs.Left.{LeavesServer}
 use Rattle.sftp_mirror.specs.Printed.{IsCopied}
 use Rattle.sftp_mirror.specs.Words.{Asked, AtPath, InMemory, Text}
 
@@ -15,7 +16,7 @@ causes_so : {History : Type 0} (dialled : List ℕ → History → History) (ask
     (kept : Option Serving) (before now : Outside History) → EndsSo dialled asked end kept before now
     → HasCauses (status_of end) before now
 causes_so dialled (InMemory schedule) end kept before now h =
-    memory_causes list_of (λ list. list.script) (IsCopied schedule) end kept before now h.0 h.1
+    memory_causes list_of (LeavesServer schedule) (IsCopied schedule) end kept before now h.0 h.1
 causes_so dialled (AtPath path seconds schedule) end kept before now h =
     has_causes end before now h.0.source_cause h.0.sink_cause h.0.dial_cause
 causes_so dialled (Text answered text) end kept before now h = sink_causes _ end before now h.0 h.2 h.3

@@ -11,6 +11,7 @@ use Rattle.sftp_mirror.specs.Completed.{CompletesProgram}
 use Rattle.sftp_mirror.specs.Dialled.{RunsOver}
 use Rattle.sftp_mirror.specs.Ended.{EndsSo, ProgramEnds}
 use Rattle.sftp_mirror.specs.Lists.{list_of}
+use Rattle.sftp_mirror.specs.Left.{LeavesServer}
 use Rattle.sftp_mirror.specs.Printed.{IsCopied}
 use Rattle.sftp_mirror.specs.Words.{Asked, AtPath, InMemory, Text}
 use Rattle.sftp_mirror.proofs.Reading.{long_refused}
@@ -23,7 +24,7 @@ completes_so : {History : Type 0} (dialled : List ℕ → History → History) (
     → now.source.faults ≡ before.source.faults → now.sink.faults ≡ before.sink.faults
     → CompletesProgram asked (status_of end) before.source.left
 completes_so dialled (InMemory schedule) end kept before now h s k =
-    in_memory list_of (λ list. list.script) (IsCopied schedule) end kept before.source now.source before.sink now.sink
+    in_memory list_of (LeavesServer schedule) (IsCopied schedule) end kept before.source now.source before.sink now.sink
     long_refused h.0 s k
 completes_so dialled (AtPath path seconds schedule) end kept before now h s k =
     over_link list_of (RunsOver schedule) dialled path end before now long_refused (unrefused schedule) h.0 s k

@@ -1,6 +1,6 @@
 -- The copy of a file that was found.
 use Rattle.std.specs.Prelude.{◌≡◌, ℕ, Bool, true, List, nat_le, Option, Some, None, if◌then◌else◌}
-use Rattle.std.specs.Int.RustNames.{bit_and}
+use Rattle.std.specs.Int.RustNames.{bit_and, bit_or}
 use Rattle.std.specs.Option.{option_map}
 use Rattle.std.specs.String.{string_bytes}
 use Rattle.sftp_model.specs.declared.file_attrs.FileAttrs.{FileAttrs}
@@ -36,14 +36,20 @@ GivesKept Put true all (Some kept) = AreKeptOf all kept
 GivesKept Put true all None = ⊥
 GivesKept way keeps all given = given ≡ None
 
+-- A part file has the permissions of its source, and its owner may write it.
+abbrev pub part_mode : ℕ → ℕ
+part_mode mode = bit_or (nine_bits mode) 0o200
+
 -- The copy goes from its source to its target. It is written as a part file beside the target, after the bytes that the
--- part file has. It gives the file the permissions and times that are preserved.
+-- part file has. A part file that is created has permissions of the source, and the file is given the permissions and
+-- times that are preserved.
 pub record IsCopyOf (way : Direction) (keeps : Bool) (begins : ℕ) (found : Found) (job : CopyJob) : Type 0 where
   pub way_is : job.way ≡ way
   pub from : string_bytes job.from ≡ found.source
   pub to : string_bytes job.to ≡ found.target
   pub beside : string_bytes job.part ≡ part_of found.target
   pub begins_is : job.begins_at ≡ begins
+  pub mode : job.mode ≡ option_map part_mode found.attrs.permissions
   pub attrs : GivesKept way keeps found.attrs job.attrs
 
 -- The number of bytes of a part file after which a copy continues: all that it has, if the file is known to have at

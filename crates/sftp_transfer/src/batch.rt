@@ -126,8 +126,8 @@ impl<'a> Batch<'a> {
         let begins_at = self.files.start(job);
         match copy_of(self.rt.alloc(), self.way, keeps, begins_at, found) {
             Ok(copy) => Some(Wanted {
+                local: SystemFile::new(self.rt, job, copy.mode),
                 job: copy,
-                local: SystemFile::new(self.rt, job),
             }),
             Err(reason) => {
                 let verdict = self.refuse(found.source.as_slice(), &reason);

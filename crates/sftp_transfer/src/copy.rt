@@ -2,7 +2,7 @@
 ghost use Rattle.std.specs.Prelude.{◌≡◌, IfOk};
 ghost use Rattle.std.specs.Option.{option_map};
 ghost use Rattle.std.specs.String.{string_bytes};
-ghost use Rattle.sftp_transfer.specs.Copies.{AreKeptOf, GivesKept, IsCopyOf, IsReadBackOf, local_of, nine_bits, remote_of, resumed_at};
+ghost use Rattle.sftp_transfer.specs.Copies.{AreKeptOf, GivesKept, IsCopyOf, IsReadBackOf, local_of, nine_bits, part_mode, remote_of, resumed_at};
 
 use crate::transfer_error::{TransferError, no_text};
 use sftp_model::FileAttrs;
@@ -79,8 +79,19 @@ pub(crate) fn resumed_at(size: Option<u64>, had: Option<u64>) -> u64
     }
 }
 
+/// Returns the permissions of a part file: those of its source, and its owner may write it.
+fn part_mode(permissions: Option<u32>) -> Option<u32>
+    ensures { result ≡ option_map part_mode permissions }
+{
+    match nine_bits(permissions) {
+        Some(mode) => Some(mode | 0o200),
+        None => None,
+    }
+}
+
 /// Returns the copy of a file that was found. It is written as a part file beside its target, after the bytes that the
-/// part file has. With `keeps` the file of the server is given permissions and times. Fails if a path isn't UTF-8.
+/// part file has. The part file is created with the permissions of its source. With `keeps` the file of the server is
+/// given permissions and times. Fails if a path isn't UTF-8.
 pub(crate) fn copy_of(
     alloc: Global,
     way: Direction,
@@ -100,6 +111,7 @@ pub(crate) fn copy_of(
         part,
         to,
         begins_at,
+        mode: part_mode(found.attrs.permissions),
         attrs: attrs_given(way, keeps, &found.attrs),
     })
 }
@@ -142,6 +154,7 @@ pub(crate) fn read_back_of(
         part,
         to,
         begins_at: 0,
+        mode: None,
         attrs: None,
     })
 }

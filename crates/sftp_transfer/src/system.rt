@@ -5,7 +5,7 @@ use std::alloc::Global;
 use std::fs::{File, OpenFile, OpenOptions};
 use std::io::{ErrorKind, Seek, SeekFrom, Write};
 use std::marker::Model;
-use std::os::unix::fs::MetadataExt;
+use std::os::unix::fs::{MetadataExt, OpenOptionsExt};
 use std::{fs, io};
 use transfer_pool::{LocalError, LocalFile};
 
@@ -16,15 +16,18 @@ use transfer_pool::{LocalError, LocalFile};
 pub struct SystemFile<'a> {
     runtime: &'a HostRuntime,
     job: usize,
+    mode: Option<u32>,
     file: Option<File>,
 }
 
 impl<'a> SystemFile<'a> {
-    /// Returns a value without a file, for the job at an index.
-    pub fn new(runtime: &'a HostRuntime, job: usize) -> SystemFile<'a> {
+    /// Returns a value without a file, for the job at an index. A file that it creates has these permissions, as far as
+    /// the umask permits them.
+    pub fn new(runtime: &'a HostRuntime, job: usize, mode: Option<u32>) -> SystemFile<'a> {
         SystemFile {
             runtime,
             job,
+            mode,
             file: None,
         }
     }
@@ -52,7 +55,7 @@ impl<'a> LocalFile for SystemFile<'a> {
     }
 
     fn create(&mut self, name: &str) -> Result<(), LocalError> {
-        self.file = Some(create_anew(self.runtime, name)?);
+        self.file = Some(create_anew(self.runtime, name, self.mode)?);
         Ok(())
     }
 
@@ -88,12 +91,21 @@ impl<'a> LocalFile for SystemFile<'a> {
     }
 }
 
+/// Creates a file that does not exist, with these permissions under the umask; without any, with 0666.
+fn create_file(rt: &HostRuntime, name: &str, mode: Option<u32>) -> io::Result<File> {
+    OpenOptions::new()
+        .write(true)
+        .create_new(true)
+        .mode(mode.unwrap_or(0o666))
+        .open(rt, name)
+}
+
 /// Creates a file. An existing entry with the name is removed, so that a symbolic link there isn't followed.
-fn create_anew(rt: &HostRuntime, name: &str) -> io::Result<File> {
-    match File::create_new(rt, name) {
+fn create_anew(rt: &HostRuntime, name: &str, mode: Option<u32>) -> io::Result<File> {
+    match create_file(rt, name, mode) {
         Err(e) if e.kind() == ErrorKind::AlreadyExists => {
             fs::remove_file(rt, name)?;
-            File::create_new(rt, name)
+            create_file(rt, name, mode)
         }
         made => made,
     }

@@ -19,7 +19,7 @@ standard input and output are the connection. With ssh:
   sftp_transfer unix:sftp.socket get -r /etc/ssh copies
 
   -r           copy directories with their contents; symbolic links are copied as links
-  -p           keep permissions and times
+  -p           keep permissions exactly, whatever the umask, and times
   --resume     continue files from the bytes that an earlier run left in their part files
   --verify     read copied files back from the server, and compare them
   -q           report only what was not done

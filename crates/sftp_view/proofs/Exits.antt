@@ -15,6 +15,7 @@ use Rattle.view_model.specs.Lists.{list_of}
 use Rattle.view_model.specs.declared.cache_size.CacheSize.{CacheSize}
 use Rattle.sftp_view.specs.Completed.{CompletesProgram}
 use Rattle.sftp_view.specs.Ended.{EndsSo, ProgramEnds, Streams}
+use Rattle.sftp_view.specs.Left.{LeavesServer}
 use Rattle.sftp_view.specs.Printed.{IsViewed}
 use Rattle.sftp_view.specs.Words.{Asked, Text, Through, asked_by, help_text}
 
@@ -39,7 +40,7 @@ completes_so : (asked : Asked) (end : End) (kept : Option Serving) (before now :
     → now.source.faults ≡ before.source.faults → now.sink.faults ≡ before.sink.faults
     → CompletesProgram asked (status_of end) before.source.left
 completes_so (Through size) end kept before now h s k =
-    in_memory (list_of size.block) (λ list. list.script) (IsViewed size) end kept before.source now.source before.sink
+    in_memory (list_of size.block) (LeavesServer size) (IsViewed size) end kept before.source now.source before.sink
     now.sink
     (long_refused size.block) h s k
 completes_so (Text answered text) end kept before now h s k =
@@ -62,7 +63,7 @@ causes_so : (asked : Asked) (end : End) (kept : Option Serving) (before now : St
     → EndsSo asked end kept before now
     → HasCauses (status_of end) (without_dial before) (without_dial now)
 causes_so (Through size) end kept before now h =
-    memory_causes (list_of size.block) (λ list. list.script) (IsViewed size) end kept (without_dial before)
+    memory_causes (list_of size.block) (LeavesServer size) (IsViewed size) end kept (without_dial before)
     (without_dial now) h refl
 causes_so (Text answered text) end kept before now h = sink_causes _ end (without_dial before) (without_dial now) h.0
     h.2 refl

@@ -26,7 +26,6 @@ use Rattle.std.proofs.lemmas.List.{append-nil, append_assoc}
 use Rattle.sftp_model.specs.declared.answers.Expected.TheVariants as expected
 use Rattle.sftp_model.specs.declared.file_attrs.FileAttrs.{FileAttrs}
 use Rattle.sftp_model.specs.declared.reply.Reply.{Reply}
-use Rattle.plan_model.specs.FilePlans.{open_request}
 use Rattle.sftp_core.specs.Core.{Core}
 use Rattle.sftp_core.specs.Grant.{GrantValue}
 use Rattle.plan_state.specs.Asked.{SubmitsAsking}
@@ -41,7 +40,7 @@ use Rattle.transfer_copy.specs.declared.put.FilePut.{FilePut}
 use Rattle.transfer_copy.specs.declared.put.PutStage.TheVariants as stage
 use Rattle.transfer_copy.specs.Holdings.{AsksFile, AsksForAttrs, AsksForWrite, HoldingValue, SettlesFile, TakesPart, nothing_held}
 use Rattle.transfer_copy.specs.Legs.{AnswersFirst, AreDeeds, CopyStep}
-use Rattle.transfer_copy.specs.Puts.{PutFinishes, write_flags}
+use Rattle.transfer_copy.specs.Puts.{PutFinishes, open_part}
 use Rattle.transfer_copy.specs.Refusals.{IsOkStatus}
 use Rattle.transfer_copy.specs.WholePuts.{
   AreWrittenFromTo,
@@ -235,15 +234,15 @@ pub record IsSentToClose {H : Type 0} (done : LocalAct → H → H) (name part r
 pub put_start_so : {H : Type 0} (done : LocalAct → H → H) (name part remote : List ℕ) (from : ℕ)
     (legs : List (CopyStep FilePut H)) (leg : CopyStep FilePut H)
     (first : H) → IsUnaskedPut done name part remote from legs leg.old first leg.before
-    → AsksFile leg.core leg.old.holding (open_request (write_flags leg.old.offset) part) leg.after leg.new.holding
+    → AsksFile leg.core leg.old.holding (open_part leg.old.offset leg.old.mode part) leg.after leg.new.holding
     → leg.new ≡ record leg.old { stage = stage.Opening; holding = leg.new.holding }
     → leg.now ≡ done (Opened name leg.old.offset) leg.before
     → IsOpenAskedPut done name part remote from (leg ∷ legs) leg.new first leg.now
 put_start_so done name part remote from legs leg first so asks is opened =
-    let asks_there : AsksFile leg.core leg.old.holding (open_request (write_flags from) part) leg.after leg.new.holding
+    let asks_there : AsksFile leg.core leg.old.holding (open_part from leg.old.mode part) leg.after leg.new.holding
     = record {
       ticket = asks.ticket;
-      submitted = subst (λ n. SubmitsAsking leg.core (Whole (open_request (write_flags n) part)) asks.ticket leg.after)
+      submitted = subst (λ n. SubmitsAsking leg.core (Whole (open_part n leg.old.mode part)) asks.ticket leg.after)
           so.offset asks.submitted;
       now = asks.now;
     } in

@@ -388,14 +388,14 @@ put_on done name part remote from legs leg first stage.Ended result here so neve
 -- ---- all legs
 
 put_follows : {H : Type 0} (done : LocalAct → H → H) (name part remote : List ℕ) (window from : ℕ)
-    (attrs : Option FileAttrs) (first : H)
+    (mode : Option ℕ) (attrs : Option FileAttrs) (first : H)
     (earlier : List (CopyStep FilePut H)) (leg : CopyStep FilePut H)
-    → FollowsSteps (IsPutLeg done name part remote) (put_begun window from attrs) first earlier leg
-    → IsSentUpTo done name part remote from earlier (state_behind (put_begun window from attrs) earlier) first
+    → FollowsSteps (IsPutLeg done name part remote) (put_begun window from mode attrs) first earlier leg
+    → IsSentUpTo done name part remote from earlier (state_behind (put_begun window from mode attrs) earlier) first
     (history_behind first earlier)
-    (state_behind (put_begun window from attrs) earlier).stage
+    (state_behind (put_begun window from mode attrs) earlier).stage
     → IsSentAfter done name part remote from (leg ∷ earlier) leg.new first leg.now leg.result
-put_follows {H = H} done name part remote window from attrs first earlier leg follows so =
+put_follows {H = H} done name part remote window from mode attrs first earlier leg follows so =
     let at_state = subst (λ (p : FilePut). IsSentUpTo done name part remote from earlier p first
     (history_behind first earlier) p.stage)
     (sym follows.stood) so in
@@ -413,25 +413,25 @@ put_went_on done name part remote from legs p first now progress.Moved going so 
 put_went_on done name part remote from legs p first now (progress.Ended result) never so = absurd never
 
 put_legs : {H : Type 0} (done : LocalAct → H → H) (name part remote : List ℕ) (window from : ℕ)
-    (attrs : Option FileAttrs) (first : H)
-    (legs : List (CopyStep FilePut H)) → AreLegs (IsPutLeg done name part remote) (put_begun window from attrs) first
+    (mode : Option ℕ) (attrs : Option FileAttrs) (first : H)
+    (legs : List (CopyStep FilePut H)) → AreLegs (IsPutLeg done name part remote) (put_begun window from mode attrs) first
     legs
-    → IsSentUpTo done name part remote from legs (state_behind (put_begun window from attrs) legs) first
+    → IsSentUpTo done name part remote from legs (state_behind (put_begun window from mode attrs) legs) first
     (history_behind first legs)
-    (state_behind (put_begun window from attrs) legs).stage
-put_legs done name part remote window from attrs first [] are =
+    (state_behind (put_begun window from mode attrs) legs).stage
+put_legs done name part remote window from mode attrs first [] are =
     record { deeds = λ grant. tt; holds = refl; offset = refl; next = refl; going = refl; acts = refl }
-put_legs done name part remote window from attrs first (leg ∷ earlier) (follows, going, are) =
+put_legs done name part remote window from mode attrs first (leg ∷ earlier) (follows, going, are) =
     put_went_on done name part remote from (leg ∷ earlier) leg.new first leg.now leg.result going
-    (put_follows done name part remote window from attrs first earlier leg follows
-    (put_legs done name part remote window from attrs first earlier are))
+    (put_follows done name part remote window from mode attrs first earlier leg follows
+    (put_legs done name part remote window from mode attrs first earlier are))
 
 pub sent_whole : {H : Type 0} (done : LocalAct → H → H) (name part remote : List ℕ) (window from len : ℕ)
-    (attrs : Option FileAttrs) (first : H)
+    (mode : Option ℕ) (attrs : Option FileAttrs) (first : H)
     (earlier : List (CopyStep FilePut H)) (last : CopyStep FilePut H)
-    → IsWholeCopy (IsPutLeg done name part remote) (put_begun window from attrs) first earlier last (Ok len)
+    → IsWholeCopy (IsPutLeg done name part remote) (put_begun window from mode attrs) first earlier last (Ok len)
     → SentWhole done name part remote from len first last.now (last ∷ earlier)
-sent_whole done name part remote window from len attrs first earlier last w =
+sent_whole done name part remote window from len mode attrs first earlier last w =
     subst (λ (r : Progress). IsSentAfter done name part remote from (last ∷ earlier) last.new first last.now r) w.ended
-    (put_follows done name part remote window from attrs first earlier last w.follows
-    (put_legs done name part remote window from attrs first earlier w.legs))
+    (put_follows done name part remote window from mode attrs first earlier last w.follows
+    (put_legs done name part remote window from mode attrs first earlier w.legs))

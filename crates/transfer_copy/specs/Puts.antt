@@ -31,7 +31,7 @@ use Rattle.sftp_model.specs.declared.flags.OpenFlags.{OpenFlags}
 use Rattle.sftp_model.specs.declared.reply.Reply.{Reply}
 use Rattle.sftp_model.specs.declared.request.Request.{Request}
 use Rattle.sftp_model.specs.declared.request.Request.TheVariants as request
-use Rattle.plan_model.specs.FilePlans.{open_request}
+use Rattle.sftp_model.specs.Frames.{no_attributes}
 use Rattle.sftp_core.specs.Core.{Core}
 use Rattle.sftp_core.specs.Info.{info_of}
 use Rattle.transfer_copy.specs.declared.copy_error.CopyError.{CopyError}
@@ -127,9 +127,10 @@ abbrev pub put_is_over : PutStage → Bool
 put_is_over stage.Ended = true
 put_is_over other = false
 
--- A copy from an offset on that has asked for nothing, and that gives the file these attributes.
-abbrev pub put_begun : ℕ → ℕ → Option FileAttrs → FilePut
-put_begun window from attrs =
+-- A copy from an offset on that has asked for nothing. The part file is created with these permissions, and given these
+-- attributes after its last bytes.
+abbrev pub put_begun : ℕ → ℕ → Option ℕ → Option FileAttrs → FilePut
+put_begun window from mode attrs =
     record {
       holding = nothing_held;
       stage = stage.Starting;
@@ -137,6 +138,7 @@ put_begun window from attrs =
       at_end = false;
       offset = from;
       next = from;
+      mode = mode;
       attrs = attrs;
       failure = None;
     }
@@ -197,12 +199,17 @@ AsksAt asked to core old after new (progress.Ended (Err e)) = (after ≡ core)
     × (new ≡ record old { stage = stage.Ended })
 AsksAt asked to core old after new other = ⊥
 
+-- The OPEN of the part file for writing from an offset on. If it is created, it has these permissions, as far as the
+-- server permits them.
+abbrev pub open_part : ℕ → Option ℕ → List ℕ → Request
+open_part from mode part = request.OpenFile part (write_flags from) (record no_attributes { permissions = mode })
+
 -- The local file was opened at the offset, and then the OPEN of the part file for writing was asked. Or one of the two
 -- failed.
 abbrev pub StartsPut : {H : Type 0} → (LocalAct → H → H) → List ℕ → List ℕ → Core → FilePut → Core → FilePut → H → H
     → Progress → Type 0
 StartsPut done name part core old after new before now progress.Moved = (now ≡ done (Opened name old.offset) before)
-    × AsksAt (open_request (write_flags old.offset) part) stage.Opening core old after new progress.Moved
+    × AsksAt (open_part old.offset old.mode part) stage.Opening core old after new progress.Moved
 StartsPut done name part core old after new before now (progress.Ended (Err e)) =
     ((now ≡ done (Opened name old.offset) before) ⊎ (now ≡ done (Failed (Opened name old.offset)) before))
     × (after ≡ core)

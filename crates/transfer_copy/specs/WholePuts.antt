@@ -22,7 +22,6 @@ use Rattle.sftp_model.specs.declared.file_attrs.FileAttrs.{FileAttrs}
 use Rattle.sftp_model.specs.declared.reply.Reply.{Reply}
 use Rattle.sftp_model.specs.declared.reply.Reply.TheVariants as reply
 use Rattle.sftp_model.specs.declared.request.Request.TheVariants as request
-use Rattle.plan_model.specs.FilePlans.{open_request}
 use Rattle.sftp_core.specs.Core.{record_at, reply_in}
 use Rattle.sftp_core.specs.Grant.{GrantValue}
 use Rattle.transfer_copy.specs.Local.{Got, HasDone, LocalAct, Opened, reads_of}
@@ -32,7 +31,7 @@ use Rattle.transfer_copy.specs.declared.put.FilePut.{FilePut}
 use Rattle.transfer_copy.specs.declared.put.PutStage.TheVariants as stage
 use Rattle.transfer_copy.specs.Holdings.{AsksFile, AsksForAttrs, AsksForWrite, LetsFileGo, WasOk}
 use Rattle.transfer_copy.specs.Legs.{AnswersFirst, AreDeeds, CopyStep}
-use Rattle.transfer_copy.specs.Puts.{AsksInstead, AsksThen, PutStepDid, rename_of, rename_stage, write_flags}
+use Rattle.transfer_copy.specs.Puts.{AsksInstead, AsksThen, PutStepDid, rename_of, rename_stage, open_part}
 use Rattle.transfer_copy.specs.Refusals.{IsOkStatus}
 
 -- A step of a copy to the server.
@@ -117,7 +116,7 @@ DidWrite done (GotOk ticket) leg = ((r : Reply) × IsOkStatus r
 abbrev pub DidPut : {H : Type 0} → (LocalAct → H → H) → List ℕ → List ℕ → List ℕ → ℕ → GrantValue → PutDeed
     → CopyStep FilePut H → Type 0
 DidPut done name part remote from grant AsksOpen leg =
-    ((asks : AsksFile leg.core leg.old.holding (open_request (write_flags from) part) leg.after leg.new.holding)
+    ((asks : AsksFile leg.core leg.old.holding (open_part from leg.old.mode part) leg.after leg.new.holding)
     × (asks.ticket ≡ grant.id))
     × (leg.now ≡ done (Opened name from) leg.before)
 DidPut done name part remote from grant Opens leg = (leg.old.holding.file ≡ hold.Asked grant.id expected.Handle)

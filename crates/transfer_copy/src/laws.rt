@@ -35,8 +35,8 @@ pub fn gets_write_their_part<F: LocalFile>()
 /// count, the file was opened at the start offset and its bytes were read up to that count and to its end. In any case
 /// it was only read.
 pub fn puts_read_their_file<F: LocalFile>()
-    ensures begins { (name : List ℕ) (window from : ℕ) (attrs : Option FileAttrs) (first : F.History)
-        → SentSoFar F.done name from (put_begun window from attrs) first first put.Starting }
+    ensures begins { (name : List ℕ) (window from : ℕ) (mode : Option ℕ) (attrs : Option FileAttrs) (first : F.History)
+        → SentSoFar F.done name from (put_begun window from mode attrs) first first put.Starting }
     ensures goes { (name part remote : List ℕ) (from : ℕ) (core after : Core) (old new : FilePut) (first before now : F.History)
         (result : Progress) → MayPut core old → SentSoFar F.done name from old first before old.stage
         → PutStepDid F.done name part remote core old after new before now result old.stage
@@ -57,9 +57,9 @@ pub fn gets_are_whole<F: LocalFile>()
 /// carried by a WRITE at its offset, from the start offset up to the count. Each WRITE had OK before the file was
 /// closed.
 pub fn puts_are_whole<F: LocalFile>()
-    ensures { (name part remote : List ℕ) (window from len : ℕ) (attrs : Option FileAttrs) (first : F.History)
+    ensures { (name part remote : List ℕ) (window from len : ℕ) (mode : Option ℕ) (attrs : Option FileAttrs) (first : F.History)
         (earlier : List (CopyStep FilePut F.History)) (last : CopyStep FilePut F.History)
-        → IsWholeCopy (IsPutLeg F.done name part remote) (put_begun window from attrs) first earlier last (Ok len)
+        → IsWholeCopy (IsPutLeg F.done name part remote) (put_begun window from mode attrs) first earlier last (Ok len)
         → SentWhole F.done name part remote from len first last.now (last ∷ earlier) }
 {}
 

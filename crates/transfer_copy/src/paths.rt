@@ -3,6 +3,7 @@ ghost use Rattle.std.specs.Prelude.{◌≡◌, true, IfOk};
 ghost use Rattle.sftp_core.specs.Core.{is_call};
 ghost use Rattle.sftp_model.specs.OpenOptions.{flags_of};
 ghost use Rattle.sftp_model.specs.Answers.{expected_of};
+ghost use Rattle.sftp_model.specs.Frames.{no_attributes};
 ghost use Rattle.sftp_model.specs.declared.answers.Expected.TheVariants as expected;
 ghost use Rattle.sftp_model.specs.declared.request.Request.TheVariants as request;
 ghost use Rattle.plan_model.specs.FilePlans.{open_request};
@@ -29,13 +30,28 @@ pub(crate) fn open_request(
     ensures is { IfOk result (λ asked. asked ≡ open_request (flags_of options) name.now) }
     ensures call { IfOk result (λ asked. is_call asked ≡ true) }
 {
+    open_with(alloc, options, None, name)
+}
+
+/// Returns the OPEN of a path, with the permissions of a file that it creates, or none (draft-ietf-secsh-filexfer-02,
+/// section 6.3). Fails only if an allocation fails.
+pub(crate) fn open_with(
+    alloc: Global,
+    options: OpenOptions,
+    permissions: Option<u32>,
+    name: &str,
+) -> Result<Request, OutOfMemory>
+    ensures is { IfOk result (λ asked. asked ≡ request.OpenFile name.now (flags_of options)
+        (record no_attributes { permissions = permissions })) }
+    ensures call { IfOk result (λ asked. is_call asked ≡ true) }
+{
     Ok(Request::OpenFile {
         path: path(alloc, name)?,
         flags: options.flags(),
         attrs: FileAttrs {
             size: None,
             id: None,
-            permissions: None,
+            permissions,
             time: None,
         },
     })

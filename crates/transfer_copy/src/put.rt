@@ -3,17 +3,16 @@ ghost use Rattle.std.specs.Prelude.{◌≡◌, ◌≤◌, ◌<◌, ◌-◌, ◌^
 ghost use Rattle.sftp_core.specs.Core.{Core as CoreValue};
 ghost use Rattle.sftp_core.specs.Info.{info_of};
 ghost use Rattle.sftp_model.specs.OpenOptions.{flags_of};
-ghost use Rattle.plan_model.specs.FilePlans.{open_request};
 ghost use Rattle.transfer_copy.specs.declared.put.PutStage.TheVariants as stage;
 ghost use Rattle.transfer_copy.specs.Holdings.{SparesIds, drops_file, drops_parts, nothing_held};
-ghost use Rattle.transfer_copy.specs.Puts.{AcceptsWrite, AsksAt, IsBehindWrite, IsOpenToWrite, IsPutting, MayPut, OpensPut, PutAsksAttrs, PutEndsSending, PutStepDid, PutFinishes, PutGivesUp, PutHasEnded, PutLeaves, PutReadsNext, PutSendsOn, StartsPut, PutWritesNext, WritesOn, put_begun, put_is_over, write_flags};
+ghost use Rattle.transfer_copy.specs.Puts.{AcceptsWrite, AsksAt, IsBehindWrite, IsOpenToWrite, IsPutting, MayPut, OpensPut, open_part, PutAsksAttrs, PutEndsSending, PutStepDid, PutFinishes, PutGivesUp, PutHasEnded, PutLeaves, PutReadsNext, PutSendsOn, StartsPut, PutWritesNext, WritesOn, put_begun, put_is_over, write_flags};
 
 mod end;
 
 use crate::LocalFile;
 use crate::copy_error::CopyError;
 use crate::holding::{FileAnswer, Holding, PartAnswer};
-use crate::paths::open_request;
+use crate::paths::open_with;
 use crate::progress::Progress;
 use crate::refusals::{faulted, refused, settled};
 use bytes::Bytes;
@@ -62,6 +61,7 @@ pub struct FilePut {
     at_end: bool,
     offset: u64,
     next: u64,
+    mode: Option<u32>,
     attrs: Option<FileAttrs>,
     failure: Option<CopyError>,
 }
@@ -79,9 +79,16 @@ fn write_options(from: u64) -> OpenOptions
 impl FilePut {
     /// Returns a copy that has asked for nothing, with at most `window` WRITEs in flight, and at least one. It starts
     /// at the offset `from`: the part file has this many bytes. If `from` is 0, the part file is created or truncated.
-    /// The part file is given these attributes before it is closed.
-    pub fn new(alloc: Global, window: u32, from: u64, attrs: Option<FileAttrs>) -> FilePut
-        ensures new { result ≡ put_begun window from attrs }
+    /// If it is created, it has the permissions `mode`, as far as the server permits them. The part file is given the
+    /// attributes before it is closed.
+    pub fn new(
+        alloc: Global,
+        window: u32,
+        from: u64,
+        mode: Option<u32>,
+        attrs: Option<FileAttrs>,
+    ) -> FilePut
+        ensures new { result ≡ put_begun window from mode attrs }
         ensures may { (core : CoreValue) → IsSome (info_of core.phase) → MayPut core result }
     {
         FilePut {
@@ -91,6 +98,7 @@ impl FilePut {
             at_end: false,
             offset: from,
             next: from,
+            mode,
             attrs,
             failure: None,
         }
@@ -160,6 +168,7 @@ impl FilePut {
             at_end: _,
             offset: _,
             next: _,
+            mode: _,
             attrs: _,
             failure: _,
         } = self;
@@ -193,11 +202,12 @@ impl FilePut {
     /// Asks for the part file to be opened.
     fn ask_open(&mut self, core: &mut Core, part: &str) -> Progress
         requires { MayPut core.old self.old × (self.old.stage ≡ stage.Starting) }
-        ensures did { AsksAt (open_request (write_flags self.old.offset) part.now) stage.Opening core.old self.old core.new self.new result }
+        ensures did { AsksAt (open_part self.old.offset self.old.mode part.now) stage.Opening core.old self.old core.new self.new result }
         ensures leaves { PutLeaves core.old self.old core.new self.new }
         ensures ended { PutHasEnded self.new.stage result }
     {
-        let request = match open_request(core.alloc(), write_options(self.offset), part) {
+        let options = write_options(self.offset);
+        let request = match open_with(core.alloc(), options, self.mode, part) {
             Ok(request) => request,
             Err(OutOfMemory) => {
                 self.stage = PutStage::Ended;

@@ -89,7 +89,7 @@ whole_put : {F H : Type 0} (done : LocalAct → H → H) (history : F → H) (wi
     (earlier : List (CopyStep FilePut H)) (last : CopyStep FilePut H)
     → IsWholeCopy (IsPutLeg done (string_bytes wanted.job.from) (string_bytes wanted.job.part)
     (string_bytes wanted.job.to))
-    (put_begun window wanted.job.begins_at wanted.job.attrs) (history wanted.local) earlier last copied.result
+    (put_begun window wanted.job.begins_at wanted.job.mode wanted.job.attrs) (history wanted.local) earlier last copied.result
     → last.now ≡ history copied.local → AreInOrderAmong (legs_of state.Put wanted.job (last ∷ earlier)) all
     → HasPut done history window all wanted copied
 whole_put {H = H} done history window all wanted copied earlier last whole told among =
@@ -104,10 +104,10 @@ whole_put {H = H} done history window all wanted copied earlier last whole told 
       among = among;
       sent = λ len is. subst (λ (h : H). SentWhole done from part to wanted.job.begins_at len (history wanted.local) h
           (last ∷ earlier)) told
-          (sent_whole done from part to window wanted.job.begins_at len wanted.job.attrs (history wanted.local) earlier
+          (sent_whole done from part to window wanted.job.begins_at len wanted.job.mode wanted.job.attrs (history wanted.local) earlier
           last
           (subst (λ (r : Result ℕ CopyError). IsWholeCopy (IsPutLeg done from part to)
-          (put_begun window wanted.job.begins_at wanted.job.attrs)
+          (put_begun window wanted.job.begins_at wanted.job.mode wanted.job.attrs)
           (history wanted.local) earlier last r) is whole));
     }
 
@@ -220,7 +220,7 @@ begun_copying : {F H : Type 0} (done : LocalAct → H → H) (history : F → H)
     (wanted : Wanted F) (w : Direction)
     → wanted.job.way ≡ w
     → IsCopyingBy done history window all wanted wanted.local (copy_begun w window wanted.job.begins_at
-    wanted.job.attrs)
+    wanted.job.mode wanted.job.attrs)
 begun_copying done history window all wanted way.Get is =
     record { earlier = []; legs = tt; stands = refl; now = refl; among = tt; way_is = is }
 begun_copying done history window all wanted way.Put is =

@@ -60,8 +60,8 @@ pub record IsPuttingBy {F H : Type 0} (done : LocalAct → H → H) (history : F
   pub earlier : List (CopyStep FilePut H)
   pub legs : AreLegs (IsPutLeg done (string_bytes wanted.job.from) (string_bytes wanted.job.part)
       (string_bytes wanted.job.to))
-      (put_begun window wanted.job.begins_at wanted.job.attrs) (history wanted.local) earlier
-  pub stands : p ≡ state_behind (put_begun window wanted.job.begins_at wanted.job.attrs) earlier
+      (put_begun window wanted.job.begins_at wanted.job.mode wanted.job.attrs) (history wanted.local) earlier
+  pub stands : p ≡ state_behind (put_begun window wanted.job.begins_at wanted.job.mode wanted.job.attrs) earlier
   pub now : history local ≡ history_behind (history wanted.local) earlier
   pub among : AreInOrderAmong (legs_of state.Put wanted.job earlier) all
   pub way_is : wanted.job.way ≡ way.Put
@@ -204,7 +204,7 @@ pub put_follows : {F H : Type 0} (done : LocalAct → H → H) (history : F → 
     → job ≡ wanted.job → CopyStepDid done job core (state.Put p) after (state.Put q) (history old) (history new) result
     → FollowsSteps (IsPutLeg done (string_bytes wanted.job.from) (string_bytes wanted.job.part)
     (string_bytes wanted.job.to))
-    (put_begun window wanted.job.begins_at wanted.job.attrs) (history wanted.local) so.earlier
+    (put_begun window wanted.job.begins_at wanted.job.mode wanted.job.attrs) (history wanted.local) so.earlier
     (record { core = core; old = p; before = history old; after = after; new = q; now = history new; result = result })
 put_follows done history window all wanted job core after p q old new result so is did = record {
   did = subst (λ (j : CopyJob). CopyStepDid done j core (state.Put p) after (state.Put q) (history old) (history new)

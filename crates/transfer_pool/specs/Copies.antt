@@ -51,13 +51,13 @@ use Rattle.transfer_args.specs.declared.asked.Direction.TheVariants as way
 -- ---- One copy
 
 -- A copy from an offset on that has asked for nothing. A copy to the server gives the file attributes.
-abbrev pub copy_begun : Direction → ℕ → ℕ → Option FileAttrs → CopyState
-copy_begun way.Get window from attrs = state.Get (get_begun window from)
-copy_begun way.Put window from attrs = state.Put (put_begun window from attrs)
+abbrev pub copy_begun : Direction → ℕ → ℕ → Option ℕ → Option FileAttrs → CopyState
+copy_begun way.Get window from mode attrs = state.Get (get_begun window from)
+copy_begun way.Put window from mode attrs = state.Put (put_begun window from mode attrs)
 
 -- The copy of a job, at its start.
 abbrev pub job_begun : CopyJob → ℕ → CopyState
-job_begun job window = copy_begun job.way window job.begins_at job.attrs
+job_begun job window = copy_begun job.way window job.begins_at job.mode job.attrs
 
 -- The entries that it has in the core.
 abbrev pub holding_of : CopyState → HoldingValue

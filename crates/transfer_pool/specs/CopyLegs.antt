@@ -143,7 +143,7 @@ pub record HasPut {F H : Type 0} (done : LocalAct → H → H) (history : F → 
   pub last : CopyStep FilePut H
   pub whole : IsWholeCopy
       (IsPutLeg done (string_bytes wanted.job.from) (string_bytes wanted.job.part) (string_bytes wanted.job.to))
-      (put_begun window wanted.job.begins_at wanted.job.attrs) (history wanted.local) earlier last copied.result
+      (put_begun window wanted.job.begins_at wanted.job.mode wanted.job.attrs) (history wanted.local) earlier last copied.result
   pub told : last.now ≡ history copied.local
   pub among : AreInOrderAmong (legs_of state.Put wanted.job (last ∷ earlier)) all
   pub sent : (len : ℕ) → copied.result ≡ Ok len → SentWhole done (string_bytes wanted.job.from)

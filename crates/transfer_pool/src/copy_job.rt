@@ -23,6 +23,8 @@ pub struct CopyJob {
     /// The number of bytes that the part file has already; the copy continues after them. With 0 the part file is
     /// created or truncated.
     pub begins_at: u64,
+    /// The permissions with which the part file is created, if they are known; the umask of its side may remove some.
+    pub mode: Option<u32>,
     /// The attributes that a file of the server is given before it is closed, if the copy is one to the server.
     pub attrs: Option<FileAttrs>,
 }
@@ -59,21 +61,22 @@ pub struct Copied<F> {
 }
 
 impl CopyState {
-    /// Returns a copy from an offset on that has asked for nothing. A copy to the server gives the file these
-    /// attributes.
+    /// Returns a copy from an offset on that has asked for nothing. A copy to the server creates the part file with
+    /// these permissions, and gives it these attributes.
     pub(crate) fn new(
         alloc: Global,
         way: Direction,
         window: u32,
         begins_at: u64,
+        mode: Option<u32>,
         attrs: Option<FileAttrs>,
     ) -> CopyState
-        ensures new { result ≡ copy_begun way window begins_at attrs }
+        ensures new { result ≡ copy_begun way window begins_at mode attrs }
         ensures may { (core : CoreValue) → IsSome (info_of core.phase) → MayStepCopy core result }
     {
         match way {
             Direction::Get => CopyState::Get(FileGet::new(alloc, window, begins_at)),
-            Direction::Put => CopyState::Put(FilePut::new(alloc, window, begins_at, attrs)),
+            Direction::Put => CopyState::Put(FilePut::new(alloc, window, begins_at, mode, attrs)),
         }
     }
 

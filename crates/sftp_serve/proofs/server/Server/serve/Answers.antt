@@ -1,4 +1,4 @@
-use Rattle.std.proofs.Common.{◌<◌, arith}
+use Rattle.std.proofs.Common.{arith}
 use Rattle.machine_answers.proofs.ReplyLaws.{may_reply}
 use Rattle.sftp_serve.specs.Stream.{every_choice}
 use Rattle.sftp_serve.proofs.Fitting.{within_cap}
