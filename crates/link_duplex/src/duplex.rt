@@ -1,12 +1,12 @@
 //! The link of which neither direction waits for the other.
-ghost use Rattle.std.specs.Prelude.{◌≡◌, ◌<◌, ◌-◌, ◌^◌, [], length, false, max};
+ghost use Rattle.std.specs.Prelude.{◌≡◌, ◌<◌, ◌≤◌, ◌-◌, ◌^◌, [], length, false, max, OnOk};
 ghost use Rattle.sftp_link.specs.Moves.{HasReceived, HasSent};
 ghost use Rattle.link_duplex.specs.Duplex.{FlushDid, GivesAheadFirst, ReadsNow, RecvDid, SendDid, TakesTurn, IsNeededReadiness, duplex_view};
 
 use crate::puts::put_some;
 use crate::read_ahead::{GetOutcome, ReadAhead, STEP};
 use crate::wire::{Readiness, Wire};
-use crate::write_behind::WriteBehind;
+use crate::write_behind::{MAX_BEHIND, WriteBehind};
 use sftp_link::{DeviceError, Link, LinkIn, LinkOut, LinkState};
 use std::alloc::Global;
 use std::marker::Model;
@@ -160,7 +160,7 @@ impl<W: Wire> LinkState for DuplexLink<W> {
 
 impl<W: Wire> LinkOut for DuplexLink<W> {
     /// Holds the bytes back if there is room for them. Otherwise puts the bytes held back before, and then some of
-    /// these. Bytes that come meanwhile are read ahead.
+    /// these. Bytes that come meanwhile are read ahead. At most 65536 bytes are held back afterwards.
     ///
     /// # Errors
     ///
@@ -171,6 +171,7 @@ impl<W: Wire> LinkOut for DuplexLink<W> {
         ensures sends { HasSent (Unit {0}) bytes.now (duplex_view W.state self.old)
             (duplex_view W.state self.new) result }
         ensures did { SendDid W.state bytes.now self.old self.new result }
+        ensures held { OnOk result (length self.new.behind ≤ MAX_BEHIND) }
     {
         self.ended = false;
         if self.behind.has_room(bytes.len()) {

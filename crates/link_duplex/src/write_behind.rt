@@ -1,5 +1,5 @@
 //! Bytes that the caller sent and that were not put yet.
-ghost use Rattle.std.specs.Prelude.{◌≡◌, ◌<◌, ◌≤◌, ◌-◌, ◌^◌, ◌++◌, [], length, drop, OnOk, OnErr};
+ghost use Rattle.std.specs.Prelude.{◌≡◌, ◌<◌, ◌≤◌, ◌+◌, ◌-◌, ◌^◌, ◌++◌, [], length, drop, true, OnOk, OnErr};
 ghost use Rattle.link_duplex.specs.Buffers.{PutsAll, PutsAtOnce};
 
 use crate::puts::put_some;
@@ -10,7 +10,7 @@ use std::alloc::{AllocError, Global};
 use std::marker::Model;
 
 /// The most bytes that are held back.
-const MAX_BEHIND: usize = 65536;
+pub(crate) const MAX_BEHIND: usize = 65536;
 
 /// Bytes that were sent and not put yet. A contract sees these bytes.
 #[derive(Drop)]
@@ -41,7 +41,9 @@ impl WriteBehind {
     }
 
     /// Returns true if this many bytes may be held back in addition.
-    pub(crate) fn has_room(&self, more: usize) -> bool {
+    pub(crate) fn has_room(&self, more: usize) -> bool
+        ensures { result ≡ true → length self.now + more ≤ MAX_BEHIND }
+    {
         self.bytes.len() <= MAX_BEHIND && more <= MAX_BEHIND - self.bytes.len()
     }
 

@@ -26,7 +26,6 @@ use Rattle.std.specs.Prelude.{
   Result,
   Ok,
   Err,
-  IsSome,
   if◌then◌else◌,
 }
 use Rattle.sftp_model.specs.Answers.{allows_reply}
@@ -157,12 +156,18 @@ BeginsRead len old new p q (poll.Ready (Err (error.IOError kind.OffsetOverflow))
     × IsLeft old new p q
 BeginsRead len old new p q (poll.Ready (Err other)) = ⊥
 
--- The relation of a look at the reply to the READ: its bytes are copied to the end of the buffer.
+-- This reply brought bytes.
+abbrev pub BringsBytes : Option Reply → Type 0
+BringsBytes (Some (reply.Content bytes)) = Unit {0}
+BringsBytes other = ⊥
+
+-- The relation of a look at the reply to the READ: its bytes are copied to the end of the buffer, for which an
+-- allocation may fail.
 abbrev pub LooksAtRead : Core → CompatValue → CompatValue → Poll (Result (Unit {0}) Error) → Type 0
 LooksAtRead core p q poll.Pending = (read_reply core p.reading ≡ None) × (core.fault ≡ None) × (q ≡ p)
 LooksAtRead core p q (poll.Ready (Ok u)) = (r : Reply) × (read_reply core p.reading ≡ Some r)
     × (q ≡ with_bytes_appended r p)
-LooksAtRead core p q (poll.Ready (Err error.OutOfMemory)) = IsSome (read_reply core p.reading) × (q ≡ p)
+LooksAtRead core p q (poll.Ready (Err error.OutOfMemory)) = BringsBytes (read_reply core p.reading) × (q ≡ p)
 LooksAtRead core p q (poll.Ready (Err (error.BackgroundTaskFailure fault))) = (read_reply core p.reading ≡ None)
     × (core.fault ≡ Some fault) × (q ≡ p)
 LooksAtRead core p q (poll.Ready (Err other)) = ⊥
@@ -187,7 +192,8 @@ pub record BeginsFill (len : ℕ) (old new : Core) (p q : CompatValue) (result :
 -- If a READ is under way, its reply is looked at, and taken.
 abbrev pub AwaitsFill : Core → Core → CompatValue → CompatValue → Poll (Result (Unit {0}) Error) → Type 0
 AwaitsFill old new p q poll.Pending = (read_reply old p.reading ≡ None) × (old.fault ≡ None) × IsLeft old new p q
-AwaitsFill old new p q (poll.Ready (Err error.OutOfMemory)) = IsSome (read_reply old p.reading) × IsLeft old new p q
+AwaitsFill old new p q (poll.Ready (Err error.OutOfMemory)) = BringsBytes (read_reply old p.reading)
+    × IsLeft old new p q
 AwaitsFill old new p q (poll.Ready (Err (error.BackgroundTaskFailure fault))) = (read_reply old p.reading ≡ None)
     × (old.fault ≡ Some fault) × IsLeft old new p q
 AwaitsFill old new p q (poll.Ready value) = TookRead old new p q value
@@ -211,13 +217,14 @@ pub record BeganRead (plan : Plan) (answers : Answers) (old new : Core) (p q : C
   pub left : q ≡ with_read p len ticket
   pub lane : lane_of q ≡ cancelled_buf_read 0 (lane_of p) (facts_of old) ((p.place, read_behind p len) ∷ []) answers
 
--- No READ is under way, or its reply came.
+-- No READ is under way, or its reply came and brought bytes.
 abbrev pub CanReadOn : Core → Option ReadUnderWay → Type 0
-CanReadOn core read = (read ≡ None) ⊎ IsSome (read_reply core read)
+CanReadOn core read = (read ≡ None) ⊎ BringsBytes (read_reply core read)
 
 -- The poll made the next move of this plan, for any replies to come. The file may be polled further, and others find
 -- the core as it was. `Pending` comes if the plan waits and nothing changed, and if its READ was submitted. Running out
--- of memory and a recorded fault leave core and file as they were. A missing reply is never reported as out of memory.
+-- of memory and a recorded fault leave core and file as they were. Neither a missing reply nor a status is ever
+-- reported as out of memory.
 pub record ReadsTo {V : Type 0} (plan : Plan) (o : V → Outcome) (old new : Core) (p q : CompatValue)
     (result : Poll (Result V Error)) : Type 0 where
   pub polled : (answers : Answers) → DefersWrites old p answers
