@@ -21,7 +21,6 @@ module _ {G : Ghosts Locked} (z : TableId) where
   all_of [] each = tt
   all_of (s ∷ ss) each = (each 0 s (omega arith), all_of ss (λ i d less. each (suc i) d (omega (arith, less))))
 
-  pub all_snoc : (seats : List (Seat Locked G)) (s : Seat Locked G) → AllOf z seats → s.inner.table_id ≡ z
-      → AllOf z (seats ++ s ∷ [])
-  all_snoc [] s all one = (one, tt)
-  all_snoc (x ∷ xs) s all one = (all.0, all_snoc xs s all.1 one)
+  pub all_append : (seats others : List (Seat Locked G)) → AllOf z seats → AllOf z others → AllOf z (seats ++ others)
+  all_append [] others all more = more
+  all_append (s ∷ ss) others all more = (all.0, all_append ss others all.1 more)

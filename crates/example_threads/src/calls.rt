@@ -11,14 +11,12 @@ ghost use Rattle.session_threads.specs.Running.{AllReady, IsReady};
 use crate::receipts::are_receipts_of;
 use crate::socket::{connect, reason};
 use session_threads::{
-    Crew, Halves, SharedRun, Signals, Stop, open_session, run_home, run_reader, run_sender, spend,
-    spend_crew, start, stop,
+    Crew, Halves, SharedRun, Signals, Stop, open_session, run_home, run_reader, run_sender,
+    spend_refused, start, stop,
 };
 use sftp_link::UnixLink;
 use sftp_model::Outcome;
-use sftp_tasks::{
-    Call, Error, Lane, NotClosed, Seat, SftpOptions, SharedReport, SharedSftp, lanes_ok,
-};
+use sftp_tasks::{Call, Error, Lane, Seat, SftpOptions, SharedReport, SharedSftp, lanes_ok};
 use sftp_values::{ByteText, Items};
 use std::alloc::{AllocError, Global};
 use std::net::Net;
@@ -204,7 +202,9 @@ fn run_threads<S: Stop + Sync, R: Threads + Wait + Clock + Sync>(
     requires crew { (hello : Reply) × IsCrew hello run.now.shared.shared.table.shared.table_id crew.old }
     requires counts { (out.old.faults < 2 ^ 64 - 1) × (input.old.faults < 2 ^ 64 - 1) }
     ensures lanes { AllOf run.now.shared.shared.table.shared.table_id crew.new.lanes.items }
-    ensures others { (crew.new.home.inner.table_id ≡ run.now.shared.shared.table.shared.table_id) × (crew.new.sender.inner.table_id ≡ run.now.shared.shared.table.shared.table_id) × (crew.new.reader.inner.table_id ≡ run.now.shared.shared.table.shared.table_id) }
+    ensures others { (crew.new.home.inner.table_id ≡ run.now.shared.shared.table.shared.table_id)
+        × (crew.new.sender.inner.table_id ≡ run.now.shared.shared.table.shared.table_id)
+        × (crew.new.reader.inner.table_id ≡ run.now.shared.shared.table.shared.table_id) }
 {
     let Crew {
         home,
@@ -219,7 +219,9 @@ fn run_threads<S: Stop + Sync, R: Threads + Wait + Clock + Sync>(
     let mut others = || -> Result<(), Error>
         requires { IsSync R.row × IsSync S.row × (reader.now.inner.table_id ≡ run.now.shared.shared.table.shared.table_id) × (input.now.faults < 2 ^ 64 - 1)
             × IsReady run.now.shared.shared.table.shared.table_id home.now × AllReady run.now.shared.shared.table.shared.table_id lanes.now.items }
-        ensures { (reader.exit.now.inner.table_id ≡ run.entry.now.shared.shared.table.shared.table_id) × (home.exit.now.inner.table_id ≡ run.entry.now.shared.shared.table.shared.table_id) × AllOf run.entry.now.shared.shared.table.shared.table_id lanes.exit.now.items }
+        ensures { (reader.exit.now.inner.table_id ≡ run.entry.now.shared.shared.table.shared.table_id)
+            × (home.exit.now.inner.table_id ≡ run.entry.now.shared.shared.table.shared.table_id)
+            × AllOf run.entry.now.shared.shared.table.shared.table_id lanes.exit.now.items }
     { run_others(rt, run, reader, input, home, lanes) };
     let (sent, got) = thread::join_mut(rt, &mut send, &mut others);
     sent.is_ok() && got.is_ok()
@@ -231,32 +233,12 @@ fn close<R: Wait>(rt: &R, shared: SharedSftp, crew: Crew) -> Result<SharedReport
     requires others { (crew.home.inner.table_id ≡ shared.shared.table.shared.table_id) × (crew.sender.inner.table_id ≡ shared.shared.table.shared.table_id)
         × (crew.reader.inner.table_id ≡ shared.shared.table.shared.table_id) }
 {
-    let mut crew = crew;
-    if crew.lanes.reserve(2).is_err() {
-        spend_crew(crew);
+    let Ok((first, others)) = crew.into_seats() else {
         return Err("no memory");
-    }
-    let Crew {
-        home,
-        lanes,
-        sender,
-        reader,
-    } = crew;
-    let mut others = lanes;
-    others.push_reserved(sender);
-    others.push_reserved(reader);
-    match shared.close(rt, home, others) {
+    };
+    match shared.close(rt, first, others) {
         Ok(report) => Ok(report),
-        Err(refused) => {
-            let NotClosed {
-                error,
-                seat,
-                others,
-            } = refused;
-            drop(seat.into_receipts());
-            spend(others);
-            Err(reason(error))
-        }
+        Err(refused) => Err(reason(spend_refused(refused))),
     }
 }
 

@@ -113,7 +113,7 @@ having_one n (c ∷ cs) distinct has = dite (ℕ_discrete n c.number)
     let rest = having_one n cs distinct.1 (⊎_elim (λ (is : c.number ≡ n). absurd (apart (sym is)))
     (λ (h : HasNumber n cs). h) has) in omega arith)
 
--- each place of a log stands in one list, once, where the claims are of all seats
+-- each place of a log is in one list, once, if the claims are of all seats
 once : (seats : List SeatName) (cs : List Claim) → AreDistinctClaims cs → ((n : ℕ) → n < length seats → HasNumber n cs)
     → (log : List Stamp) → AllNamed seats log → CoversPlacesOnce (length log) (lists log cs)
 once seats cs distinct all [] named k less = absurd (omega arith)
@@ -179,7 +179,7 @@ lists_of : {S : Type 0} {G : Ghosts S} (now : Sight) (seats : List (Seat S G)) �
 lists_of now [] = refl
 lists_of now (s ∷ ss) = ap (λ (l : List (List Receipt)). own (claim_by s).number now.log ∷ l) (lists_of now ss)
 
--- where none of the seats is missing, each place of the journal stands in one list, once
+-- if none of the seats is missing, each place of the journal is in one list, once
 pub covers : {S : Type 0} {G : Ghosts S} (shown : S → Shown) (seats : List (Seat S G)) (r : Ended S)
     → Closes shown seats r → HasAllSeats (claims_of seats) → CoversEntries shown r
 covers shown seats r closes complete =

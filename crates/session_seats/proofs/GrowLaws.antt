@@ -127,7 +127,7 @@ all_weaker : (P Q : Entry → Bool) → ((e : Entry) → P e ≡ true → Q e �
 all_weaker P Q f k [] h = tt
 all_weaker P Q f k (r ∷ rs) h = (h.0, f r.entry h.1, all_weaker P Q f k rs h.2)
 
--- where less was added than is said
+-- with a weaker test
 pub grew_weaker : (P Q : Entry → Bool) → ((e : Entry) → P e ≡ true → Q e ≡ true) → (c d : Claim) → AddsEntries P c d
     → AddsEntries Q c d
 grew_weaker P Q f c d h = record {
@@ -151,7 +151,7 @@ only_all only lane (e ∷ es) h =
     all_true true b p q = q
     all_true false b p q = p
 
--- what an event adds passes its test
+-- the entries that an event adds pass its test
 pub grew_applied : {S X E : Type 0} (shown : S → Shown) {Does : S → S → Type 0} {copied : Result X E}
     {old new : List Receipt}
     (only : Option ℕ → Entry → Bool) (lane : Option ℕ) (needs : Allowance) (m n : Me S View)

@@ -105,7 +105,7 @@ pub tie : {S : Type 0} (shown : S → Shown) (m p : Me S View) (h : HasTaken sho
 tie {S} shown m p h y is = ap (λ (l : List (ℕ × S)). (get_or l 0 (0, h.value)).1)
     (sym (ap (λ (x : Me S View). x.1) h.is) ∙ is)
 
--- ---- who made what was added
+-- ---- the maker of the entries that were added
 
 pub both_true : (b c : Bool) → b && c ≡ true → (b ≡ true) × (c ≡ true)
 both_true true c h = (refl, h)
@@ -293,7 +293,7 @@ oldest journal more old is =
     whole : journal ≡ reverse old ++ reverse more
     whole = sym (reverse-reverse journal) ∙ ap reverse is ∙ reverse-append more old
 
--- the threads that what was added concerns
+-- the threads that the new entries concern
 pub concerned_on : (journal more old : List Entry) (from : ℕ) (before before' after after' : Tide) → reverse journal
     ≡ more ++ old → from ≡ length old → before ≡ before' → after ≡ after'
     → concerns before after (reverse (drop from journal)) (reverse (take from journal))
@@ -305,7 +305,7 @@ concerned_on journal more old from before before' after after' is at was then =
     ∙ ap reverse (oldest journal more old is) ∙ reverse-reverse old in
     λ i. concerns (was i) (then i) (added i) (there i)
 
--- the receipts of what was added
+-- the receipts of the new entries
 pub receipts_on : (journal more old : List Entry) (from : ℕ) → reverse journal ≡ more ++ old → from ≡ length old
     → made_from from (drop from journal) ≡ made_on (length old) more
 receipts_on journal more old from is at =

@@ -147,7 +147,7 @@ length-stamped : (n : ℕ) (es : List Entry) (log : List Stamp) → length (map 
 length-stamped n [] log = omega arith
 length-stamped n (e ∷ es) log = let r = length-stamped n es log in omega arith
 
--- the entries of another seat change nothing of what a seat made
+-- the entries of another seat leave those that a seat made
 pub own-others : (n m : ℕ) (es : List Entry) (log : List Stamp) → n ≢ m → own m (map (stamp n) es ++ log) ≡ own m log
 own-others n m [] log ne = refl
 own-others n m (e ∷ es) log ne =
@@ -155,7 +155,7 @@ own-others n m (e ∷ es) log ne =
     own m (map (stamp n) es ++ log)) (ne_eqb n m ne)
     ∙ own-others n m es log ne
 
--- a seat's own entries come behind its receipts
+-- a seat's own entries come after its receipts
 pub own-mine : (n : ℕ) (es : List Entry) (log : List Stamp) → own n (map (stamp n) es ++ log) ≡ own n log
     ++ made_on (length log) es
 own-mine n [] log = sym (append-nil (own n log))
@@ -207,7 +207,7 @@ pub named-append : (seats : List SeatName) (more log : List Stamp) → AllNamed 
 named-append seats [] log h g = g
 named-append seats (s ∷ ss) log h g = (h.0, named-append seats ss log h.1 g)
 
--- a seat that another one gave changes nothing of what a seat gave
+-- a seat that another one gave leaves those that a seat gave
 pub gave-others : (n m : ℕ) (lane : Option ℕ) (seats : List SeatName) → n ≢ m
     → seats_given_by m (seat_name n lane ∷ seats) ≡ seats_given_by m seats
 gave-others n m lane seats ne = ap (λ b. if b then seats_given_by m seats ++ length seats ∷ [] else

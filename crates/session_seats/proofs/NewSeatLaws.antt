@@ -142,7 +142,7 @@ looked shown m p n h z is rel =
       },
     )
 
--- what was looked at is what was taken
+-- the value that was looked at is the one that was taken
 pub looked_at : {S : Type 0} (shown : S → Shown) (m p n : Me S View) (h : HasTaken shown m p) (z : S) → shown z
     ≡ shown h.value → Releases shown (p.0, (0, z) ∷ rest p.1) n
     → (l : Looks shown m n) × (l.before ≡ h.value)
@@ -367,7 +367,7 @@ seat_keeps shown m n (Some a) token named P Q lane receipts given none =
     gives_keeps shown true m n (token a) lane receipts given.0.gives
 seat_keeps shown m n None token named P Q lane receipts given none = looks_keeps shown m n lane receipts none.looks
 
--- and what share the seat has that gave it, or looked for a lane
+-- and the share of the seat that gave it, or looked for a lane
 pub seat_shares : {S A : Type 0} (shown : S → Shown) (m n : Me S View) (o : Option A) (token : A → Me S View)
     (named : A → Option ℕ) (P Q : A → Type 0)
     → IfSome o (λ a. GivesLane shown (named a) m n (token a) × P a × Q a) → IfNone o (HasNone shown m n)

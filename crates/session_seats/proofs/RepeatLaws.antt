@@ -19,7 +19,7 @@ entries_on : (n : ℕ) (more : List Entry) (log : List Stamp) → entries (map (
 entries_on n [] log = refl
 entries_on n (e ∷ more) log = ap (λ (l : List Entry). e ∷ l) (entries_on n more log)
 
--- the seat has seen what the value shows after the hold
+-- the seat has seen the value as it is after the hold
 module _ {S : Type 0} (shown : S → Shown) {Did : S → S → List Entry → Type 0} (m n : Me S View) (h : Hold shown Did m n)
   where
     pub sees_past : entries (sight_by n).log ≡ (shown h.after).past

@@ -115,7 +115,7 @@ mine_fits now whose seat d mine there sight = record {
 }
 
 module _ {S : Type 0} (shown : S → Shown) where
-  -- where a seat has the right, the value is out
+  -- if a seat has the right, the value is out
   pub is_out : (s : State S View) (k : Kept shown s) (seat : ℕ) (v : View) → v.right ≡ true → get_elem? s.views seat
       ≡ some v → IsOut s
   is_out s k seat v right at = ⊎_elim (λ (h : IsHome shown k.now k.users s). absurd
@@ -282,7 +282,7 @@ module _ {S : Type 0} (shown : S → Shown) where
 
 -- ---- the value goes back
 
--- a claim stays right where entries of another seat come in front
+-- a claim stays right if entries of another seat come in front
 module _ (now : Sight) (y : Shown) (n : ℕ) (es : List Entry) where
   abbrev pub later_log : Sight
   later_log = sight_of y (map (stamp n) es ++ now.log) now.seats

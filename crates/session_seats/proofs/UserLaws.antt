@@ -47,7 +47,7 @@ module _ {S : Type 0} (shown : S → Shown) (m p : Me S View) (h : HasTaken show
   stage_is : (shown z).counts.stage ≡ k
   stage_is = ap (λ (x : Shown). x.counts.stage) is
 
-  -- ---- it may go back
+  -- ---- the value may be given back
 
   module _ (up : y.counts.stage ≤ k) (within : y.users ≤ (claim_of m).share + u) (ends : FitsStage k u) where
     may : MayRelease mine y.users (shown z)
@@ -92,7 +92,7 @@ module _ {S : Type 0} (shown : S → Shown) (m p : Me S View) (h : HasTaken show
       may = may;
     }
 
-  -- ---- the seat after it
+  -- ---- the seat after the hold
 
   abbrev pub after : Claim
   after = claim_with_entries (shown z) y.users mine
@@ -123,7 +123,7 @@ module _ {S : Type 0} (shown : S → Shown) (m p : Me S View) (h : HasTaken show
 
 module _ {S : Type 0} (shown : S → Shown) (m p : Me S View) (h : HasTaken shown m p) (some : 0 < (claim_of m).share)
   where
-    -- there is a user, and the end has not begun
+    -- there is a user, and the end has not started
     pub can_leave : (0 < (shown h.value).users) × ((shown h.value).counts.stage ≡ 0)
     can_leave = let has = h.took.share in (omega arith, not_begun (shown h.value).counts.stage refl)
       where
@@ -167,7 +167,7 @@ module _ {S : Type 0} (shown : S → Shown) (m p : Me S View) (h : HasTaken show
             later = later_after shown m p h z u (one_if last) is n rel (omega arith);
           }
 
--- ---- what the seat keeps
+-- ---- the name and the receipts of the seat
 
 pub leaves_keeps : {S : Type 0} (shown : S → Shown) (last : Bool) (m n : Me S View) (lane : Option ℕ)
     (receipts : List Receipt) → Leaves shown last m n

@@ -1,5 +1,38 @@
 -- The threads that a hold concerns, and their counts.
-use Rattle.std.proofs.Common.{◌≡◌, ◌≤◌, ◌<◌, ℕ, suc, ◌+◌, ◌==◌, List, [], ◌∷◌, ◌++◌, map, length, take, drop, Bool, true, false, ◌||◌, refl, sym, ap, ◌∙◌, subst, arith, true≢false, eqb-true, ne_eqb, get_or, set, if◌then◌else◌, length-take}
+use Rattle.std.proofs.Common.{
+  ◌≡◌,
+  ◌≤◌,
+  ◌<◌,
+  ℕ,
+  suc,
+  ◌+◌,
+  ◌==◌,
+  List,
+  [],
+  ◌∷◌,
+  ◌++◌,
+  map,
+  length,
+  take,
+  drop,
+  Bool,
+  true,
+  false,
+  ◌||◌,
+  refl,
+  sym,
+  ap,
+  ◌∙◌,
+  subst,
+  arith,
+  true≢false,
+  eqb-true,
+  ne_eqb,
+  get_or,
+  set,
+  if◌then◌else◌,
+  length-take,
+}
 use Rattle.std.proofs.lemmas.Bool.Decides.{nat_tests}
 use Rattle.std.proofs.lemmas.List.{drop-append-le, length-set, reverse-append, take-append-drop, take-append-le, take_all, take_more}
 use Rattle.std.specs.Prelude.{zero, Option, Some, None, slice_get, reverse}
@@ -13,7 +46,32 @@ use Rattle.session_seats.specs.declared.wakes.Tide.{Tide}
 use Rattle.session_seats.specs.declared.wakes.Waiter.{Waiter}
 use Rattle.session_seats.specs.declared.wakes.Waiter.TheVariants as waiter
 use Rattle.session_seats.specs.declared.wakes.WakeSet.{WakeSet}
-use Rattle.session_seats.specs.Wakes.{ChangeCounts, answers_lane, concerns, count_of, count_or, counts_after, entries_concern, everybody, is_reply, is_request, lane_union, lanes_of, nobody, with_entry, next_count, raised_at, raised_if, raised_in, replied_lanes, submitter, wakes, wakes_at, wakes_lane, wakes_reader}
+use Rattle.session_seats.specs.Wakes.{
+  ChangeCounts,
+  answers_lane,
+  concerns,
+  count_of,
+  count_or,
+  counts_after,
+  entries_concern,
+  everybody,
+  is_reply,
+  is_request,
+  lane_union,
+  lanes_of,
+  nobody,
+  with_entry,
+  next_count,
+  raised_at,
+  raised_if,
+  raised_in,
+  replied_lanes,
+  submitter,
+  wakes,
+  wakes_at,
+  wakes_lane,
+  wakes_reader,
+}
 
 -- ---- A hold that concerns nobody
 

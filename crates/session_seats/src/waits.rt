@@ -146,11 +146,14 @@ impl<S: Held + Drop> Shared<S> {
         count
     }
 
-    /// Waits until another change after `seen` of them concerned the thread.
-    pub fn wait<R: Wait>(&self, rt: &R, who: Waiter, seen: u64) {
+    /// Waits until another change after `seen` of them concerned the thread. Returns how many did so far, as `changes`
+    /// does.
+    pub fn wait<R: Wait>(&self, rt: &R, who: Waiter, seen: u64) -> u64 {
         let gate = self.gate.lock(rt);
         let condvar = self.condvars.of(who);
         let gate = condvar.wait_while(rt, gate, |gate| gate.count(who) == seen);
+        let count = gate.count(who);
         drop(gate);
+        count
     }
 }

@@ -1,4 +1,4 @@
--- Where a run was stopped by a fault of the link, the count of one of its halves rose.
+-- If a fault of the link stopped a run, the count of one of its halves rose.
 use Rattle.std.proofs.Common.{◌≡◌, ◌<◌, ◌∙◌, ◌⊎◌, ⊎_elim, ℕ, List, [], ◌∷◌, ap, arith, drop, sym, subst, inl, inr, true, false, Ok, Err}
 use Rattle.std.specs.Prelude.{Bool, Option, Result}
 use Rattle.link_frames.specs.Causes.{CountsLinkFault, IsCausedByLink}
@@ -149,9 +149,10 @@ module _ {A B : Type 0} (out out' : LinkView A) (input input' : LinkView B) wher
   greet_rose m n (inl h) = inl (hello_rose m n out out' h.0)
   greet_rose m n (inr h) = inr (version_rose h.0 n input input' h.1.1)
 
-  opening_rose : OpeningStops out out' input input' error.LinkFault → Rose out out' ⊎ Rose input input'
-  opening_rose (inl memory) = absurd (cc memory)
-  opening_rose (inr h) = greet_rose h.1.0 h.1.1.0 h.1.1.1
+  opening_rose : (lanes : List Lane) (options : SftpOptions)
+      → OpeningStops lanes options out out' input input' error.LinkFault → Rose out out' ⊎ Rose input input'
+  opening_rose lanes options (inl memory) = absurd (cc memory)
+  opening_rose lanes options (inr h) = greet_rose h.1.1.0 h.1.1.1.0 h.1.1.1.1
 
   workers_rose : (lanes : List Lane) (options : SftpOptions)
       → WorkersStop out out' input input' lanes options error.LinkFault → Rose out out' ⊎ Rose input input'
@@ -167,7 +168,7 @@ pub run_rose : {A B : Type 0} (lanes : List Lane) (options : SftpOptions) (out o
     (input input' : LinkView B)
     → StopsBy lanes options out out' input input' error.LinkFault
     → Rose out out' ⊎ Rose input input'
-run_rose lanes options out out' input input' (inl h) = opening_rose out out' input input' h
+run_rose lanes options out out' input input' (inl h) = opening_rose out out' input input' lanes options h
 run_rose {A} {B} lanes options out out' input input' (inr h) = behind h.1.1.1.0.0 h.0 h.1.0 h.1.1.0 h.1.1.1.0.1 h.1.1.1.1
   where
     behind : (m n : Token) (out_then : LinkView A) (input_then : LinkView B)

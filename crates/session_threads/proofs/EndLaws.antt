@@ -1,5 +1,4 @@
--- A journal in which as many lanes were let go as there are, and as many replies taken as requests submitted, has
--- ended.
+-- A journal that released every lane and took a reply to every request has ended.
 use Rattle.std.proofs.Common.{
   ◌≡◌,
   ◌≢◌,
@@ -96,7 +95,7 @@ module _ (f : Entry → Bool) where
 
 -- ---- replies
 
--- what is unanswered is what was submitted and not taken
+-- the unanswered requests are those that were submitted and not taken
 balance : (s : Setting) (past : List Entry) → IsJournal s past → count_unanswered past + length (filter is_take past)
     ≡ length (filter is_submit past)
 balance s [] j = refl
@@ -189,7 +188,7 @@ ended s journal past lanes is j due long looks =
       handed_in = all_of is_handed_in journal inner.0;
     }
 
--- of a run whose journal was looked at
+-- of a run whose journal was examined
 pub ended_run : (lanes : List Lane) (options : SftpOptions) (r : SharedReport) (looked : List Entry) (found : Bool)
     → RunsShared lanes options r
     → looked ≡ r.journal.items

@@ -1,6 +1,6 @@
 -- The journal of a run that a fault stopped.
 use Rattle.std.proofs.Common.{◌≡◌, ◌∙◌, ◌⊎◌, ℕ, List, ◌∷◌, [], ◌++◌, append-nil, ap, sym, subst, inl, inr, Err, Some, None}
-use Rattle.std.specs.Prelude.{◌≢◌, Result}
+use Rattle.std.specs.Prelude.{◌≢◌, Option, Result}
 use Rattle.atomic_table.specs.Seated.{TableId}
 use Rattle.plan_model.specs.declared.call.Lane.{Lane}
 use Rattle.session_model.specs.declared.entry.Entry.{Entry}
@@ -14,6 +14,7 @@ use Rattle.session_seats.specs.Covers.{HasAllSeats}
 use Rattle.session_seats.specs.Holds.{claim_of, sight_by}
 use Rattle.session_seats.specs.Rules.{ToldClaim}
 use Rattle.session_seats.specs.Sights.{entries}
+use Rattle.session_seats.proofs.GrowLaws.{grew_none}
 use Rattle.sftp_lanes.specs.Seen.{setting_by}
 use Rattle.sftp_link.specs.Told.{IfLogged}
 use Rattle.sftp_link.specs.Views.{LinkView}
@@ -23,20 +24,21 @@ use Rattle.sftp_model.specs.declared.error.Fault.{Fault}
 use Rattle.sftp_model.specs.declared.options.SftpOptions.{SftpOptions}
 use Rattle.sftp_model.specs.declared.reply.Reply.{Reply}
 use Rattle.sftp_tasks.specs.declared.locked.Locked.{Locked}
+use Rattle.sftp_tasks.specs.Opening.{GreetStops}
 use Rattle.sftp_tasks.specs.Reported.{EndedByFault}
 use Rattle.sftp_tasks.specs.Rounds.{Token, fault_for}
 use Rattle.sftp_tasks.specs.Sent.{GotUnless, SentUnless, sent_bytes, taken_replies}
 use Rattle.sftp_tasks.specs.Workers.{FlushWorks, ReadWorks}
-use Rattle.session_threads.specs.Failures.{FaultEnds, GotThenWhy}
-use Rattle.session_threads.specs.Reports.{IsCause, IsFirstFault, WorkersStop}
-use Rattle.session_threads.specs.Running.{AllMadeNothing, AllRan, HasRun, IsOf, IsWorker, MovedNothing, WorkedUntilEnd, moves_none, sends_none, takes_none}
-use Rattle.session_threads.proofs.FaultLaws.{KeepsOwn, flush_works_own, own_first, own_sees}
+use Rattle.session_threads.specs.Failures.{FaultEnds, GotThenWhy, StopsJournal}
+use Rattle.session_threads.specs.Reports.{IsCause, IsFirstFault, OpeningStops, WorkersStop}
+use Rattle.session_threads.specs.Running.{AllMadeNothing, AllRan, HasRun, IsOf, IsWorker, MovedNothing, WorkedUntilEnd, adds_nothing, moves_none, sends_none, takes_none}
+use Rattle.session_threads.proofs.FaultLaws.{KeepsOwn, flush_works_own, greet_own, own_first, own_sees}
 use Rattle.session_threads.proofs.HalfLaws.{all_taken, half_got, half_sent, last_three, seen_first, still_taken}
 use Rattle.session_threads.proofs.KeptLaws.{kept_last}
 use Rattle.session_threads.proofs.RunReports.{works_of}
 use Rattle.session_threads.proofs.WhyLaws.{reads_until}
 
--- the last hold of a worker, in which the session kept its error's fault after this journal
+-- the last hold of a seat, in which the session recorded its error's fault after this journal
 record HasKept (e : Error) (last : Token) (now : List Entry) : Type 0 where
   pub past : List Entry
   pub keeps : KeepsOwn e last past
@@ -51,6 +53,48 @@ kept_ends s e last now before fault h run ends =
     h.seen ∙ ap (λ (l : List Entry). h.more ++ l) (own_sees e last h.past h.keeps) in
     kept_last s h.more h.past before fault h.keeps.fault (subst (λ (l : List Entry). IsJournal s l) all run)
     (sym all ∙ ends)
+
+-- ---- the opening
+
+own_fault : (e : Error) (o : Option Fault) (f : Fault) → o ≡ Some f → o ≡ fault_for e → fault_for e ≢ None
+own_fault e o f some is none = none-some f (sym (is ∙ none) ∙ some)
+  where
+    none-some : (f : Fault) → None ≡ Some f → ⊥
+    none-some f e = cc e
+
+-- The error that stopped the opening, once its session was closed by its fault.
+pub opening_stops : {G : Ghosts Locked} {A B : Type 0} (lanes : List Lane) (options : SftpOptions) (answer e : Error)
+    (o : Option Fault) (first : Fault) (m : Token) (home : Seat Locked G) (others : List (Seat Locked G))
+    (out out' : LinkView A) (input input' : LinkView B) → o ≡ Some first → o ≡ fault_for e
+    → IsOf lanes options (claim_by home).sight → GreetStops e m home.inner.me out out' input input'
+    → (answer ≡ error.OutOfMemory) ⊎ ((answer ≡ e) × ((fault : Fault) × EndedByFault (home ∷ others) fault))
+    → OpeningStops lanes options out out' input input' answer
+opening_stops lanes options answer e o first m home others out out' input input' some its is stops (inl memory) =
+    inl memory
+opening_stops lanes options answer e o first m home others out out' input input' some its is stops (inr c) =
+    let f = c.1.1 in
+    let n = home.inner.me in
+    let told = f.told.0 in
+    let k = greet_own e m n out out' input input' (own_fault e o first some its) stops in
+    let seen = seen_first f.now (claim_of n) (claim_by home) (grew_none adds_nothing (claim_of n)) told in
+    let h : HasKept e n (entries f.now.log) = record { past = k.0; keeps = k.1; more = seen.0; seen = seen.1 } in
+    let ends = kept_ends (setting_by f.now.lanes f.now.options f.now.version f.info) e n (entries f.now.log) f.before
+    c.1.0 h f.run f.past in
+    let journal : StopsJournal lanes options e = record {
+      now = f.now;
+      made = (told.later.lanes ∙ is.0, told.later.options ∙ is.1);
+      info = f.info;
+      fault = c.1.0;
+      is = k.1.is ∙ ap Some (sym ends.0);
+      before = f.before;
+      past = f.past;
+      run = f.run;
+      lawful = f.lawful;
+    } in
+    subst (λ (x : Error). OpeningStops lanes options out out' input input' x) (sym c.0)
+    (inr (own_first e n k.0 k.1, (journal, (m, (n, stops)))))
+
+-- ---- the workers
 
 module _ {G : Ghosts Locked} (z : TableId) (hello : Reply) (olds news : List (Seat Locked G))
     (home home' sender sender' reader reader' : Seat Locked G)
@@ -124,15 +168,17 @@ module _ {G : Ghosts Locked} (z : TableId) (hello : Reply) (olds news : List (Se
           f.before fault k.1 f.run f.past in (
             own_first e k.0 k.1.past k.1.keeps,
             record {
-              now = f.now;
-              made = (told.0.later.lanes ∙ is.0, told.0.later.options ∙ is.1);
-              info = f.info;
-              fault = fault;
-              is = k.1.keeps.is ∙ ap Some (sym ends.0);
-              before = f.before;
-              past = f.past;
-              run = f.run;
-              lawful = f.lawful;
+              journal = record {
+                now = f.now;
+                made = (told.0.later.lanes ∙ is.0, told.0.later.options ∙ is.1);
+                info = f.info;
+                fault = fault;
+                is = k.1.keeps.is ∙ ap Some (sym ends.0);
+                before = f.before;
+                past = f.past;
+                run = f.run;
+                lawful = f.lawful;
+              };
               sent = sent;
               got = got;
               stops = stops;
@@ -156,7 +202,7 @@ module _ {G : Ghosts Locked} (z : TableId) (hello : Reply) (olds news : List (Se
         ⊎ ((answer ≡ e) × ((fault : Fault) × EndedByFault (news ++ home' ∷ sender' ∷ reader' ∷ []) fault))
         → WorkersStop out out' input input' lanes options answer
     workers_stop lanes options answer e is cause (inl memory) = inl memory
-    workers_stop lanes options answer e is (inl memory) (inr c) = inl (c.0 ∙ memory)
+    workers_stop lanes options answer e is (inl memory) (inr c) = inl (c.0 ∙ memory.0)
     workers_stop lanes options answer e is (inr own) (inr c) =
         subst (λ (x : Error). WorkersStop out out' input input' lanes options x) (sym c.0)
         (inr (fault_ends e own.0 c.1.0 c.1.1 lanes options is own.1))

@@ -1,4 +1,4 @@
--- What stops a run is the session's first fault.
+-- A run is stopped by the session's first fault.
 use Rattle.std.proofs.Common.{◌≡◌, ◌∙◌, ◌⊎◌, ⊎_elim, ℕ, List, ◌∷◌, ap, drop, refl, sym, subst, inl, inr, Err, Some, None}
 use Rattle.std.specs.Prelude.{◌≢◌, Option, Result}
 use Rattle.sftp_core.specs.Errors.{error_of}
@@ -31,9 +31,9 @@ use Rattle.sftp_tasks.specs.SessionEvents.{HasNoFault, IsKept, IsRefusedBy, IsUn
 use Rattle.sftp_tasks.specs.Shows.{shown_of}
 use Rattle.sftp_tasks.specs.Workers.{FlushShift, FlushWorks, WorkerState}
 use Rattle.sftp_tasks.proofs.SentEvents.{whole_body}
-use Rattle.session_threads.specs.Reports.{IsFirstFault, OpeningStops}
+use Rattle.session_threads.specs.Reports.{IsFirstFault}
 
--- a fault was kept where none was before
+-- a fault was recorded, and none was before
 abbrev KeepsIts : Option Fault → SessionValue → SessionValue → Type 0
 KeepsIts None old new = ⊥
 KeepsIts (Some fault) old new = HasNoFault old × (past_of new.work ≡ entry.Kept fault ∷ past_of old.work)
@@ -107,12 +107,12 @@ own_first e n past k = record {
   keeps = hold_map shown_of k.m n k.keeps (k.keeps.did.0, ap kept_in k.keeps.did.1);
 }
 
--- what the seat has seen then
+-- the seat has seen it then
 pub own_sees : (e : Error) (n : Token) (past : List Entry) → (k : KeepsOwn e n past)
     → entries (sight_by n).log ≡ entry.Kept k.fault ∷ past
 own_sees e n past k = sees_past shown_of k.m n k.keeps ∙ k.keeps.did.1
 
--- a hold in which the session kept the error's fault
+-- a hold in which the session recorded the error's fault
 pub held_own : (e : Error) (m n : Token) {Did : Locked → Locked → List Entry → Type 0} (h : HoldsOnce Did m n)
     → KeepsIts (fault_for e) h.before.session h.after.session → KeepsOwn e n (past_of h.before.session.work)
 held_own e m n h keeps = by_fault (fault_for e) refl keeps
@@ -121,10 +121,6 @@ held_own e m n h keeps = by_fault (fault_for e) refl keeps
         → KeepsOwn e n (past_of h.before.session.work)
     by_fault None is k = absurd k
     by_fault (Some f) is k = record { m = m; fault = f; is = is; keeps = hold_map shown_of m n h k }
-
-held_first : (e : Error) (m n : Token) {Did : Locked → Locked → List Entry → Type 0} (h : HoldsOnce Did m n)
-    → KeepsIts (fault_for e) h.before.session h.after.session → IsFirstFault e
-held_first e m n h keeps = own_first e n (past_of h.before.session.work) (held_own e m n h keeps)
 
 kept_option : (o : Option Fault) (y z : Locked) → KeepsFirst o y z → KeepsIts o y.session z.session
 kept_option None y z k = k
@@ -143,9 +139,6 @@ stopped_own other why m n own h = (
   held_own _ m n h (stopped_its _ why h.before h.after h.did.0 h.did.1),
   h.did.0,
 )
-
-stopped_first : (e why : Error) (m n : Token) → fault_for e ≢ None → StopsByError why e m n → IsFirstFault e
-stopped_first e why m n own h = own_first e n (past_of h.before.session.work) (stopped_own e why m n own h).0
 
 pub looked_none : {A : Type 0} (e : Error) (Looks : Locked → Locked → Result A Error → Type 0) (m n : Token)
     → fault_for e ≢ None
@@ -169,37 +162,32 @@ module _ {Service : Type 0} (e : Error) (own : fault_for e ≢ None) where
   flush_shift_own a b (inr s) =
       absurd (looked_none e TellsStage s.mid b.0 own (λ y z h. refuses_own e y.session y.session own h.1) s.looks)
 
-  -- the worker that sends kept its error's fault in its last hold
+  -- the worker that sends recorded its error's fault in its last hold
   pub flush_works_own : (a b : WorkerState Service) → FlushWorks (Err e) a b → (past : List Entry) × KeepsOwn e b.0 past
   flush_works_own a b works = flush_shift_own works.0 b works.1.1
 
-  hello_first : (m n : Token) (v w : LinkView Service) → HelloStops e m n v w → IsFirstFault e
-  hello_first m n v w (inl r) = absurd (refused_none m n v w r)
-  hello_first m n v w (inr u) = stopped_first e u.why u.mid n own u.stops
+  hello_own : (m n : Token) (v w : LinkView Service) → HelloStops e m n v w → (past : List Entry) × KeepsOwn e n past
+  hello_own m n v w (inl r) = absurd (refused_none m n v w r)
+  hello_own m n v w (inr u) =
+      (past_of u.stops.before.session.work, (stopped_own e u.why u.mid n own u.stops).0)
 
-  version_first : (m n : Token) (v w : LinkView Service) → VersionStops e m n v w → IsFirstFault e
-  version_first m n v w (inl u) = stopped_first e u.why m n own u.stops
-  version_first m n v w (inr (inl r)) =
+  version_own : (m n : Token) (v w : LinkView Service) → VersionStops e m n v w → (past : List Entry) × KeepsOwn e n past
+  version_own m n v w (inl u) = (past_of u.stops.before.session.work, (stopped_own e u.why m n own u.stops).0)
+  version_own m n v w (inr (inl r)) =
       let h = r.refuses in
-      let body = drop 4 r.frame.bytes in
-      held_first e m n h
-      (version_its (reply_at body) e h.before.session h.after.session own (h.did body (whole_body r.frame r.whole)).1.0)
-  version_first m n v w (inr (inr did)) = absurd (own (ap fault_for did.0))
+      let body = drop 4 r.frame.bytes in (
+        past_of h.before.session.work,
+        held_own e m n h
+            (version_its (reply_at body) e h.before.session h.after.session own
+            (h.did body (whole_body r.frame r.whole)).1.0),
+      )
+  version_own m n v w (inr (inr did)) = absurd (own (ap fault_for did.0))
 
 -- ---- the opening
 
-pub greet_first : {A B : Type 0} (e : Error) (m n : Token) (out out' : LinkView A) (input input' : LinkView B)
+-- the home seat recorded the error's fault in its last hold
+pub greet_own : {A B : Type 0} (e : Error) (m n : Token) (out out' : LinkView A) (input input' : LinkView B)
     → fault_for e ≢ None
-    → GreetStops e m n out out' input input' → IsFirstFault e
-greet_first e m n out out' input input' own (inl h) = hello_first e own m n out out' h.0
-greet_first e m n out out' input input' own (inr h) = version_first e own h.0 n input input' h.1.1
-
--- the error that the home seat answered, whose fault is kept
-pub opening_stops : {A B : Type 0} (e : Error) (m n : Token) (out out' : LinkView A) (input input' : LinkView B)
-    (o : Option Fault) (f : Fault)
-    → o ≡ Some f → o ≡ fault_for e → GreetStops e m n out out' input input' → OpeningStops out out' input input' e
-opening_stops e m n out out' input input' o f some is h =
-    inr (greet_first e m n out out' input input' (λ none. none-some f (sym (is ∙ none) ∙ some)) h, (m, (n, h)))
-  where
-    none-some : (f : Fault) → None ≡ Some f → ⊥
-    none-some f e = cc e
+    → GreetStops e m n out out' input input' → (past : List Entry) × KeepsOwn e n past
+greet_own e m n out out' input input' own (inl h) = hello_own e own m n out out' h.0
+greet_own e m n out out' input input' own (inr h) = version_own e own h.0 n input input' h.1.1

@@ -1,4 +1,4 @@
--- What the halves of the link show of a run.
+-- The bytes of the halves of the link, after a run.
 use Rattle.std.proofs.Common.{◌≡◌, ℕ, Bool, true, true≢false, List, [], ◌∷◌, ◌++◌, length, append-nil, append_assoc, refl, sym, ap, ◌∙◌, subst, Some, Ok, Err}
 use Rattle.std.specs.Prelude.{Result}
 use Rattle.std.proofs.lemmas.List.{map-append}
@@ -85,7 +85,7 @@ nothing_made P l none = subst (AllMade P) (sym none) tt
 -- ---- each seat
 
 module _ {G : Ghosts Locked} (sender reader : ℕ) (z : TableId) (now : Sight) where
-  -- what the seat made before and what it added are such, and it made no more
+  -- the entries that the seat made before and those that it added are such, and it made no others
   seat_moves : (test : Entry → Bool) (s t : Seat Locked G) → ((e : Entry) → test e ≡ true
       → MovesAs sender reader (claim_by t).number e) → HasRun test z s t
       → AllMade (MovesAs sender reader (claim_by t).number) (own (claim_by s).number (claim_by s).sight.log)
@@ -112,7 +112,7 @@ module _ {G : Ghosts Locked} (sender reader : ℕ) (z : TableId) (now : Sight) w
 
 -- ---- a worker's half
 
--- what a seat that made nothing sent and took
+-- a seat that made no entry sent and took nothing
 sent_none : (n : ℕ) (log : List Stamp) → own n log ≡ [] → sent_by n log ≡ []
 sent_none n log none =
     ap (λ (l : List Stamp). sent_by n l) (sym (append-nil log))
@@ -123,7 +123,7 @@ taken_none n log none =
     ap (λ (l : List Stamp). taken_by n l) (sym (append-nil log))
     ∙ taken_others n log [] (ap (λ (l : List Stamp). own n l) (append-nil log) ∙ none)
 
--- what it sent and took stands in the journal that is reported
+-- its bytes and replies are in the journal that is reported
 sent_told : (now : Sight) (c : Claim) → ToldClaim now c → sent_by c.number now.log ≡ sent_by c.number c.sight.log
 sent_told now c told =
     ap (λ (l : List Stamp). sent_by c.number l) told.later.log.1
@@ -136,7 +136,7 @@ taken_told now c told =
     ∙ taken_others c.number told.later.log.0 c.sight.log (ap (λ (l : List Stamp). own c.number l) (sym told.later.log.1)
     ∙ told.made)
 
--- what a seat that added nothing sent and took
+-- a seat that added nothing sent and took nothing more
 none_added : (k : ℕ) (rs : List Receipt) → AllFrom k adds_nothing rs → rs ≡ []
 none_added k [] h = refl
 none_added k (r ∷ rs) h = absurd (true≢false (sym h.1))
@@ -182,7 +182,7 @@ module _ {G : Ghosts Locked} (z : TableId) (hello : Reply) (olds news : List (Se
   abbrev q : ℕ
   q = (claim_by reader').number
 
-  -- what the last three were told
+  -- the journal as the last three seats have seen it
   pub last_three : (seats : List (Seat Locked G)) → AllTold now (claims_of (seats ++ home' ∷ sender' ∷ reader' ∷ []))
       → ToldClaim now (claim_by home') × (ToldClaim now (claim_by sender') × ToldClaim now (claim_by reader'))
   last_three [] told = (told.0, (told.1.0, told.1.1.0))
@@ -216,7 +216,7 @@ module _ {G : Ghosts Locked} (z : TableId) (hello : Reply) (olds news : List (Se
           moves_all now (claims_of (news ++ home' ∷ sender' ∷ reader' ∷ [])) s q lawful told_all all
           (lanes_move s q z now olds news (home' ∷ sender' ∷ reader' ∷ []) ran made told_all three_move)
 
-      -- what the worker that sends made is all that was sent
+      -- the worker that sends sent all that was sent
       all_sent : (bytes : List ℕ)
           → sent_by s (claim_by sender').sight.log
           ≡ sent_by (claim_by sender).number (claim_by sender).sight.log ++ bytes → bytes ≡ sent_bytes (entries now.log)
@@ -226,7 +226,7 @@ module _ {G : Ghosts Locked} (z : TableId) (hello : Reply) (olds news : List (Se
           ∙ sym mine ∙ sym (sent_told now (claim_by sender') (last_three news told_all).1.0)
           ∙ sent_whole s q now.log all_move
 
-      -- what the worker that reads took is all that was taken
+      -- the worker that reads took all that was taken
       pub all_taken : (replies : List (ℕ × Reply))
           → taken_by q (claim_by reader').sight.log
           ≡ taken_by (claim_by reader).number (claim_by reader).sight.log ++ replies

@@ -13,6 +13,8 @@ use Rattle.std.proofs.Common.{
   ◌∷◌,
   ◌++◌,
   None,
+  Ok,
+  Err,
   length,
   map,
   refl,
@@ -23,7 +25,7 @@ use Rattle.std.proofs.Common.{
   arith,
   rules,
 }
-use Rattle.std.specs.Prelude.{Option, drop, slice_index_or, take}
+use Rattle.std.specs.Prelude.{Option, Result, drop, slice_index_or, take}
 use Rattle.atomic_table.specs.Seated.{TableId}
 use Rattle.session_model.specs.declared.entry.Entry.{Entry}
 use Rattle.session_seats.specs.declared.rule.Held.{Ghosts}
@@ -40,12 +42,15 @@ use Rattle.session_seats.proofs.GrowLaws.{grew_on, grew_weaker}
 use Rattle.session_seats.proofs.HomeLaws.{AllGaveSame, grew_same, home_gives, home_goes_on}
 use Rattle.session_seats.proofs.Lists.{stays_on}
 use Rattle.session_seats.proofs.JoinLaws.{map-snoc}
+use Rattle.sftp_link.specs.Views.{LinkView}
+use Rattle.sftp_model.specs.declared.error.Error.{Error}
 use Rattle.sftp_model.specs.declared.reply.Reply.{Reply}
 use Rattle.sftp_tasks.specs.declared.locked.Locked.{Locked}
 use Rattle.sftp_tasks.specs.Reported.{lane_named}
 use Rattle.sftp_tasks.specs.Rounds.{Token}
 use Rattle.sftp_tasks.specs.Sent.{SeesVersion}
 use Rattle.sftp_tasks.specs.Shows.{shown_of}
+use Rattle.sftp_tasks.specs.Workers.{WorkerState}
 use Rattle.session_threads.specs.Running.{
   AllMadeNothing,
   AllRan,
@@ -56,13 +61,16 @@ use Rattle.session_threads.specs.Running.{
   IsWorker,
   MadeNothing,
   SameMade,
+  StopsAfter,
+  WorkedUntilEnd,
+  moves_none,
 }
 
--- whatever is added
+-- any entry
 abbrev pub anything : Entry → Bool
 anything e = true
 
--- ---- seats that went on
+-- ---- seats that continued
 
 module _ {G : Ghosts Locked} (test : Entry → Bool) (z : TableId) where
   pub ran_on : (a b c : Seat Locked G) → HasRun test z a b → HasRun test z b c → HasRun test z a c
@@ -92,6 +100,25 @@ ran_weaker by test z f a b h = record {
   grew = grew_weaker by test f (claim_by a) (claim_by b) h.grew;
   lane = h.lane;
 }
+
+-- a worker that ended, and gave the session up after an error
+pub stopped_ran : {G : Ghosts Locked} (test : Entry → Bool) (z : TableId) (did : Result (Unit {0}) Error)
+    (a b c : Seat Locked G) → ((e : Entry) → moves_none e ≡ true → test e ≡ true) → HasRun test z a b
+    → StopsAfter did z b c → HasRun test z a c
+stopped_ran test z (Ok u) a b c weaker ran same = subst (λ (s : Seat Locked _). HasRun test z a s) (sym same) ran
+stopped_ran test z (Err e) a b c weaker ran stops =
+    ran_on test z a b c ran (ran_weaker moves_none test z weaker b c stops.0)
+
+pub stopped_works : {G : Ghosts Locked} {Service : Type 0}
+    (Works : Result (Unit {0}) Error → WorkerState Service → WorkerState Service → Type 0) (z : TableId)
+    (did r : Result (Unit {0}) Error) (m : Token) (b c : Seat Locked G) (v w : LinkView Service) → r ≡ did
+    → Works did (m, v) (b.inner.me, w) → StopsAfter did z b c → WorkedUntilEnd Works r (m, v) (c.inner.me, w)
+stopped_works Works z (Ok u) r m b c v w is works same =
+    subst (λ (x : Result (Unit {0}) Error). WorkedUntilEnd Works x (m, v) (c.inner.me, w)) (sym is)
+    (subst (λ (s : Seat Locked _). Works (Ok u) (m, v) (s.inner.me, w)) (sym same) works)
+stopped_works Works z (Err e) r m b c v w is works stops =
+    subst (λ (x : Result (Unit {0}) Error). WorkedUntilEnd Works x (m, v) (c.inner.me, w)) (sym is)
+    (b.inner.me, works, stops.1)
 
 pub ran_made : {G : Ghosts Locked} (test : Entry → Bool) (z : TableId) (a b : Seat Locked G) → HasRun test z a b
     → SameMade (claim_by a).sight (claim_by b).sight
@@ -156,7 +183,7 @@ lent_items (x ∷ xs) [] n is long = absurd (omega (arith, long))
 lent_items (x ∷ xs) (y ∷ ys) zero is long = absurd (omega (arith, is))
 lent_items (x ∷ xs) (y ∷ ys) (suc n) is long = λ i. y ∷ lent_items xs ys n (omega (arith, is)) (omega (arith, long)) i
 
--- where the home seat gave all others, none is missing, also after they ran
+-- if the home seat gave all others, none is missing, also after they ran
 pub ran_complete : {G : Ghosts Locked} (test : Entry → Bool) (z : TableId) (home home' : Seat Locked G)
     (old new : List (Seat Locked G))
     → HasRun test z home home' → AllRan test z old new → HomeGave (claim_by home) (claims_of old)
@@ -169,7 +196,7 @@ ran_complete test z home home' old new ran all gave =
 
 -- ---- the seats that are given
 
--- a seat that has seen more, and made no more
+-- a seat that has seen more, and made nothing more
 gone_on : (m n : Token) (now : Sight) → number_of n ≡ number_of m → (sight_by n).log ≡ now.log
     → own (number_of m) now.log ≡ own (number_of m) (sight_by m).log
     → own (number_of n) (sight_by n).log ≡ own (number_of m) (sight_by m).log
@@ -182,7 +209,7 @@ ready_snoc z [] s all one = (one, tt)
 ready_snoc z (x ∷ xs) s all one = (all.0, ready_snoc z xs s all.1 one)
 
 module _ {G : Ghosts Locked} (z : TableId) (home home' new : Seat Locked G) where
-  -- what was seen as a seat was given
+  -- the sight of a seat that was given
   gives_made : (names : Bool) → Gives shown_of names home.inner.me home'.inner.me new.inner.me
       → SameMade (claim_by home).sight (claim_by home').sight
   gives_made names g = (
@@ -190,7 +217,7 @@ module _ {G : Ghosts Locked} (z : TableId) (home home' new : Seat Locked G) wher
     ap (λ (s : Sight). s.options) g.sight ∙ g.took.later.options,
   )
 
-  -- VERSION stays that was seen then, and nothing was added
+  -- a VERSION that was seen then stays, and nothing was added
   gives_version : (names : Bool) → Gives shown_of names home.inner.me home'.inner.me new.inner.me
       → StaysThere (claim_by home).sight.version (claim_by home').sight.version
   gives_version names g =
@@ -227,7 +254,7 @@ module _ {G : Ghosts Locked} (z : TableId) (home home' new : Seat Locked G) wher
         lane = lane;
       }
 
-  -- a lane's seat more
+  -- another lane's seat
   pub lane_given : (seats : List (Seat Locked G)) → home'.inner.table_id ≡ home.inner.table_id → new.inner.table_id
       ≡ home.inner.table_id
       → home'.lane ≡ home.lane → GivesLane shown_of new.lane home.inner.me home'.inner.me new.inner.me → IsReady z home
@@ -245,7 +272,7 @@ module _ {G : Ghosts Locked} (z : TableId) (home home' new : Seat Locked G) wher
         ),
       )
 
-  -- a worker's seat more
+  -- another worker's seat
   pub worker_given : (seats : List (Seat Locked G)) → home'.inner.table_id ≡ home.inner.table_id → home'.lane
       ≡ home.lane
       → Gives shown_of false home.inner.me home'.inner.me new.inner.me → IsFresh (claim_by new) None → IsReady z home

@@ -1,5 +1,37 @@
 -- The seats of a run from its home seat to its report.
-use Rattle.std.proofs.Common.{◌≡◌, ◌≢◌, ◌<◌, ◌≤◌, ◌+◌, Bool, true, true≢false, ℕ, suc, List, [], ◌∷◌, ◌++◌, None, Some, Ok, Err, inl, inr, length, map, append_assoc, eqb-true, length-append, refl, sym, ap, ◌∙◌, subst, arith}
+use Rattle.std.proofs.Common.{
+  ◌≡◌,
+  ◌≢◌,
+  ◌<◌,
+  ◌≤◌,
+  ◌+◌,
+  Bool,
+  true,
+  true≢false,
+  ℕ,
+  suc,
+  List,
+  [],
+  ◌∷◌,
+  ◌++◌,
+  None,
+  Some,
+  Ok,
+  Err,
+  inl,
+  inr,
+  length,
+  map,
+  append_assoc,
+  eqb-true,
+  length-append,
+  refl,
+  sym,
+  ap,
+  ◌∙◌,
+  subst,
+  arith,
+}
 use Rattle.std.specs.Prelude.{◌&&◌, Option, Result, is_some, remove, slice_index_or}
 use Rattle.std.proofs.lemmas.Bool.{and_parts}
 use Rattle.atomic_table.specs.Seated.{TableId}
@@ -55,6 +87,15 @@ from_zero P Q k f (r ∷ rs) h = (omega arith, f r.entry h.1, from_zero P Q k f 
 
 module _ {G : Ghosts Locked} (z : TableId) (lanes : List Lane) (options : SftpOptions) (first home' : Seat Locked G)
   where
+    pub opened_of : first.inner.me ≡ (home (mades lanes options), [])
+        → AddsEntries (by_opening first.lane) (claim_by first) (claim_by home')
+        → IsOf lanes options (claim_by home').sight
+    opened_of new g =
+        let is : claim_by first ≡ claim 0 1 0 (start (mades lanes options)) = ap (λ (m : Token). claim_of m) new in (
+          g.later.lanes ∙ ap (λ (c : Claim). c.sight.lanes) is,
+          g.later.options ∙ ap (λ (c : Claim). c.sight.options) is,
+        )
+
     pub opened_home : first.inner.me ≡ (home (mades lanes options), []) → first.lane ≡ None → first.inner.table_id ≡ z
         → home'.inner.table_id ≡ first.inner.table_id
         → home'.lane ≡ first.lane → (claim_by first).share ≤ (claim_by home').share
@@ -77,11 +118,7 @@ module _ {G : Ghosts Locked} (z : TableId) (lanes : List Lane) (options : SftpOp
             moved = subst (λ (l : List Receipt). AllFrom 0 moves_none l) (sym made)
                 (from_zero (by_opening first.lane) moves_none _ (opening_moves first.lane) g.more g.passes);
           },
-          (
-            g.later.lanes ∙ ap (λ (c : Claim). c.sight.lanes) is,
-            g.later.options
-                ∙ ap (λ (c : Claim). c.sight.options) is,
-          ),
+          opened_of new g,
         )
 
 -- the home seat as it gives the others
@@ -118,7 +155,7 @@ pub crew_named : {G : Ghosts Locked} (seats : List (Seat Locked G)) (home sender
 crew_named seats home sender reader n named a b c = map-append lane_named seats (home ∷ sender ∷ reader ∷ [])
     ∙ (λ i. named i ++ a i ∷ b i ∷ c i ∷ [])
 
--- ---- the home seat behind those of the lanes
+-- ---- the home seat after those of the lanes
 
 module _ {G : Ghosts Locked} (home : Seat Locked G) (others : List (Seat Locked G)) where
   has_behind : (lanes : List (Seat Locked G)) (n : ℕ) → HasNumber n (claims_of (home ∷ (lanes ++ others)))
@@ -234,7 +271,7 @@ some_is_there : {A : Type 0} (o : Option A) → is_some o ≡ true → o ≢ Non
 some_is_there None is none = true≢false (sym is)
 some_is_there (Some x) is none = absurd (cc none)
 
--- of a session that was looked at once it was closed
+-- of a session that was examined once it was closed
 pub runs_looked_at : {G : Ghosts Locked} (seats : List (Seat Locked G)) (home : Seat Locked G)
     (lanes others : List (Seat Locked G)) (r : SharedReport)
     (found : Bool) → seats ≡ lanes ++ home ∷ others → Reported seats r
@@ -254,14 +291,14 @@ pub first_is : {A : Type 0} (xs : List A) (x : A) (ys : List A) → 0 < length x
 first_is [] x ys some is rest = absurd (omega (arith, some))
 first_is (y ∷ xs) x ys some is rest = λ i. sym is i ∷ sym rest i
 
--- of the lanes and options that were handed in
+-- of the lanes and options that were passed in
 pub runs_made : (lanes : List Lane) (options : SftpOptions) (first last : Sight) (r : SharedReport)
     → IsOf lanes options first → SameMade first last
     → RunsOf last r → RunsShared lanes options r
 runs_made lanes options first last r is same h =
     subst (λ (x : List Lane × SftpOptions). RunsShared x.0 x.1 r) (λ i. ((same.0 ∙ is.0) i, (same.1 ∙ is.1) i)) h
 
--- a worker's last answer, with what its seat knew then
+-- a worker's last result, with the token of its seat then
 pub works_of : {Service : Type 0}
     (Did : Result (Unit {0}) Error → WorkerState Service → WorkerState Service → Type 0) (r : Result (Unit {0}) Error)
     (a b : WorkerState Service) → WorkedUntilEnd Did r a b → WorksOverHalf Did r a.1 b.1

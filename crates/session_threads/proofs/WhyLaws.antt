@@ -86,7 +86,7 @@ take_wrong other read old new hello own told h = refused_wrong _ read old new he
 abbrev GotWhy : Error → List Entry → List Piece → List Piece → Type 0
 GotWhy e past a b = (more : List ℕ) × (ShowsWhy e past more × GotOn a b more)
 
--- In its last hold the seat kept the error's fault after this journal. It took no frame, and what came shows why.
+-- In its last hold the seat recorded the error's fault after this journal. It took no frame, and the bytes show why.
 pub record StopsWhy {Service : Type 0} (e : Error) (m n : Token) (v w : LinkView Service) : Type 0 where
   pub past : List Entry
   pub keeps : KeepsOwn e n past

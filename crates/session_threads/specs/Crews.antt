@@ -9,7 +9,7 @@ use Rattle.session_seats.specs.Covers.{HomeGave}
 use Rattle.sftp_model.specs.declared.reply.Reply.{Reply}
 use Rattle.sftp_tasks.specs.declared.locked.Locked.{Locked}
 use Rattle.sftp_tasks.specs.Reported.{lane_named}
-use Rattle.session_threads.specs.declared.seats.Crew.{Crew}
+use Rattle.session_threads.specs.declared.crew.Crew.{Crew}
 use Rattle.session_threads.specs.Running.{AllMadeNothing, AllReady, IsReady, IsWorker, MovedNothing}
 
 -- The names of the first n lanes, in their order.

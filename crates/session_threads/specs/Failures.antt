@@ -1,4 +1,4 @@
--- believed: WorksOverHalf
+-- believed: StopsJournal, WorksOverHalf
 -- Runs that a fault stopped: the journal that ends by it, and what the halves of the link show of it.
 use Rattle.std.specs.Prelude.{◌≡◌, ◌≤◌, ◌⊎◌, ℕ, List, ◌∷◌, ◌++◌, length, Option, Some, Result, Err}
 use Rattle.link_frames.specs.Reading.{TellsWhy}
@@ -29,6 +29,19 @@ use Rattle.sftp_tasks.specs.Sent.{AreFramesOf, GotUnless, SentUnless, sent_bytes
 use Rattle.sftp_tasks.specs.Workers.{FlushWorks, ReadWorks, WorkerState}
 use Rattle.session_threads.specs.Running.{IsOf}
 
+-- The journal of a session is a run so far of these lanes and options, and ends by the fault of this error. It records
+-- no other fault, as a run so far records at most one.
+pub record StopsJournal (lanes : List Lane) (options : SftpOptions) (e : Error) : Type 0 where
+  pub now : Sight
+  pub made : IsOf lanes options now
+  pub info : Option Info
+  pub fault : Fault
+  pub is : fault_for e ≡ Some fault
+  pub before : List Entry
+  pub past : entries now.log ≡ entry.Kept fault ∷ before
+  pub run : IsJournal (setting_by now.lanes now.options now.version info) (entries now.log)
+  pub lawful : IsLawfulSight now
+
 -- The work of a worker over its half.
 abbrev pub WorksOverHalf : {Service : Type 0} → (Result (Unit {0}) Error → WorkerState Service → WorkerState Service
     → Type 0)
@@ -55,25 +68,17 @@ GotThenWhy e past replies before now = (bytes : List ℕ) × ((more : List ℕ) 
 
 module _ {A B : Type 0} (lanes : List Lane) (options : SftpOptions) (out out' : LinkView A) (input input' : LinkView B)
   where
-    -- The journal of the run's session is a run so far of these lanes and options, and ends by the fault of this error,
-    -- by which one of the two workers stopped. The one half shows the Sends of the journal, up to an error of the worker
-    -- that sends; the other shows its Takes. If the worker that reads stopped by the error, what came after the frames of
-    -- the Takes shows why.
+    -- The journal of the run's session ends by the fault of this error, by which one of the two workers stopped. The one
+    -- half shows the Sends of the journal, up to an error of the worker that sends; the other shows its Takes. If the
+    -- worker that reads stopped by the error, what came after the frames of the Takes shows why.
     pub record FaultEnds (e : Error) : Type 0 where
-      pub now : Sight
-      pub made : IsOf lanes options now
-      pub info : Option Info
-      pub fault : Fault
-      pub is : fault_for e ≡ Some fault
-      pub before : List Entry
-      pub past : entries now.log ≡ entry.Kept fault ∷ before
-      pub run : IsJournal (setting_by now.lanes now.options now.version info) (entries now.log)
-      pub lawful : IsLawfulSight now
+      pub journal : StopsJournal lanes options e
       pub sent : Result (Unit {0}) Error
       pub got : Result (Unit {0}) Error
       pub stops : (sent ≡ Err e) ⊎ (got ≡ Err e)
       pub sends : WorksOverHalf FlushWorks sent out out'
       pub reads : WorksOverHalf ReadWorks got input input'
-      pub sends_shown : IfLogged (SentUnless sent (sent_bytes before)) out.log out'.log
-      pub takes_shown : IfLogged (GotUnless got (taken_replies before)) input.log input'.log
-      pub why : got ≡ Err e → IfLogged (GotThenWhy e before (taken_replies before)) input.log input'.log
+      pub sends_shown : IfLogged (SentUnless sent (sent_bytes journal.before)) out.log out'.log
+      pub takes_shown : IfLogged (GotUnless got (taken_replies journal.before)) input.log input'.log
+      pub why : got ≡ Err e
+          → IfLogged (GotThenWhy e journal.before (taken_replies journal.before)) input.log input'.log

@@ -1,4 +1,4 @@
--- believed, except RunsOf, IsCause, WorkersEnd
+-- believed, except RunsOf, own_if, own_error, IsCause, WorkersEnd
 -- Reports of a whole run of lanes, and the reasons that it ends.
 use Rattle.std.specs.Prelude.{◌≡◌, ◌≢◌, ◌⊎◌, List, length, map, reverse, Option, Some, None, Result, Ok, Err}
 use Rattle.plan_model.specs.declared.call.Lane.{Lane}
@@ -28,7 +28,7 @@ use Rattle.sftp_tasks.specs.Sent.{SeesVersion}
 use Rattle.sftp_tasks.specs.SessionEvents.{HasFault, HasNoFault}
 use Rattle.sftp_tasks.specs.Workers.{FlushWorks, ReadWorks}
 use Rattle.session_threads.specs.Crews.{named_in_order}
-use Rattle.session_threads.specs.Failures.{FaultEnds, WorksOverHalf}
+use Rattle.session_threads.specs.Failures.{FaultEnds, StopsJournal, WorksOverHalf}
 use Rattle.session_threads.specs.Halves.{HalvesShow, WorkersShow}
 use Rattle.session_threads.specs.Running.{IsOf}
 
@@ -56,9 +56,21 @@ pub record RunsShared (lanes : List Lane) (options : SftpOptions) (r : SharedRep
 abbrev pub RunsOf : Sight → SharedReport → Type 0
 RunsOf s r = RunsShared s.lanes s.options r
 
--- One of the workers returned this error, for something that it found wrong itself; or an allocation failed.
+abbrev pub own_if : Option Fault → Error → Option Error
+own_if None e = None
+own_if (Some fault) e = Some e
+
+-- The error of a worker that found something wrong itself: it has a fault that the session records.
+abbrev pub own_error : Result (Unit {0}) Error → Option Error
+own_error (Ok u) = None
+own_error (Err e) = own_if (fault_for e) e
+
+-- One of the workers returned this error, for something that it found wrong itself. If neither did, an allocation
+-- failed.
 abbrev pub IsCause : Result (Unit {0}) Error → Result (Unit {0}) Error → Error → Type 0
-IsCause sent got e = (e ≡ error.OutOfMemory) ⊎ ((fault_for e ≢ None) × ((sent ≡ Err e) ⊎ (got ≡ Err e)))
+IsCause sent got e =
+    ((e ≡ error.OutOfMemory) × (own_error sent ≡ None) × (own_error got ≡ None))
+    ⊎ ((fault_for e ≢ None) × ((sent ≡ Err e) ⊎ (got ≡ Err e)))
 
 -- In one hold of a seat the session, which had recorded no fault, recorded the one of this error: it is the session's
 -- first.
@@ -73,12 +85,15 @@ pub record IsFirstFault (e : Error) : Type 0 where
 abbrev pub SendsHelloFirst : {A B : Type 0} → Token → LinkView A → LinkView A → LinkView B → LinkView B → Type 0
 SendsHelloFirst n out out' input input' = (m : Token) × HasGreeted m n out out' input input'
 
-module _ {A B : Type 0} (out out' : LinkView A) (input input' : LinkView B) where
-  -- An allocation failed, or this error, the session's first fault, stopped the opening.
-  abbrev pub OpeningStops : Error → Type 0
-  OpeningStops e = (e ≡ error.OutOfMemory)
-      ⊎ (IsFirstFault e × ((m : Token) × ((n : Token) × GreetStops e m n out out' input input')))
+-- An allocation failed, or this error, the session's first fault, stopped the opening: the journal of the run's own
+-- session ends by it.
+abbrev pub OpeningStops : {A B : Type 0} → List Lane → SftpOptions → LinkView A → LinkView A → LinkView B → LinkView B
+    → Error → Type 0
+OpeningStops lanes options out out' input input' e = (e ≡ error.OutOfMemory)
+    ⊎ (IsFirstFault e × (StopsJournal lanes options e
+    × ((m : Token) × ((n : Token) × GreetStops e m n out out' input input'))))
 
+module _ {A B : Type 0} (out out' : LinkView A) (input input' : LinkView B) where
   -- An allocation failed, or this error, the session's first fault, stopped one of the workers over its half of the
   -- link: the journal of the run's own session ends by it.
   abbrev pub WorkersStop : List Lane → SftpOptions → Error → Type 0
@@ -109,7 +124,7 @@ module _ {A B : Type 0} (out out' : LinkView A) (input input' : LinkView B) wher
 abbrev pub StopsBy : {A B : Type 0} → List Lane → SftpOptions → LinkView A → LinkView A → LinkView B → LinkView B
     → Error → Type 0
 StopsBy {A} {B} lanes options out out' input input' e =
-    OpeningStops out out' input input' e
+    OpeningStops lanes options out out' input input' e
     ⊎ ((home : Token) × ((out_then : LinkView A) × ((input_then : LinkView B)
     × (SendsHelloFirst home out out_then input input_then
     × WorkersStop out_then out' input_then input' lanes options e))))

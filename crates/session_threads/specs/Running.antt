@@ -65,6 +65,11 @@ module _ {G : Ghosts Locked} where
     pub grew : AddsEntries test (claim_by old) (claim_by new)
     pub lane : new.lane ≡ old.lane
 
+  -- The seat gave the session up, and added nothing, if this is an error. Otherwise it is unchanged.
+  abbrev pub StopsAfter : Result (Unit {0}) Error → TableId → Seat Locked G → Seat Locked G → Type 0
+  StopsAfter (Ok u) z old new = new ≡ old
+  StopsAfter (Err e) z old new = HasRun moves_none z old new × AddsEntries adds_nothing (claim_by old) (claim_by new)
+
   -- The home seat is ready as before, and added nothing, whichever seats it gave.
   pub record HasGiven (z : TableId) (old new : Seat Locked G) : Type 0 where
     pub ready : IsReady z new

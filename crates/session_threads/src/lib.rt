@@ -2,18 +2,20 @@
 //! session.
 #![tactic(auto)]
 
+mod crew;
 mod ends;
+mod failure;
 mod halves;
 mod laws;
 mod run;
 mod seats;
 mod shared_run;
 
+pub use crew::Crew;
+pub use failure::spend_refused;
 pub use halves::{Halves, NoStop, Stop};
 pub use laws::{invalid_ids_are_unawaited, link_faults_are_counted};
 pub use run::{run_shared, run_stoppable};
-pub use seats::{
-    Crew, open_session, run_home, run_reader, run_sender, spend, spend_crew, start, stop,
-};
+pub use seats::{open_session, run_home, run_reader, run_sender, start, stop};
 pub use sftp_tasks::SharedReport;
 pub use shared_run::{SharedRun, Signals};

@@ -13,18 +13,18 @@ ghost use Rattle.sftp_tasks.specs.Rounds.{fault_for};
 ghost use Rattle.sftp_tasks.specs.Workers.{FlushWorks, ReadWorks};
 ghost use Rattle.session_threads.specs.Crews.{IsCrew, named_in_order};
 ghost use Rattle.session_threads.specs.RunEnds.{IsEnded};
-ghost use Rattle.session_threads.specs.Reports.{Ended, IsCause, RunsOf, RunsShared, StopsBy, WorkersEnd, WorkersStop};
+ghost use Rattle.session_threads.specs.Reports.{Ended, IsCause, RunsOf, RunsShared, StopsBy, WorkersEnd, WorkersStop, own_error};
 ghost use Rattle.session_threads.specs.Running.{AllReady, AllRan, HasRun, IsReady, WorkedUntilEnd, moves_none, sends_none, takes_none};
 
+use crate::crew::Crew;
 use crate::ends::is_ended;
+use crate::failure::{close_failed, spend_refused};
 use crate::halves::{Halves, NoStop, Stop};
-use crate::seats::{
-    Crew, open_session, run_home, run_lane, run_reader, run_sender, spend, spend_crew, start,
-};
+use crate::seats::{open_session, run_home, run_lane, run_reader, run_sender, start};
 use crate::shared_run::{SharedRun, Signals};
 use sftp_link::{LinkIn, LinkOut};
 use sftp_tasks::{
-    Error, Lane, NotClosed, OutOfMemory, Seat, SftpOptions, SharedReport, SharedSftp, fault_for,
+    Error, Lane, OutOfMemory, Seat, SftpOptions, SharedReport, SharedSftp, fault_for,
 };
 use std::alloc::Global;
 use std::sync::Wait;
@@ -134,7 +134,8 @@ fn run_threads<
 /// Returns the error of a worker that found something wrong itself, which is the session's first fault. Returns `None`
 /// if the worker came to its end, or was stopped by running out of memory or by a fault that was recorded before.
 fn own_error(did: Result<(), Error>) -> Option<Error>
-    ensures { IfSome result (λ e. (did ≡ Err e) × (fault_for e ≢ None)) }
+    ensures is { result ≡ own_error did }
+    ensures own { IfSome result (λ e. (did ≡ Err e) × (fault_for e ≢ None)) }
 {
     match did {
         Ok(()) => None,
@@ -169,39 +170,6 @@ fn first_error(sent: Result<(), Error>, got: Result<(), Error>) -> Option<Error>
     Some(cause_of(sent, got))
 }
 
-/// Returns the first of the seats, and the others.
-fn first_of(seats: Vec<Seat>) -> (Seat, Vec<Seat>)
-    requires { 0 < length seats.items }
-    ensures { seats.items ≡ result.0 ∷ result.1.items }
-{
-    let mut others = seats;
-    let first = others.remove(0);
-    (first, others)
-}
-
-/// Returns the seats of a run in the order of its receipts, the first one apart from the others. Fails if an allocation
-/// fails.
-fn in_order(crew: Crew) -> Result<(Seat, Vec<Seat>), OutOfMemory>
-    ensures { IfOk result (λ r. r.0 ∷ r.1.items ≡ crew.lanes.items ++ crew.home ∷ crew.sender ∷ crew.reader ∷ []) }
-{
-    let mut crew = crew;
-    if crew.lanes.reserve(3).is_err() {
-        spend_crew(crew);
-        return Err(OutOfMemory);
-    }
-    let Crew {
-        home,
-        lanes,
-        sender,
-        reader,
-    } = crew;
-    let mut seats = lanes;
-    seats.push_reserved(home);
-    seats.push_reserved(sender);
-    seats.push_reserved(reader);
-    Ok(first_of(seats))
-}
-
 /// Returns true if the session took VERSION and was open.
 fn was_open(report: &SharedReport) -> bool
     ensures { result ≡ (report.now.is_open && is_some report.now.report.hello) }
@@ -218,7 +186,7 @@ fn close_run<R: Wait>(rt: &R, shared: SharedSftp, crew: Crew) -> Result<SharedRe
     ensures runs { IfOk result (λ report. RunsOf (sight_by crew.home.inner.me) report) }
     ensures reported { IfOk result (Reported (crew.lanes.items ++ crew.home ∷ crew.sender ∷ crew.reader ∷ [])) }
 {
-    let Ok((first, others)) = in_order(crew) else {
+    let Ok((first, others)) = crew.into_seats() else {
         return Err(OutOfMemory);
     };
     match shared.close(rt, first, others) {
@@ -229,39 +197,21 @@ fn close_run<R: Wait>(rt: &R, shared: SharedSftp, crew: Crew) -> Result<SharedRe
             Ok(report)
         }
         Err(refused) => {
-            spend_refused(refused);
+            drop(spend_refused(refused));
             Err(OutOfMemory)
         }
     }
 }
 
-/// Ends the seats of a session that could not be closed.
-fn spend_refused(refused: NotClosed) {
-    let NotClosed {
-        error: _,
-        seat,
-        others,
-    } = refused;
-    drop(seat.into_receipts());
-    spend(others);
-}
-
-/// Ends a session that this error stopped, and returns the error: the journal ends by a fault. Returns `OutOfMemory` if
-/// an allocation fails.
-fn close_failed<R: Wait>(rt: &R, shared: SharedSftp, crew: Crew, why: Error) -> Error
+/// Ends a session that this error stopped, as `close_failed` does, with the seats of its run.
+fn close_stopped<R: Wait>(rt: &R, shared: SharedSftp, crew: Crew, why: Error) -> Error
     requires own { AllOf shared.shared.table.shared.table_id (crew.lanes.items ++ crew.home ∷ crew.sender ∷ crew.reader ∷ []) }
     ensures { (result ≡ error.OutOfMemory)
         ⊎ ((result ≡ why) × ((fault : Fault) × EndedByFault (crew.lanes.items ++ crew.home ∷ crew.sender ∷ crew.reader ∷ []) fault)) }
 {
-    let Ok((first, others)) = in_order(crew) else {
-        return Error::OutOfMemory;
-    };
-    match shared.close_failed(rt, first, others) {
-        Ok(_fault) => why,
-        Err(refused) => {
-            spend_refused(refused);
-            Error::OutOfMemory
-        }
+    match crew.into_seats() {
+        Ok((first, others)) => close_failed(rt, shared, first, others, why),
+        Err(OutOfMemory) => Error::OutOfMemory,
     }
 }
 
@@ -283,7 +233,8 @@ fn run_crew<
     ensures runs { IfOk result.0 (λ report. RunsOf (sight_by crew.home.inner.me) report) }
     ensures over { IfOk result.0 (λ report. IsEnded lanes (reverse report.journal.items)) }
     ensures ends { IfOk result.0 (WorkersEnd (O.LinkState.state halves.out) (O.LinkState.state result.1) (I.LinkState.state halves.input) (I.LinkState.state result.2) crew.sender.inner.me) }
-    ensures stops { IfErr result.0 (WorkersStop (O.LinkState.state halves.out) (O.LinkState.state result.1) (I.LinkState.state halves.input) (I.LinkState.state result.2) (sight_by crew.home.inner.me).lanes (sight_by crew.home.inner.me).options) }
+    ensures stops { IfErr result.0 (WorkersStop (O.LinkState.state halves.out) (O.LinkState.state result.1) (I.LinkState.state halves.input) (I.LinkState.state result.2)
+        (sight_by crew.home.inner.me).lanes (sight_by crew.home.inner.me).options) }
 {
     let Halves { out, input, stop } = halves;
     let mut out = out;
@@ -297,7 +248,7 @@ fn run_crew<
     let SharedRun { shared, signals: _ } = run;
     match first_error(sent, got) {
         Some(e) => {
-            let why = close_failed(rt, shared, crew, e);
+            let why = close_stopped(rt, shared, crew, e);
             return (Err(why), out, input);
         }
         None => {}
@@ -332,9 +283,9 @@ fn run_crew<
 ///
 /// `OutOfMemory` if an allocation failed, if no thread could be created for a worker, and also for a run whose journal
 /// isn't that of such an end. Any other error stopped the opening or one of the workers, and is the session's first
-/// fault. If the session was opened, its journal ends by that fault, the halves show its Sends and Takes, and what came
-/// after the frames of the Takes shows why the worker that reads stopped: `InvalidResponseId`, for example, is returned
-/// only for a frame whose id no sent, unanswered request has.
+/// fault: its journal, a run so far of these lanes and options, ends by it. If the session was opened, the halves show
+/// the journal's Sends and Takes, and what came after the frames of the Takes shows why the worker that reads stopped:
+/// `InvalidResponseId`, for example, is returned only for a frame whose id no sent, unanswered request has.
 pub fn run_stoppable<
     O: LinkOut + Send,
     I: LinkIn + Send,

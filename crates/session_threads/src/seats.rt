@@ -9,10 +9,12 @@ ghost use Rattle.sftp_tasks.specs.Workers.{FlushWorks, ReadWorks};
 ghost use Rattle.sftp_model.specs.declared.reply.Reply.{Reply};
 ghost use Rattle.sftp_tasks.specs.Sent.{SeesVersion};
 ghost use Rattle.session_threads.specs.Reports.{OpeningStops, SendsHelloFirst};
-ghost use Rattle.session_threads.specs.Running.{AllMadeNothing, AllReady, HasGiven, HasRun, IsReady, SameMade, WorkedUntilEnd, adds_nothing, moves_none, sends_none, takes_none};
+ghost use Rattle.session_threads.specs.Running.{AllMadeNothing, AllReady, HasGiven, HasRun, IsReady, SameMade, StopsAfter, WorkedUntilEnd, adds_nothing, moves_none, sends_none, takes_none};
 ghost use Rattle.session_threads.specs.Crews.{IsCrew, IsHome, lanes_below};
 ghost use Rattle.session_threads.specs.Running.{IsOf};
 
+use crate::crew::Crew;
+use crate::failure::{close_failed, spend};
 use crate::halves::Stop;
 use crate::shared_run::SharedRun;
 use sftp_link::{LinkIn, LinkOut};
@@ -23,50 +25,13 @@ use std::alloc::Global;
 use std::sync::Wait;
 use std::time::Clock;
 
-/// The seats of a run, all at one session. The home seat gave the others.
-///
-/// Example: `crates/example_threads/src/calls.rt`.
-#[must_use]
-pub struct Crew {
-    /// The seat that names no lane, and gave the others.
-    pub home: Seat,
-    /// The seats of the lanes, in lane order.
-    pub lanes: Vec<Seat>,
-    /// The seat of the worker that sends.
-    pub sender: Seat,
-    /// The seat of the worker that reads.
-    pub reader: Seat,
-}
-
-/// Ends the seats of a run that has no report.
-pub fn spend(seats: Vec<Seat>) {
-    let mut seats = seats.into_iter();
-    while let Some(seat) = seats.next() {
-        drop(seat.into_receipts());
-    }
-    seats.destroy_empty();
-}
-
-/// Ends all seats of a run that has no report.
-pub fn spend_crew(crew: Crew) {
-    let Crew {
-        home,
-        lanes,
-        sender,
-        reader,
-    } = crew;
-    drop(home.into_receipts());
-    spend(lanes);
-    drop(sender.into_receipts());
-    drop(reader.into_receipts());
-}
-
 /// Returns a session of these lanes, which its home seat opens: it sends the hello over the one half, and takes VERSION
 /// from the other.
 ///
 /// # Errors
 ///
-/// `OutOfMemory` if an allocation fails. Any other error stopped the opening, and is the session's first fault.
+/// `OutOfMemory` if an allocation fails. Any other error stopped the opening, and is the session's first fault: its
+/// journal, a run so far of these lanes and options, ends by it.
 pub fn open_session<O: LinkOut, I: LinkIn, R: Wait>(
     rt: &R,
     alloc: Global,
@@ -79,7 +44,7 @@ pub fn open_session<O: LinkOut, I: LinkIn, R: Wait>(
     requires counts { ((O.LinkState.state out.old).faults < 2 ^ 64 - 1) × ((I.LinkState.state input.old).faults < 2 ^ 64 - 1) }
     ensures home { IfOk result (λ r. IsHome r.0.shared.table.shared.table_id r.1 × IsOf lanes.now options.now (sight_by r.1.inner.me)) }
     ensures opens { IfOk result (λ r. SendsHelloFirst r.1.inner.me (O.LinkState.state out.old) (O.LinkState.state out.new) (I.LinkState.state input.old) (I.LinkState.state input.new)) }
-    ensures stops { IfErr result (OpeningStops (O.LinkState.state out.old) (O.LinkState.state out.new) (I.LinkState.state input.old) (I.LinkState.state input.new)) }
+    ensures stops { IfErr result (OpeningStops lanes.now options.now (O.LinkState.state out.old) (O.LinkState.state out.new) (I.LinkState.state input.old) (I.LinkState.state input.new)) }
 {
     let Ok((shared, home)) = SharedSftp::new(alloc, lanes, options) else {
         return Err(Error::OutOfMemory);
@@ -91,13 +56,16 @@ pub fn open_session<O: LinkOut, I: LinkIn, R: Wait>(
             drop(home.into_receipts());
             Err(Error::OutOfMemory) // nobody else has a seat yet
         }
-        Err(e) => {
-            drop(home.into_receipts());
-            match fault_for(&e) {
-                Some(_) => Err(e),
-                None => Err(Error::OutOfMemory), // no fault was kept before
+        Err(e) => match fault_for(&e) {
+            Some(_) => {
+                let others = Vec::new(alloc); // nobody else has a seat yet
+                Err(close_failed(rt, shared, home, others, e))
             }
-        }
+            None => {
+                drop(home.into_receipts());
+                Err(Error::OutOfMemory) // no fault was recorded before
+            }
+        },
     }
 }
 
@@ -229,6 +197,27 @@ pub fn run_home<S: Stop, R: Wait + Clock>(rt: &R, run: &SharedRun<S>, home: &mut
     stop(rt, run, home);
 }
 
+/// Gives the session up if a worker returned an error, and returns its result.
+fn stop_after<S: Stop, R: Wait>(
+    rt: &R,
+    run: &SharedRun<S>,
+    seat: &mut Seat,
+    did: Result<(), Error>,
+) -> Result<(), Error>
+    requires { seat.old.inner.table_id ≡ run.now.shared.shared.table.shared.table_id }
+    ensures same { result ≡ did }
+    ensures stops { StopsAfter did run.now.shared.shared.table.shared.table_id seat.old seat.new }
+{
+    // No `?`: it converts the error, and `same` is an equation of the whole result.
+    match did {
+        Ok(()) => Ok(()),
+        Err(e) => {
+            stop(rt, run, seat);
+            Err(e)
+        }
+    }
+}
+
 /// Runs the thread that sends. If it can't continue the session is given up.
 ///
 /// # Errors
@@ -246,13 +235,8 @@ pub fn run_sender<O: LinkOut, S: Stop, R: Wait + Clock>(
     ensures works { WorkedUntilEnd FlushWorks result (seat.old.inner.me, O.LinkState.state out.old) (seat.new.inner.me, O.LinkState.state out.new) }
 {
     run.signals.note_start(rt);
-    match flush_worker(rt, &run.shared, seat, out) {
-        Ok(()) => Ok(()),
-        Err(e) => {
-            stop(rt, run, seat);
-            Err(e)
-        }
-    }
+    let did = flush_worker(rt, &run.shared, seat, out);
+    stop_after(rt, run, seat, did)
 }
 
 /// Runs the thread that reads. If it can't continue the session is given up.
@@ -272,11 +256,6 @@ pub fn run_reader<I: LinkIn, S: Stop, R: Wait>(
     ensures works { WorkedUntilEnd ReadWorks result (seat.old.inner.me, I.LinkState.state input.old) (seat.new.inner.me, I.LinkState.state input.new) }
 {
     run.signals.note_start(rt);
-    match read_worker(rt, &run.shared, seat, input) {
-        Ok(()) => Ok(()),
-        Err(e) => {
-            stop(rt, run, seat);
-            Err(e)
-        }
-    }
+    let did = read_worker(rt, &run.shared, seat, input);
+    stop_after(rt, run, seat, did)
 }

@@ -1,4 +1,4 @@
--- A status says truly which count of faults rose.
+-- A status is right about which count of faults rose.
 use Rattle.std.proofs.Common.{inl, inr, ℕ, Bool, true, false, refl, sym, subst}
 use Rattle.std.specs.Prelude.{Option, Ok, Err}
 use Rattle.program_shell.specs.declared.ending.Answered.TheVariants.{Done, Stopped, Refused}

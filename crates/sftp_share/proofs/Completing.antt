@@ -1,4 +1,4 @@
--- Without a fault of the source or the sink the program ends with what the source asks for, or for want of memory.
+-- Without a fault of the source or the sink the program ends with what the source asks for, or out of memory.
 use Rattle.std.proofs.Common.{◌≡◌, ◌<◌, inl, inr, ℕ, Bool, true, false, List, refl, ap, sym, ◌∙◌, subst, arith}
 use Rattle.std.specs.Prelude.{Option, Some, None, Ok, Err, IfErr}
 use Rattle.program_shell.specs.declared.ending.Answered.{Answered}
@@ -17,7 +17,7 @@ use Rattle.sftp_share.specs.Ended.{PairAfter, ShareEnds, share_status}
 use Rattle.sftp_share.specs.Shared.{RightShared}
 use Rattle.sftp_share.proofs.Exits.{refuses_long}
 
--- ---- what a source had
+-- ---- the bytes that a source had
 
 told_all : (bytes had : List ℕ) (now : Option (List ℕ)) → IfLogged (GaveAll bytes) (Some had) now → had ≡ bytes
 told_all bytes had None t = absurd t
@@ -28,7 +28,7 @@ told_read : (bytes had : List ℕ) (now : Option (List ℕ)) → IfLogged (ReadU
 told_read bytes had None t = absurd t
 told_read bytes had (Some now) t = read_is script_of bytes had now refuses_long t
 
--- it reads as what was read of it
+-- it reads as the bytes that were read
 had_is : (r : ReadAs Script) (bytes had : List ℕ) (from now : SourceView) → script_of bytes ≡ r
     → GaveInput r bytes from now
     → from.left ≡ Some had → script_of had ≡ r

@@ -1,4 +1,4 @@
--- The status tells whether the replay of a run differs, whose whole text was written.
+-- The status says whether the replay of a run whose whole text was written differs.
 use Rattle.std.proofs.Common.{◌≡◌, ◌⊎◌, inl, inr, ℕ, Bool, true, false, List, refl, sym, subst}
 use Rattle.std.specs.Prelude.{◌≢◌, Option, Ok, Err}
 use Rattle.program_shell.specs.declared.ending.Answered.TheVariants.{Done, Stopped, Refused}
@@ -61,7 +61,7 @@ status_done false = inl refl
 
 -- ---- the text
 
--- what is right and done is the text of a run of the script that the source gave
+-- the right text of a finished run is that of a run of the source's script
 wrote_for : (A B : Type 0) (before last : Option Halves) (differs : Bool) (r : ReadAs Script) (bytes text : List ℕ)
     (from now : SourceView)
     (to to_now : SinkView) → script_of bytes ≡ r → GaveInput r bytes from now
@@ -83,7 +83,7 @@ wrote_run A B before last differs from now to to_now w =
     let a = w.is in
     wrote_for A B before last differs (script_of a.bytes) a.bytes w.text from now to to_now refl a.gave a.is w.wrote
 
--- where it ended so
+-- if it ended so
 run_of : (A B : Type 0) (before last : Option Halves) (differs told : Bool) (end : End) (from now : SourceView)
     (to to_now : SinkView)
     → end ≡ Ok Done → differs ≡ told

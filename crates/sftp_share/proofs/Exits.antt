@@ -1,4 +1,4 @@
--- How the program ends with a script, at each of its exits.
+-- The end of the program with a script, at each of its exits.
 use Rattle.std.proofs.Common.{◌≡◌, ℕ, Bool, false, List, inl, inr, refl}
 use Rattle.std.specs.Prelude.{Option, Ok, Err}
 use Rattle.program_shell.specs.declared.ending.Answered.{Answered}
@@ -17,7 +17,7 @@ use Rattle.machine_halves.specs.Halves.{Halves}
 use Rattle.sftp_share.specs.Ended.{PairAfter, ShareEnds, share_status}
 use Rattle.sftp_share.specs.Shared.{RightShared, RunsOutOfMemory}
 
--- what is too long is no script
+-- bytes that are too long are no script
 pub refuses_long : RefusesLong script_of
 refuses_long bytes long = rw long refl
 
@@ -46,7 +46,7 @@ unread A B OutOfMemory before from now to g = record {
 }
 unread A B DialFailed before from now to g = absurd (g.only.1 refl)
 
--- ---- what the pair has back
+-- ---- the halves that the pair has back
 
 -- a script that was read is one that the source gave
 starves_given : (A B : Type 0) (before last : Option Halves) (bytes : List ℕ) (from now : SourceView)
@@ -57,7 +57,7 @@ starves_given A B before last bytes from now t (inl same) = inl same
 starves_given A B before last bytes from now t (inr h) = inr
     (h.0, gave_value script_of bytes h.0 from now refuses_long h.1 t, h.2)
 
--- what is right to write says it
+-- the text that is right shows it
 right_starves : (A B : Type 0) (before last : Option Halves) (differs : Bool) (r : ReadAs Script) (bytes text : List ℕ)
     (says : Answered)
     → script_of bytes ≡ r → RightShared A B before last differs r says text
@@ -71,7 +71,7 @@ right_starves A B before last differs (Err why) bytes text Refused e h = inl h.1
 
 -- ---- an answer
 
--- there was no memory for it
+-- an allocation failed for it
 pub starved : (A B : Type 0) (before last : Option Halves) (bytes : List ℕ) (from now : SourceView) (to : SinkView)
     → Read bytes from now
     → now.faults ≡ from.faults → RunsOutOfMemory A B (λ script. script_of bytes ≡ Ok script) before last

@@ -26,14 +26,14 @@ use Rattle.session_model.specs.Readings.{answer, count_ended, last_cancel, own, 
 use Rattle.sftp_share.specs.Replays.{NoHello, is_uncounted}
 use Rattle.sftp_share.proofs.TraceReplies.{in_order, in_order_is}
 
--- events behind others
+-- events after others
 pub none_more : (xs ys : List Event) → NoHello xs → NoHello ys → NoHello (xs ++ ys)
 none_more [] ys p q = q
 none_more (Submit by id r ∷ xs) ys p q = (p.0, none_more xs ys p.1 q)
 none_more (Send ∷ xs) ys p q = none_more xs ys p q
 none_more (_ ∷ xs) ys p q = none_more xs ys p q
 
--- what is asked within the range, where it is no READ
+-- requests within the range, if they are no READ
 within : (c : Call) (site : Site) (facts : Facts) (requests : Own) (answers : Answers) (r : Request)
     → ReadsWithin facts (Ask r)
     → next c site facts requests answers ≡ Ask r → WithinRange c site facts requests answers
@@ -58,7 +58,7 @@ asks_plain (Some c) site facts requests answers request.LimitsQuery e =
     (within c site facts requests answers request.LimitsQuery tt is) is)
 asks_plain (Some c) site facts requests answers r e = (tt, refl)
 
--- the opening asks for limits alone, and nobody else does
+-- the opening asks only for limits, and nothing else does
 abbrev pub Asks : Owner → Request → Type 0
 Asks owner.Setup r = r ≡ request.LimitsQuery
 Asks owner.Close r = is_uncounted r ≡ false

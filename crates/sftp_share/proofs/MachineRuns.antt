@@ -1,4 +1,4 @@
--- What a machine has come to after the requests of a journal, and that a trace which it serves has its replies.
+-- The state of a machine after the requests of a journal; a trace that it serves has its replies.
 use Rattle.std.proofs.Common.{◌≡◌, ℕ, Bool, true, false, List, [], ◌∷◌, ◌++◌, Option, Some, None, refl, ap, sym, ◌∙◌, subst, if◌then◌else◌, append_assoc}
 use Rattle.sftp_model.specs.declared.config.Choice.{Choice}
 use Rattle.sftp_model.specs.declared.reply.Reply.{Reply}
@@ -34,11 +34,11 @@ module _ (first : MachineState) (choices : List Choice) where
   machine_at (entry.Event Send ∷ past) = machine_at past
   machine_at (_ ∷ past) = machine_at past
 
-  -- what it answers to a further request
+  -- its reply to a further request
   abbrev pub said_at : List Entry → Request → Reply
   said_at past r = (answer_of (machine_at past) r (choice_for r (choices_at past))).0
 
-  -- it has gone on to what comes later
+  -- it has continued to the later requests
   abbrev GoesOn : List Entry → List Event → MachineState → Type 0
   GoesOn q later m = replay_from (machine_at q) (choices_at q) (count_submitted q) later ≡ Serves m
 
@@ -93,7 +93,7 @@ module _ (first : MachineState) (choices : List Choice) where
   behind_in_order q (entry.LetGo lane ∷ after) e = behind_in_order q after e
   behind_in_order q (entry.Kept fault ∷ after) e = behind_in_order q after e
 
-  -- The reply that was taken to a request, where one was, is what the machine answers to it there.
+  -- The reply that was taken to a request, if one was, is the machine's reply to it there.
   pub agrees : (s : Setting) (q after : List Entry) (by : Owner) (id : ℕ) (r : Request) (m : MachineState)
       → IsJournal s (after ++ entry.Event (Submit by id r) ∷ q)
       → replay_from first choices 0 (trace_of (after ++ entry.Event (Submit by id r) ∷ q)) ≡ Serves m

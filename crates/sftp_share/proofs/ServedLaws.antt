@@ -79,15 +79,15 @@ number_one : (n k : ℕ) → n < MAX_HANDLES → k < MAX_HANDLES → numbered_ha
 number_one n k a b e = sym (from_be_bytes-to_be_bytes_4 n a)
     ∙ (ap (from_be_bytes w32) e ∙ from_be_bytes-to_be_bytes_4 k b)
 
--- the definition's answer, with the next number as its handle
+-- the definition's reply, with the next number as its handle
 abbrev done_at : MachineState → List Choice → Request → Answer
 done_at m choices r = apply m.tree m.config r (first_choice choices) (numbered_handle m.grants)
 
--- the grants behind an answer
+-- the grants after a reply
 abbrev grants_behind : ℕ → Reply → ℕ
 grants_behind n x = if is_handle x then n + 1 else n
 
--- where it granted the next handle, the one behind it is new, and else all that were
+-- if it granted the next handle, the one after it is new, and otherwise all that were
 new_from : (m : MachineState) (choices : List Choice) (r : Request) → m.grants < MAX_HANDLES → NewFrom m.grants m.tree
     → NewFrom (grants_behind m.grants (done_at m choices r).0) (done_at m choices r).1
 new_from m choices r small new k le lt =
@@ -121,7 +121,7 @@ follows state x lt = by_test (is_handle x.0) (state.grants == MAX_HANDLES) refl
     by_test true false is e = record { said = refl; tree = refl; grants = rw is refl }
     by_test false b is e = record { said = refl; tree = refl; grants = rw is refl }
 
--- what is left has the same offers, and no fewer grants
+-- the machine that is left has the same offers, and no fewer grants
 record Stays (state : MachineState) (after : MachineState) : Type 0 where
   config : after.config ≡ state.config
   grants : state.grants ≤ after.grants
@@ -136,7 +136,7 @@ stays state x = by_test (is_handle x.0) (state.grants == MAX_HANDLES)
     by_test true false = record { config = refl; grants = omega arith }
     by_test false b = record { config = refl; grants = omega arith }
 
--- the query for limits is told them, and changes nothing
+-- the query for limits returns them, and changes nothing
 tells_them : (m : MachineState) → (limits : Option Limits) → after_answer m (limits_reply limits, m.tree)
     ≡ (limits_reply limits, m)
 tells_them m None = refl
@@ -149,7 +149,7 @@ answers_query m choices = tells_them m m.config.limits
 
 -- ---- all requests
 
--- one request more
+-- another request
 serves_more : (config : ServerConfig) (full : List Entry) (mid now : FileTree) (left : List Choice)
     (rs : List (ℕ × Request)) (m : FileTree) (choices : List Choice) (x : ℕ × Request) (handle : List ℕ)
     → ServesAll config full m choices rs mid → left ≡ drop (length rs) choices → MayGrant mid handle
@@ -214,14 +214,14 @@ module _ (first : MachineState) (choices : List Choice) (full : List Entry) wher
         config = stay.config ∙ ran.config;
       }
 
-  -- what is kept from request to request, whoever asked
+  -- the facts that each request keeps, whoever asked
   kept : (q : List Entry) (r : Request) → Stays (machine_at first choices q)
       (answer_of (machine_at first choices q) r (choice_for r (choices_at first choices q))).1
   kept q r = stays (machine_at first choices q) (apply (machine_at first choices q).tree
       (machine_at first choices q).config r
       (choice_for r (choices_at first choices q)) (numbered_handle (machine_at first choices q).grants))
 
-  -- each request got what the machine answers to it
+  -- each request got the machine's reply to it
   abbrev AllAgree : Type 0
   AllAgree = (q after : List Entry) (by : Owner) (id : ℕ) (r : Request) → full ≡ after
       ++ entry.Event (Submit by id r) ∷ q
@@ -307,7 +307,7 @@ module _ (first : MachineState) (choices : List Choice) (full : List Entry) wher
   setup_asks owner.Close r e a = absurd cc
   setup_asks (owner.Call lane call) r e a = absurd cc
 
-  -- the query for limits stands first, and was told those of the machine
+  -- the query for limits is first, and returned those of the machine
   query_told : (s : Setting) (after q : List Entry) (a : AskedRequest) → full ≡ after ++ q → IsJournal s q → AllAgree
       → asked_at q 0 ≡ Some a
       → a.by ≡ owner.Setup → IsReply (answer full 0) (limits_reply first.config.limits)
@@ -357,9 +357,9 @@ module _ (first : MachineState) (choices : List Choice) (full : List Entry) wher
       by_case owner.Close is = tt
       by_case (owner.Call lane call) is = tt
 
--- ---- what was sent
+-- ---- requests that were sent
 
--- what wasn't sent is unanswered
+-- a request that was not sent is unanswered
 none_beyond : (s : Setting) (past : List Entry) (p : ℕ) → IsJournal s past → count_sent past ≤ p → answer past p ≡ None
 none_beyond s [] p j le = refl
 none_beyond s (entry.Event Send ∷ past) p j le = answer_beyond past p le
@@ -376,7 +376,7 @@ all_sent (entry.Event Send ∷ past) le = refl
 all_sent (entry.Event (Take id r) ∷ past) le = all_sent past le
 all_sent (_ ∷ past) le = all_sent past le
 
--- where nothing is unanswered, all was sent
+-- if nothing is unanswered, all was sent
 sent_where_answered : (s : Setting) (past : List Entry) → IsJournal s past → count_unanswered past ≡ 0
     → requests_sent past ≡ requests_of past
 sent_where_answered s past j none = elim (cases_lt (count_sent past) (count_submitted past)) [
@@ -387,8 +387,8 @@ sent_where_answered s past j none = elim (cases_lt (count_sent past) (count_subm
 
 -- ---- all together
 
--- All that a session asked was answered by one run of the machine, which leaves it so, and the query for limits by
--- those of the machine.
+-- One run of the machine answered all that a session asked, and leaves it so; it answered the query for limits with
+-- its own.
 pub serves_asked : (first : MachineState) (choices : List Choice) (s : Setting) (past : List Entry) (m : MachineState)
     → first.grants ≡ 0 → first.tree.handles ≡ [] → IsJournal s past → replay_from first choices 0 (trace_of past)
     ≡ replay.Serves m
@@ -407,7 +407,7 @@ serves_asked first choices s past m none closed j e few =
       tells_by first choices past s (asked_at past 0) refl j all,
     )
 
--- and all that it sent, where nothing is unanswered
+-- and all that it sent, if nothing is unanswered
 pub serves_sent : (first : MachineState) (choices : List Choice) (s : Setting) (past : List Entry) (m : MachineState)
     → first.grants ≡ 0 → first.tree.handles ≡ [] → IsJournal s past → replay_from first choices 0 (trace_of past)
     ≡ replay.Serves m

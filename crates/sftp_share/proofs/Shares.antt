@@ -1,4 +1,4 @@
--- A run of a script's lanes in threads, and what its replay says of it.
+-- A run of a script's lanes in threads, and the meaning of its replay.
 use Rattle.std.proofs.Common.{◌≡◌, ◌<◌, ◌∙◌, ◌++◌, ℕ, Bool, List, length, refl, ap, sym, subst, inl, inr, ◌⊎◌}
 use Rattle.std.specs.Prelude.{Option, Some, None, Result, Ok, Err, IfErr, IfOk, OnErr, reverse}
 use Rattle.machine_model.specs.FirstTree.{first_tree}
@@ -35,7 +35,6 @@ use Rattle.sftp_share.specs.Shared.{
   RightFor,
   RunsOutOfMemory,
   StoppedOver,
-  StopsSome,
   differs_by,
   replay_text,
   report_text,
@@ -65,21 +64,7 @@ has_run out out' input input' last script lanes report same fresh input_fresh ba
   };
 }
 
-pub stopped_over : {A B : Type 0} (out out' : LinkView A) (input input' : LinkView B) (last : Option Halves) (e : Error)
-    → IsNewHalf out
-    → IsNewHalf input → last ≡ Some (halves_of out' input') → StopsSome out out' input input' e → StoppedOver A B last e
-stopped_over out out' input input' last e fresh input_fresh back stops = record {
-  out = out;
-  out_now = out';
-  input = input;
-  input_now = input';
-  out_fresh = fresh;
-  input_fresh = input_fresh;
-  did = stops;
-  is = back;
-}
-
--- whatever it answered
+-- with either result
 pub ran_if : {A B : Type 0} (out out' : LinkView A) (input input' : LinkView B) (last : Option Halves) (script : Script)
     (lanes : List Lane)
     (result : Result SharedReport Error) → lanes ≡ script.lanes → IsNewHalf out → IsNewHalf input → last
@@ -92,22 +77,31 @@ ran_if out out' input input' last script lanes (Ok report) same fresh input_fres
     has_run out out' input input' last script lanes report same fresh input_fresh back runs over ends
 ran_if out out' input input' last script lanes (Err e) same fresh input_fresh back runs over ends = tt
 
-pub stopped_if : {A B : Type 0} (lanes : List Lane) (options : SftpOptions) (out out' : LinkView A)
-    (input input' : LinkView B) (last : Option Halves)
-    (result : Result SharedReport Error) → IsNewHalf out → IsNewHalf input → last ≡ Some (halves_of out' input')
-    → IfErr result (StopsBy lanes options out out' input input') → IfErr result (λ e. StoppedOver A B last e)
-stopped_if lanes options out out' input input' last (Ok report) fresh input_fresh back stops = tt
-stopped_if lanes options out out' input input' last (Err e) fresh input_fresh back stops =
-    stopped_over out out' input input' last e fresh input_fresh back (lanes, (options, stops))
+pub stopped_if : {A B : Type 0} (out out' : LinkView A) (input input' : LinkView B) (last : Option Halves)
+    (script : Script) (lanes : List Lane) (result : Result SharedReport Error) → lanes ≡ script.lanes → IsNewHalf out
+    → IsNewHalf input → last ≡ Some (halves_of out' input')
+    → IfErr result (StopsBy lanes script.options out out' input input')
+    → IfErr result (λ e. StoppedOver A B last script e)
+stopped_if out out' input input' last script lanes (Ok report) same fresh input_fresh back stops = tt
+stopped_if out out' input input' last script lanes (Err e) same fresh input_fresh back stops = record {
+  out = out;
+  out_now = out';
+  input = input;
+  input_now = input';
+  out_fresh = fresh;
+  input_fresh = input_fresh;
+  did = subst (λ (l : List Lane). StopsBy l script.options out out' input input' e) same stops;
+  is = back;
+}
 
-pub has_stopped_if : (A B : Type 0) (before last : Option Halves) (result : Result SharedReport Error)
-    → IfErr result (λ e. StoppedOver A B last e) → IfErr result (λ e. HasStopped A B before last e)
-has_stopped_if A B before last (Ok report) stops = tt
-has_stopped_if A B before last (Err e) stops = inr stops
+pub has_stopped_if : (A B : Type 0) (before last : Option Halves) (script : Script) (result : Result SharedReport Error)
+    → IfErr result (λ e. StoppedOver A B last script e) → IfErr result (λ e. HasStopped A B before last script e)
+has_stopped_if A B before last script (Ok report) stops = tt
+has_stopped_if A B before last script (Err e) stops = inr stops
 
--- ---- want of memory
+-- ---- out of memory
 
--- there was none for the answer to a run, or to an error
+-- if an allocation failed for the answer to a run, or to an error
 pub on_err : {T E : Type 0} (result : Result T E) (P : Type 0) → P → OnErr result P
 on_err (Ok x) P p = tt
 on_err (Err e) P p = p
@@ -118,7 +112,7 @@ pub run_back : {A B : Type 0} (before last : Option Halves) (script : Script) (r
 run_back before last script report run = inr (inl (report, run))
 
 pub stop_back : {A B : Type 0} (before last : Option Halves) (script : Script) (e : Error)
-    → HasStopped A B before last e
+    → HasStopped A B before last script e
     → (last ≡ before) ⊎ HasBack A B last script
 stop_back before last script e (inl h) = inl h.1
 stop_back before last script e (inr h) = inr (inr (e, h))
@@ -132,7 +126,7 @@ read_starves A B before last bytes script (Ok x) e h = tt
 read_starves A B before last bytes script (Err why) e (inl same) = inl same
 read_starves A B before last bytes script (Err why) e (inr back) = inr (script, e, back)
 
--- ---- its replay
+-- ---- the replay
 
 pub trace_none : (lanes : List Lane) (options : SftpOptions) (r : SharedReport) → RunsShared lanes options r
     → NoHello r.report.trace
@@ -165,17 +159,17 @@ is_shared last script r differs text h d t = record {
   is = t;
 }
 
--- an error with a line stopped over the halves
-pub is_stopped : {A B : Type 0} (before last : Option Halves) (e : Error) (text : List ℕ) → HasStopped A B before last e
-    → IsErrorLine e text → IsStopped A B last text
-is_stopped before last e text (inl h) line =
+-- an error that a line names stopped the run over the halves
+pub is_stopped : {A B : Type 0} (before last : Option Halves) (script : Script) (e : Error) (text : List ℕ)
+    → HasStopped A B before last script e → IsErrorLine e text → IsStopped A B last script text
+is_stopped before last script e text (inl h) line =
     absurd (let none : Some line.0 ≡ None = sym line.1 ∙ ap error_name h.0 in cc)
-is_stopped before last e text (inr h) line = record { why = e; stops = h; is = line }
+is_stopped before last script e text (inr h) line = record { why = e; stops = h; is = line }
 
 pub stopped_right : {A B : Type 0} (before last : Option Halves) (script : Script) (e : Error) (differs : Bool)
     (says : Answered)
-    (text : List ℕ) → HasStopped A B before last e → says ≡ Stopped → IsErrorLine e text
+    (text : List ℕ) → HasStopped A B before last script e → says ≡ Stopped → IsErrorLine e text
     → RightFor A B last script differs says text
 stopped_right {A = A} {B = B} before last script e differs says text stopped is line =
     subst (λ (a : Answered). RightFor A B last script differs a text) (sym is)
-    (is_stopped before last e text stopped line)
+    (is_stopped before last script e text stopped line)

@@ -1,4 +1,4 @@
--- The reply to a request in the events behind its Submit is what the journal answers at its place.
+-- The reply to a request in the events after its Submit is the journal's answer at its place.
 use Rattle.std.proofs.Common.{
   ◌≡◌,
   ◌≢◌,
@@ -41,9 +41,9 @@ use Rattle.session_model.proofs.CallLaws.{next_take}
 use Rattle.session_model.proofs.RequestLaws.{answer_beyond, answer_new, answer_other, bearer_below}
 use Rattle.sftp_share.specs.Replays.{reply_in}
 
--- ---- events behind a Submit
+-- ---- events after a Submit
 
--- a further request bears the id
+-- a further request has the id
 abbrev pub bears : ℕ → List Event → Bool
 bears id [] = false
 bears id (Submit by i r ∷ later) = if i == id then true else bears id later
@@ -98,7 +98,7 @@ submit_brings_none by i id r = elim (eqb_tells i id) [ inl t ↦ rw t.0 refl | i
 take_brings_none : (i id : ℕ) (x : Reply) → i ≢ id → reply_in id (Take i x ∷ []) ≡ None
 take_brings_none i id x ne = elim (eqb_tells i id) [ inl t ↦ absurd (ne t.1) | inr t ↦ rw t.0 refl ]
 
--- ---- journals behind a Submit
+-- ---- journals after a Submit
 
 -- the events, the oldest first
 abbrev pub in_order : List Entry → List Event
@@ -116,7 +116,7 @@ in_order_is (entry.Added lane c ∷ past) = in_order_is past
 in_order_is (entry.Kept fault ∷ past) = in_order_is past
 
 module _ (by : Owner) (id : ℕ) (r : Request) (q : List Entry) where
-  -- what came behind the Submit of the request
+  -- the journal that has these entries after the Submit of the request
   abbrev behind : List Entry → List Entry
   behind after = after ++ entry.Event (Submit by id r) ∷ q
 
@@ -125,7 +125,7 @@ module _ (by : Owner) (id : ℕ) (r : Request) (q : List Entry) where
   above (entry.Event (Submit b j x) ∷ after) = let old = above after in omega (arith, old)
   above (_ ∷ after) = above after
 
-  -- who bears an id at the request's place bears its own, and no further request does
+  -- an id whose bearer is at the request's place is its own, and no further request has it
   borne : (after : List Entry) (i : ℕ) → bearer (behind after) i ≡ Some (count_submitted q) → (i ≡ id)
       × (bears id (in_order after) ≡ false)
   borne [] i e = elim (eqb_tells id i) [
@@ -155,7 +155,7 @@ module _ (by : Owner) (id : ℕ) (r : Request) (q : List Entry) where
   borne (entry.LetGo lane ∷ after) i e = borne after i e
   borne (entry.Kept fault ∷ after) i e = borne after i e
 
-  -- while no further request bears the id, this one does
+  -- while no further request has the id, this one does
   bearing : (after : List Entry) → bears id (in_order after) ≡ false → bearer (behind after) id
       ≡ Some (count_submitted q)
   bearing [] f = rw (eq-eqb id id refl) refl

@@ -19,7 +19,6 @@ use Rattle.std.specs.Prelude.{
   Err,
 }
 use Rattle.machine_model.specs.FirstTree.{first_tree}
-use Rattle.plan_model.specs.declared.call.Lane.{Lane}
 use Rattle.program_shell.specs.declared.ending.Answered.{Answered}
 use Rattle.program_shell.specs.declared.ending.Answered.TheVariants.{Done, Stopped, Refused}
 use Rattle.program_shell.specs.Ended.{ReadAs}
@@ -30,7 +29,6 @@ use Rattle.sftp_link.specs.Views.{LinkView}
 use Rattle.machine_answers.specs.MachineState.{MAX_HANDLES, MachineState}
 use Rattle.sftp_model.specs.declared.error.Error.{Error}
 use Rattle.sftp_model.specs.declared.error.Error.TheVariants as error
-use Rattle.sftp_model.specs.declared.options.SftpOptions.{SftpOptions}
 use Rattle.sftp_model.specs.declared.reply.Reply.{Reply}
 use Rattle.sftp_model.specs.Frames.{reply_body}
 use Rattle.script_grammar.specs.declared.script.Script.{Script}
@@ -93,24 +91,21 @@ pub record HasRun (A B : Type 0) (last : Option Halves) (script : Script) (repor
   pub over : IsEnded (length script.lanes) (reverse report.journal.items)
   pub halves : PutBack A B (λ out out_now input input_now. Ended out out_now input input_now report) last
 
--- This error stopped a run of some lanes over two halves, in the opening or by one of the workers.
-abbrev pub StopsSome : {A B : Type 0} → LinkView A → LinkView A → LinkView B → LinkView B → Error → Type 0
-StopsSome out out_now input input_now e =
-    (lanes : List Lane) × ((options : SftpOptions) × StopsBy lanes options out out_now input input_now e)
+-- Halves were given, and this error stopped the run of the script's lanes over them, in the opening or by one of the
+-- workers. They were put back.
+abbrev pub StoppedOver : (A B : Type 0) → Option Halves → Script → Error → Type 0
+StoppedOver A B last script e =
+    PutBack A B (λ out out_now input input_now. StopsBy script.lanes script.options out out_now input input_now e) last
 
--- Halves were given, this error stopped the run over them, and they were put back.
-abbrev pub StoppedOver : (A B : Type 0) → Option Halves → Error → Type 0
-StoppedOver A B last e = PutBack A B (λ out out_now input input_now. StopsSome out out_now input input_now e) last
-
--- An error stopped the run. Either an allocation failed, and the pair is unchanged; or halves were given, and put back
--- after it.
-abbrev pub HasStopped : (A B : Type 0) → Option Halves → Option Halves → Error → Type 0
-HasStopped A B before last e = ((e ≡ error.OutOfMemory) × (last ≡ before)) ⊎ StoppedOver A B last e
+-- An error stopped the run of a script's lanes. Either an allocation failed, and the pair is unchanged; or halves were
+-- given, and put back after it.
+abbrev pub HasStopped : (A B : Type 0) → Option Halves → Option Halves → Script → Error → Type 0
+HasStopped A B before last script e = ((e ≡ error.OutOfMemory) × (last ≡ before)) ⊎ StoppedOver A B last script e
 
 -- The halves were put back after a run of a script's lanes to its end, or after one that an error stopped.
 abbrev pub HasBack : (A B : Type 0) → Option Halves → Script → Type 0
 HasBack A B last script =
-    ((report : SharedReport) × HasRun A B last script report) ⊎ ((e : Error) × StoppedOver A B last e)
+    ((report : SharedReport) × HasRun A B last script report) ⊎ ((e : Error) × StoppedOver A B last script e)
 
 -- An allocation failed. The pair is unchanged, or it has the halves back after a run of a script that satisfies
 -- `Given`.
@@ -134,16 +129,16 @@ pub record IsShared (A B : Type 0) (last : Option Halves) (script : Script) (dif
         machine.tree
     pub is : text ≡ report_text report.report ++ replay_text (replay_of script report.report.trace)
 
--- An error other than out of memory stopped the run, and the line names it.
-pub record IsStopped (A B : Type 0) (last : Option Halves) (text : List ℕ) : Type 0 where
+-- An error other than out of memory stopped the run of the script's lanes, and the line names it.
+pub record IsStopped (A B : Type 0) (last : Option Halves) (script : Script) (text : List ℕ) : Type 0 where
   pub why : Error
-  pub stops : StoppedOver A B last why
+  pub stops : StoppedOver A B last script why
   pub is : IsErrorLine why text
 
 -- The answer and text that are right for a script.
 abbrev pub RightFor : (A B : Type 0) → Option Halves → Script → Bool → Answered → List ℕ → Type 0
 RightFor A B last script differs Done text = IsShared A B last script differs text
-RightFor A B last script differs Stopped text = IsStopped A B last text
+RightFor A B last script differs Stopped text = IsStopped A B last script text
 RightFor A B last script differs Refused text = ⊥
 
 -- The answer and text that are right for the bytes that were read. Bytes that are no script are refused, and nothing is

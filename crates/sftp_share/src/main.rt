@@ -2,13 +2,13 @@
 #![tactic(auto)]
 
 mod answer;
-mod ending;
 mod laws;
 mod left;
 mod outcome;
 mod replay_laws;
 mod replayed;
 mod share;
+mod statuses;
 mod threads;
 mod trace;
 
@@ -66,7 +66,7 @@ fn exit_with(rt: &HostRuntime, words: &[String], unreadable: bool, status: u8) -
         tell_refused(rt, words, &none);
     } else if status == REFUSED {
         let _ = eprintln!(rt; "sftp_share: {SCRIPT}");
-    } else if let Some(cause) = ending::cause_of(status) {
+    } else if let Some(cause) = statuses::cause_of(status) {
         let _ = eprintln!(rt; "sftp_share: {cause}");
     }
     ExitCode::from(status)
@@ -88,7 +88,7 @@ fn main(rt: HostRuntime) -> ExitCode {
     }
     let mut sink = WriteSink::new(rt.stdout());
     let status = if starved {
-        ending::OUT_OF_MEMORY
+        statuses::OUT_OF_MEMORY
     } else if words.is_empty() && !unreadable {
         let mut source = ReadSource::new(rt.stdin());
         let mut pair = MapPair::new();

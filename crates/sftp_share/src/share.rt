@@ -5,8 +5,8 @@ ghost use Rattle.script_grammar.specs.Scripts.{script_of};
 ghost use Rattle.sftp_share.specs.Ended.{ShareEnds};
 ghost use Rattle.sftp_share.specs.Shared.{HasBack, RightFor, RightShared, RunsOutOfMemory};
 
-use crate::ending::share_status;
 use crate::replayed::text_of_run;
+use crate::statuses::share_status;
 use crate::threads::run_lanes;
 use machine_halves::Pair;
 use program_shell::{

@@ -27,7 +27,7 @@ fn run_over<P: Pair<R>, R: Threads + Wait + Clock + Sync>(
     requires script { CanRun script.now }
     requires halves { IsNewHalf (P.Out.LinkState.state out) × IsNewHalf (P.In.LinkState.state input) }
     ensures ok { IfOk result (λ report. HasRun (P.Out.LinkState.Service) (P.In.LinkState.Service) (P.last pair.new) script.now report) }
-    ensures err { IfErr result (λ e. StoppedOver (P.Out.LinkState.Service) (P.In.LinkState.Service) (P.last pair.new) e) }
+    ensures err { IfErr result (λ e. StoppedOver (P.Out.LinkState.Service) (P.In.LinkState.Service) (P.last pair.new) script.now e) }
 {
     let lanes = script.lanes.as_slice();
     let (result, out, input) = run_shared(rt, alloc, out, input, lanes, &script.options);
@@ -46,7 +46,7 @@ pub(crate) fn run_lanes<P: Pair<R>, R: Threads + Wait + Clock + Sync>(
 ) -> Result<SharedReport, Error>
     requires { CanRun script.now }
     ensures ok { IfOk result (λ report. HasRun (P.Out.LinkState.Service) (P.In.LinkState.Service) (P.last pair.new) script.now report) }
-    ensures err { IfErr result (λ e. HasStopped (P.Out.LinkState.Service) (P.In.LinkState.Service) (P.last pair.old) (P.last pair.new) e) }
+    ensures err { IfErr result (λ e. HasStopped (P.Out.LinkState.Service) (P.In.LinkState.Service) (P.last pair.old) (P.last pair.new) script.now e) }
 {
     let Ok(server) = new_server_of(alloc, script) else {
         return Err(Error::OutOfMemory);

@@ -50,7 +50,7 @@ there [] n some = absurd (some refl)
 there (x ∷ xs) zero some = omega arith
 there (x ∷ xs) (suc n) some = let less = there xs n some in omega (arith, less)
 
--- nothing is at the end and behind it
+-- there is nothing at the end and after it
 pub none_left : {A : Type 0} (xs : List A) (n : ℕ) → slice_get xs n ≡ None → length xs ≤ n
 none_left [] n none = omega arith
 none_left (x ∷ xs) zero none = absurd cc

@@ -1,4 +1,4 @@
--- What the calls of a session add to its journal.
+-- The entries that the calls of a session add to its journal.
 use Rattle.std.proofs.Common.{
   ◌≡◌,
   ◌⊎◌,
@@ -92,7 +92,7 @@ use Rattle.sftp_tasks.specs.declared.polls.Polled.{Polled}
 use Rattle.sftp_tasks.specs.declared.polls.Polled.TheVariants as polled
 use Rattle.sftp_tasks.specs.Entries.{by_cancel, by_flush, by_let_go, by_read, by_step, names}
 
--- the journal has such entries more
+-- the journal has further entries, which pass the test
 abbrev pub Extends : (Entry → Bool) → List Entry → List Entry → Type 0
 Extends test before now = (more : List Entry) × (now ≡ more ++ before) × (list_all test more ≡ true)
 
@@ -139,7 +139,7 @@ settles_extend test lets s before now h = closes_extend test lets s before now h
 
 -- ---- the locked value
 
--- the session's journal has such entries more, and what was told stays
+-- the session's journal has such further entries, and a VERSION that was reported stays
 pub record Extended (test : Entry → Bool) (old new : SessionValue) : Type 0 where
   pub past : Extends test (past_of old.work) (past_of new.work)
   pub lanes : new.lanes ≡ old.lanes
@@ -186,7 +186,7 @@ goes_on_extended test Did old new h past = record {
   phase = number_stays old.phase new.phase (ap (λ (s : SessionValue). s.phase) h.rest);
 }
 
--- where nothing but the session has changed
+-- if only the session has changed
 pub session_goes : (test : Entry → Bool) (y z : Locked) → z ≡ record y { session = z.session }
     → Extended test y.session z.session → GoesBy test no_allowance (shown_of y) (shown_of z)
 session_goes test y z rest e =
@@ -247,7 +247,7 @@ steps_extended Failed lane old new event h = absurd h
 steps_extended Fresh lane old new event h = same_extended _ old new h.1
 steps_extended opening lane old new event h = same_extended _ old new h.1
 
--- ---- an answer, or an error
+-- ---- a result, or an error
 
 pub result_extended : {A : Type 0} (test : Entry → Bool) (old new : SessionValue) (r : Result A Error) (P : A → Type 0)
     → ((a : A) → P a → Extended test old new) → IfOk r P → IfErr r (λ e. RefusesCall e old new) → Extended test old new
@@ -288,7 +288,7 @@ cancels_extended Failed lane old new event h = absurd h
 cancels_extended Fresh lane old new event h = same_extended _ old new h.1
 cancels_extended opening lane old new event h = same_extended _ old new h.1
 
--- ---- lanes that are let go
+-- ---- lanes that are released
 
 pub lets_go_extend : (s : Setting) (lane : ℕ) (a b : RunProgress) → LetsGo s lane a b
     → Extends (passes by_let_go (Some lane)) a.past b.past
@@ -333,7 +333,7 @@ lets_go_extended lane old new true h =
     h
 lets_go_extended lane old new false h = same_extended _ old new h.1
 
--- ---- what is handed out
+-- ---- frames that are handed out
 
 hands_extend : (s : Setting) (a b : RunProgress) (bytes : Option (List ℕ)) (lane : Option ℕ) → HandsOut s a bytes b
     → Extends (passes by_flush lane) a.past b.past
@@ -343,7 +343,7 @@ hands_extend s a b (Some bytes) lane h = subst (λ (y : RunProgress). Extends (p
     (sym h.2)
     (extends_one _ (entry.Event Send) a.past refl)
 
--- what is seen of a session
+-- the parts of a session that are seen
 seen_extended : (test : Entry → Bool) (old new : SessionValue) (now : SessionView) → seen_of new ≡ now → now.given
     ≡ given_of old → now.version ≡ old.version → phase_number old.phase ≤ phase_number now.phase
     → Extends test (past_of old.work) now.progress.past
@@ -372,7 +372,7 @@ hands_extended Open lane old new bytes was h = goes_on_extended _ _ old new h
     (hands_extend (setting_at old) (progress_of old.work) (progress_of new.work) bytes lane h.did.hands)
 hands_extended Failed lane old new bytes was h = absurd h
 
--- ---- what is taken
+-- ---- frames that are taken
 
 takes_extend : (s : Setting) (body_reads : Result (Option ℕ × Reply) FrameError) (a b : RunProgress) (lane : Option ℕ)
     → TakesAndSettles s body_reads a b → Extends (passes by_read lane) a.past b.past

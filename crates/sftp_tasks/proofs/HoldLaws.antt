@@ -364,7 +364,7 @@ pub if_false : (r : Result Bool Error) (P : Bool → Type 0) → IfOk r (λ did.
 if_false (Ok did) P is p = subst P (sym is) p
 if_false (Err e) P is p = tt
 
--- what a seat handed out it may tell as written
+-- a seat may record as written the frames that it handed out
 pub handed_unwritten : (m n : Me Locked View) {Did : Locked → Locked → List Entry → Type 0} (h : Hold shown_of Did m n)
     (handed : Handed)
     → UnlessFault HandingOut h.before h.after (Ok (Some handed)) → handed.frames ≤ (claim_of n).unwritten

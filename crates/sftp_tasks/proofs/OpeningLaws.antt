@@ -89,7 +89,7 @@ none-some x e = cc e
 some-same : (a b : List ℕ) → Some a ≡ Some b → a ≡ b
 some-same a b e = cc e
 
--- what is handed out first is the hello
+-- the hello is handed out first
 pub hello_first : (y z : Locked) (r : Result (Option Handed) Error) → y.session.phase ≡ Fresh → HandingOut y z r
     → HandingHello y z r
 hello_first y z (Ok None) fresh h =
@@ -105,7 +105,7 @@ hello_first y z (Ok (Some x)) fresh h =
     }
 hello_first y z (Err e) fresh h = h
 
--- what a seat handed out it may tell as written
+-- a seat may record as written the frames that it handed out
 pub hello_unwritten : (m n : Token) {Did : Locked → Locked → List Entry → Type 0} (h : Hold shown_of Did m n)
     (handed : Handed)
     → HandsOutHello h.before h.after handed → handed.frames ≤ (claim_of n).unwritten

@@ -21,7 +21,7 @@ use Rattle.sftp_tasks.specs.SessionEvents.{AllEnded}
 use Rattle.sftp_tasks.specs.Shows.{shown_of}
 use Rattle.sftp_tasks.proofs.EndedLaws.{ended_most, none_left}
 
--- as many calls of a lane have ended as it has, where none is left
+-- if no call of a lane is left, all of its calls have ended
 pub all_ended : (s : SessionValue) (lane calls : ℕ) → IsJournal (setting_at s) (past_of s.work)
     → current (setting_at s) (past_of s.work) lane ≡ None → calls ≡ length (outcomes_of (past_of s.work) lane)
     → AllEnded s.lanes (past_of s.work) lane calls
@@ -37,7 +37,7 @@ ended_as (polled.Ended calls) is = refl
 ended_as polled.Moved is = absurd (true≢false (sym is))
 ended_as polled.Waits is = absurd (true≢false (sym is))
 
--- what the last poll found the seat has seen
+-- the seat has seen the result of the last poll
 pub sees_ended : (lane : Option ℕ) (calls : ℕ) (m n : Token) → InOneHold (PollsSeat lane) (Ok (polled.Ended calls)) m n
     → SeesEnded lane calls (sight_by n)
 sees_ended None calls m n h = ap calls_in h.did.0.1.1

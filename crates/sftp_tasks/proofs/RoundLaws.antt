@@ -74,7 +74,7 @@ pub nothing_flushes_all : (lane : Option ℕ) (a b : Claim) → AddsEntries (by_
     → AddsEntries (by_flush lane) a b
 nothing_flushes_all lane a b g = grew_weaker (by_nothing lane) (by_flush lane) (nothing_flushes lane) a b g
 
--- where the second fault came with the answer of the hold
+-- if the second fault came with the result of the hold
 pub kept_was_read : (lane : Option ℕ) (a b : Claim) → AddsEntries (by_failing lane) a b → AddsEntries (by_read lane) a b
 kept_was_read lane a b g = grew_weaker (by_failing lane) (by_read lane) (failing_reads lane) a b g
 
@@ -121,7 +121,7 @@ module _ {X Y : Type 0} {test : Entry → Bool} {needs : Allowance} {old new : L
   look_true did is h = hold_map shown_of m n h (subst (λ (x : Result Bool Error). UnlessFault LooksForFrame h.before
       h.after x) is h.did.does)
 
-  -- what was read of a frame is taken, and so the frame is
+  -- if what was read of a frame is taken, the frame is
   pub took : (frame : Received) (read : FrameRead) (did r : Result (Unit {0}) Error) → did ≡ r → ReadsFrame frame read
       → Hold shown_of (Applied shown_of test needs (λ y z. UnlessFault (CountsTakenFrame read) y z did) copied old new)
       m n → HoldsOnce (λ y z more. UnlessFault (TakingFrame frame) y z r) m n

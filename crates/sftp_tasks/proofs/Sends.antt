@@ -1,4 +1,4 @@
--- What lies behind the lock may go to another thread.
+-- The value that the lock protects may go to another thread.
 use denote.Param.Send.{IsSend, sendable}
 use Rattle.std.proofs.Crossing.{crosses}
 use Rattle.sftp_lanes.proofs.Sends.{session_sends}

@@ -1,4 +1,4 @@
--- What the events of a round that add to the journal send and take, once VERSION was told.
+-- The bytes and replies of the events of a round that add to the journal, once VERSION was reported.
 use Rattle.std.proofs.Common.{◌≡◌, ℕ, List, [], ◌∷◌, ◌++◌, drop, Bool, true, true≢false, refl, sym, ap, ◌∙◌, subst, Option, Some, None, Ok, eq-eqb}
 use Rattle.std.specs.Prelude.{Result, if◌then◌else◌}
 use Rattle.std.specs.List.{list_all}
@@ -65,7 +65,7 @@ pub same_more : (test : Entry → Bool) (before now more : List Entry) → Exten
 same_more test before now more e is =
     subst (λ (es : List Entry). list_all test es ≡ true) (append_cancel_right e.0 more before (sym e.1 ∙ is)) e.2
 
--- ---- what is handed out
+-- ---- frames that are handed out
 
 some-none : {A : Type 0} (x : A) → Some x ≡ None → ⊥
 some-none x e = cc e
@@ -73,7 +73,7 @@ some-none x e = cc e
 some-same : (a b : List ℕ) → Some a ≡ Some b → a ≡ b
 some-same a b e = cc e
 
--- a Send, and the frames of what was unsent
+-- a Send, and the frames that were unsent
 pub record HandsSend (old new : SessionValue) (bytes : List ℕ) : Type 0 where
   pub past : past_of new.work ≡ entry.Event Send ∷ past_of old.work
   pub bytes_are : bytes ≡ unsent_bytes (past_of old.work)
@@ -98,7 +98,7 @@ hands_none Queried old new h = ap (λ (s : SessionValue). past_of s.work) h.1
 hands_none Open old new h = let d = h.did.hands in ap (λ (p : RunProgress). p.past) d.1
 hands_none Failed old new h = absurd h
 
--- ---- what is taken
+-- ---- frames that are taken
 
 -- a Take, and then CLOSEs
 pub record TakesReply (body_reads : Result (Option ℕ × Reply) FrameError) (old new : SessionValue) : Type 0 where
@@ -127,7 +127,7 @@ takes_reply Failed body_reads old new hello told h = absurd h
 
 -- ---- frames
 
--- a whole frame has its body behind its length
+-- a whole frame has its body after its length
 pub whole_body : (f : Received) → IsWhole f → body_of f ≡ Some (drop 4 f.bytes)
 whole_body f whole =
     let none : missing_bytes f.bytes ≡ 0 = sym (ap (λ (k : Option FormatKind). need_where k f.bytes) whole.unrefused)

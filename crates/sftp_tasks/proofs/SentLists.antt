@@ -35,7 +35,7 @@ not_longer : (b : Bool) (rs : List Receipt) (r : Receipt) (k : ℕ) → k ≤ le
 not_longer true rs r k less same = absurd (omega (arith, length-append rs (r ∷ []), less, same))
 not_longer false rs r k less same = refl
 
--- where a seat made none of what came, it made none of the newest
+-- if a seat made none of the new entries, it did not make the newest
 apart : (n : ℕ) (s : Stamp) (more log : List Stamp) → own n (s ∷ (more ++ log)) ≡ own n log → (s.by == n) ≡ false
 apart n s more log same =
     not_longer (s.by == n) (own n (more ++ log)) (receipt (length (more ++ log)) s.entry) (length (own n log))
@@ -142,7 +142,7 @@ module _ {S : Type 0} (shown : S → Shown) {Did : S → S → List Entry → Ty
     hold_took_none test quiet all = taken_after ∙ taken_quiet test (number_of m) h.more h.now.log quiet all
         ∙ taken_before
 
-    -- a Send sends what was unsent
+    -- a Send sends the frames that were unsent
     pub hold_sent : h.more ≡ entry.Event Send ∷ []
         → sent_by (number_of n) (sight_by n).log ≡ sent_by (number_of m) (sight_by m).log
         ++ unsent_bytes (shown h.before).past

@@ -1,4 +1,4 @@
--- What the rounds of the worker that sends write, once VERSION was told.
+-- The bytes that the rounds of the sending worker write, once VERSION was reported.
 use Rattle.std.proofs.Common.{
   ◌≡◌,
   ◌⊎◌,
@@ -142,7 +142,7 @@ stage_same : (y z : Locked) (r : Result ℕ Error) → TellsStage y z r → past
 stage_same y z (Ok stage) h = ap (λ (x : Locked). past_of x.session.work) h.0
 stage_same y z (Err e) h = ap (λ (x : Locked). past_of x.session.work) h.0
 
--- ---- what was written
+-- ---- the bytes that were written
 
 less_front : (bytes : List ℕ) (x y : List Piece) → SentLess bytes x y → SentFront bytes x y
 less_front bytes x y s = (s.0, s.1, s.2, s.4)
@@ -150,7 +150,7 @@ less_front bytes x y s = (s.0, s.1, s.2, s.4)
 all_front : (bytes : List ℕ) (x y : List Piece) → SentAll bytes x y → SentFront bytes x y
 all_front bytes x y s = (bytes, [], sym (append-nil bytes), s)
 
--- all of the first bytes, and then of the others what there was
+-- all of the first bytes, and then those of the others that were written
 sent_then : {T : Type 0} (r : Result T Error) (p q : List ℕ) (a b c : List Piece) → SentAll p a b → SentUnless r q b c
     → SentUnless r (p ++ q) a c
 sent_then (Ok x) p q a b c s t = sent_both a b c p q s t
@@ -159,7 +159,7 @@ sent_then (Err e) p q a b c s t =
 
 -- ---- one hold that hands out
 
--- it made a Send of just these bytes
+-- it made a Send of exactly these bytes
 handed : {Did : Locked → Locked → List Entry → Type 0} (bytes : List ℕ) (m n : Token) (h : HoldsOnce Did m n)
     (hello : Reply) → SeesVersion hello (sight_by m)
     → HandsOutIn h.before.session.phase h.before.session h.after.session (Some bytes)
@@ -179,7 +179,7 @@ module _ {Service : Type 0} where
     shown = told_self (SentAll []) v.log (λ x. sent_nothing x);
   }
 
-  -- the seat went on without sending
+  -- the seat continued without sending
   wrote_same : {T : Type 0} (r : Result T Error) (m k n : Token) (v w : LinkView Service) → WroteSends r m k v w
       → SameSent k n → WroteSends r m n v w
   wrote_same r m k n v w p s = record { bytes = p.bytes; made = s.sent ∙ p.made; shown = p.shown }
@@ -234,7 +234,7 @@ module _ {Service : Type 0} where
 
   -- ---- rounds
 
-  -- what a round leaves of a seat that had seen VERSION
+  -- the state of a seat that had seen VERSION, after a round
   abbrev Wrote : {T : Type 0} → Reply → Result T Error → Token → Token → LinkView Service → LinkView Service → Type 0
   Wrote hello r m n v w = WroteSends r m n v w × SeesVersion hello (sight_by n)
 

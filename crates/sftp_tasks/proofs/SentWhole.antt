@@ -1,4 +1,4 @@
--- Where one seat made all Sends of a journal, what it sent is what the journal sends; and so of Takes.
+-- If one seat made all Sends of a journal, its bytes are those that the journal sends; the same for Takes.
 use Rattle.std.proofs.Common.{
   ◌≡◌,
   ◌≢◌,
@@ -94,7 +94,7 @@ all_here (g ∷ seats) cs law closed home k less =
     dite (ℕ_discrete (length seats) k) (λ same. subst (λ (j : ℕ). HasNumber j cs) same last)
     (λ apart. before k (omega arith))
 
--- ---- what each made
+-- ---- the entries that each made
 
 -- all entries of these receipts are such
 abbrev pub AllMade : (Entry → Type 0) → List Receipt → Type 0
@@ -118,7 +118,7 @@ made_before : (P : Entry → Type 0) (b : Bool) (rs : List Receipt) (r : Receipt
 made_before P true rs r h = made_front P rs (r ∷ []) h
 made_before P false rs r h = h
 
--- what an entry of the seat n may do, where one seat sends and one takes
+-- the effect that an entry of the seat n may have, if one seat sends and one takes
 pub record MovesAs (sender reader n : ℕ) (e : Entry) : Type 0 where
   pub sends : n ≢ sender → (past : List Entry) → sends e past ≡ []
   pub takes : n ≢ reader → takes e ≡ []
@@ -156,7 +156,7 @@ claim_moves sender reader log (c ∷ cs) n all has =
     ⊎_elim (λ (is : c.number ≡ n). subst (λ (k : ℕ). AllMade (MovesAs sender reader k) (own k log)) is all.0)
     (λ (h : HasNumber n cs). claim_moves sender reader log cs n all.1 h) has
 
--- where none of the seats is missing
+-- if none of the seats is missing
 pub moves_all : (now : Sight) (cs : List Claim) (sender reader : ℕ) → IsLawfulSight now → AllTold now cs
     → HasAllSeats cs
     → AllClaimsMove sender reader now.log cs → AllMove sender reader now.log

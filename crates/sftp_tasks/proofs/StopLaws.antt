@@ -13,7 +13,7 @@ use Rattle.sftp_tasks.specs.SessionEvents.{IsKept}
 none-some : (fault : Fault) → None ≡ Some fault → ⊥
 none-some fault e = cc e
 
--- what went wrong is answered, where its fault was kept
+-- the error itself is returned if its fault was recorded
 pub stopping_kept : (why : Error) (fault : Fault) (y z : Locked) → fault_for why ≡ Some fault
     → IsKept fault y.session z.session → StopsInRound why why y z
 stopping_kept error.OutOfMemory fault y z is k = absurd (none-some fault is)

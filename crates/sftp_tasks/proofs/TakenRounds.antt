@@ -1,4 +1,4 @@
--- What the rounds of the worker that reads get, once VERSION was told.
+-- The replies that the rounds of the reading worker receive, once VERSION was reported.
 use Rattle.std.proofs.Common.{◌≡◌, ◌≤◌, ◌+◌, ◌-◌, ℕ, List, [], ◌∷◌, ◌++◌, drop, length, Bool, true, false, refl, sym, ap, ◌∙◌, subst, inl, inr, append_assoc, append-nil, arith, Some, None, Ok, Err}
 use Rattle.std.specs.Prelude.{Result, nat_lt}
 use Rattle.std.proofs.lemmas.Bool.Decides.{nat_tests}
@@ -56,9 +56,9 @@ one_frame other bytes why = inr why.1.1.four
 no_byte : IsOfOneFrame []
 no_byte = inl (record { unfaulted = refl; within = λ le. absurd (omega (arith, le)) })
 
--- ---- what was got
+-- ---- the frames that were received
 
--- the frames of the first replies, and then of the others what there was
+-- the frames of the first replies, and then those of the others that came
 got_then : {T U : Type 0} (t : T) (r : Result U Error) (xs ys : List (ℕ × Reply)) (a b c : List Piece)
     → GotUnless (Ok t) xs a b → GotUnless r ys b c
     → GotUnless r (xs ++ ys) a c
@@ -88,7 +88,7 @@ finish_same : (y z : Locked) (r : Result Bool Error) → SettlesEnd y z r → pa
 finish_same y z (Ok all) h = ap (λ (x : Locked). past_of x.session.work) h.1
 finish_same y z (Err e) h = ap (λ (x : Locked). past_of x.session.work) h.0
 
--- at most bytes of one frame were got
+-- at most bytes of one frame were received
 abbrev GotSome : List Piece → List Piece → Type 0
 GotSome a b = (bytes : List ℕ) × (IsOfOneFrame bytes × GotOn a b bytes)
 
@@ -109,7 +109,7 @@ module _ {Service : Type 0} where
         (told_self (GotUnless (Ok t) []) v.log (λ x. ([], (refl, got_nothing x))));
   }
 
-  -- no frame more, but bytes of one
+  -- no further frame, only bytes of one
   got_bytes : {T : Type 0} (e : Error) (m n : Token) (v w : LinkView Service) → SameSent m n
       → IfLogged GotSome v.log w.log → GotTakes {T = T} (Err e) m n v w
   got_bytes e m n v w s some = record {
@@ -133,7 +133,7 @@ module _ {Service : Type 0} where
       → GotTakes {T = U} (Err f) m n v w
   got_err e f m n v w p = record { replies = p.replies; made = p.made; shown = p.shown }
 
-  -- all that was taken was got, and then an error came
+  -- every reply that was taken was received, and then an error came
   got_part : {T U : Type 0} (t : T) (e : Error) (m n : Token) (v w : LinkView Service) → GotTakes (Ok t) m n v w
       → GotTakes {T = U} (Err e) m n v w
   got_part t e m n v w p = record {
@@ -157,7 +157,7 @@ module _ {Service : Type 0} where
 
   -- ---- rounds
 
-  -- what a round leaves of a seat that had seen VERSION
+  -- the state of a seat that had seen VERSION, after a round
   abbrev pub Got : {T : Type 0} → Reply → Result T Error → Token → Token → LinkView Service → LinkView Service → Type 0
   Got hello r m n v w = GotTakes r m n v w × SeesVersion hello (sight_by n)
 
@@ -250,7 +250,7 @@ module _ {Service : Type 0} where
   shift_got (Err e) hello a b sees (inr h) =
       let same = none_same a b h in (got_still e a.0 b.0 a.1 b.1 same h.none.1, same.version hello sees)
 
-  -- ---- all of them
+  -- ---- all rounds
 
   pub led_got : (hello : Reply) (first : WorkerState Service) (between : List (WorkerState Service))
       (last : WorkerState Service) → SeesVersion hello (sight_by first.0)
@@ -267,7 +267,7 @@ module _ {Service : Type 0} where
         s.1,
       )
 
-  -- The worker that reads got the frames of the Takes that it made.
+  -- The worker that reads received the frames of the Takes that it made.
   pub read_got : (r : Result (Unit {0}) Error) (hello : Reply) (a b : WorkerState Service)
       → SeesVersion hello (sight_by a.0) → ReadWorks r a b
       → GotTakes r a.0 b.0 a.1 b.1

@@ -4,6 +4,7 @@ pub mod SessionEvents
 pub mod Entries
 pub mod LockedEvents
 pub mod Rounds
+pub mod RoundRows
 pub mod Calls
 pub mod Workers
 pub mod Reported

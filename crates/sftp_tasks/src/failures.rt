@@ -9,27 +9,27 @@ use crate::locked::Locked;
 use crate::report::NotClosed;
 use crate::shared_sftp::{Seat, SharedSftp};
 use session_model::Entry;
-use session_seats::{Ended, Ending, NotEnded, TakeOut};
-use sftp_model::{Error, Fault, SftpOptions};
-use ssh_encoding::OutOfMemory;
+use session_seats::Ending;
+use sftp_model::{Error, Fault};
 use std::sync::Wait;
 
 /// The check that a session ends by the fault that it recorded.
 #[derive(Drop)]
 struct ByFault;
 
-impl Ending<Locked, Fault, OutOfMemory> for ByFault {
-    ghost use Rattle.std.specs.Prelude.{⊤};
+impl Ending<Locked, Fault, Error> for ByFault {
+    ghost use Rattle.std.specs.Prelude.{◌≡◌};
+    ghost use Rattle.sftp_model.specs.declared.error.Error.TheVariants as error;
     ghost use Rattle.sftp_tasks.specs.Reported.{EndsByFault};
 
     ghost allows = { λ _ y fault. EndsByFault y.session fault };
 
-    ghost refuses = { λ _ y e. ⊤ };
+    ghost refuses = { λ _ y e. e ≡ error.OutOfMemory };
 
-    fn look(&self, value: &Locked) -> Result<Fault, OutOfMemory> {
+    fn look(&self, value: &Locked) -> Result<Fault, Error> {
         match newest_fault(value.session.journal()) {
             Some(fault) => Ok(fault),
-            None => Err(OutOfMemory),
+            None => Err(Error::OutOfMemory),
         }
     }
 }
@@ -62,37 +62,10 @@ impl SharedSftp {
         ensures closes { IfOk result (EndedByFault (seat ∷ others.items)) }
         ensures refused { IfErr result (λ n. ComesBack seat n.seat others.items n.others.items) }
     {
-        let SharedSftp { alloc, shared } = self;
-        let Ok(empty) = Locked::new(alloc, &[], &SftpOptions::default()) else {
-            return Err(NotClosed {
-                error: Error::OutOfMemory,
-                seat,
-                others,
-            });
-        };
-        let out = TakeOut {
-            ending: ByFault,
-            empty,
-        };
-        match shared.close(rt, alloc, seat, others, out) {
-            Ok((ended, fault)) => {
-                let Ended {
-                    value: _,
-                    receipts: _,
-                } = ended;
-                Ok(fault)
-            }
-            Err(
-                NotEnded {
-                    error: _,
-                    seat,
-                    others,
-                },
-            ) => Err(NotClosed {
-                error: Error::OutOfMemory,
-                seat,
-                others,
-            }),
+        // No `?`: it converts the error, and `refused` is about the error itself.
+        match self.take_out(rt, seat, others, ByFault) {
+            Ok((_ended, fault)) => Ok(fault),
+            Err(refused) => Err(refused),
         }
     }
 }

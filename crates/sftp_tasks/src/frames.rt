@@ -13,7 +13,7 @@ use ssh_encoding::OutOfMemory;
 
 /// The frames that were handed out, and how many they are.
 ///
-/// Used in `crates/sftp_tasks/src/opening.rt`.
+/// Used in `crates/sftp_tasks/src/hello.rt`.
 #[derive(Drop)]
 pub struct Handed {
     pub chunk: Chunk,

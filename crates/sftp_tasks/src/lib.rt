@@ -9,9 +9,9 @@ mod endings;
 mod events;
 mod failures;
 mod frames;
+mod hello;
 mod laws;
 mod locked;
-mod opening;
 mod polls;
 mod report;
 mod rounds;
@@ -23,9 +23,9 @@ pub use events::{
     TakeFrame, Written,
 };
 pub use frames::Handed;
+pub use hello::{HandHello, TakeVersion};
 pub use laws::{failed_sessions_refuse, given_up_is_seen, workers_show_their_seats};
 pub use locked::{Locked, LockedCounts};
-pub use opening::{HandHello, TakeVersion};
 pub use polls::Polled;
 pub use report::{NotClosed, SharedReport};
 pub use rounds::{fault_for, flush_round, read_round};

@@ -125,8 +125,8 @@ impl SharedSftp {
         ensures ended { IfOk result (λ calls. SeesEnded seat.old.lane calls (sight_by seat.new.inner.me)) }
     {
         let who = waiter_of(seat);
+        let mut seen = self.shared.changes(rt, who);
         for _ in rt.forever() {
-            let seen = self.shared.changes(rt, who);
             // No `?`: it converts the error, and `polls` is by cases on the result.
             let polled = match self.poll(rt, seat) {
                 Ok(polled) => polled,
@@ -135,7 +135,7 @@ impl SharedSftp {
             if polled.is_ended() {
                 return Ok(polled.calls());
             }
-            self.pause(rt, polled, who, seen);
+            seen = self.pause(rt, polled, who, seen);
         }
         unreachable!()
     }
@@ -152,10 +152,12 @@ impl SharedSftp {
         settle(did, copied)
     }
 
-    /// Waits for a change that concerns the lane if the poll found nothing to do.
-    fn pause<R: Wait>(&self, rt: &R, polled: Polled, who: Waiter, seen: u64) {
-        if let Polled::Waits = polled {
-            self.shared.wait(rt, who, seen);
+    /// Waits for a change that concerns the lane if the poll found nothing to do. Returns the number of changes up to
+    /// which the next poll looks: `seen`, if it did not wait.
+    fn pause<R: Wait>(&self, rt: &R, polled: Polled, who: Waiter, seen: u64) -> u64 {
+        match polled {
+            Polled::Waits => self.shared.wait(rt, who, seen),
+            _ => seen,
         }
     }
 }

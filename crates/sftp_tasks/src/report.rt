@@ -1,10 +1,12 @@
 //! The end of the shared session, and its report.
-ghost use Rattle.std.specs.Prelude.{◌≡◌, ◌≤◌, ◌∷◌, [], IfErr, IfOk, length, map, vec_capacity};
-ghost use Rattle.session_seats.specs.Closes.{AllOf, claims_of, items_of};
-ghost use Rattle.session_seats.specs.Covers.{HasAllSeats, CoversPlacesOnce};
+ghost use Rattle.std.specs.Prelude.{◌≡◌, ◌≤◌, ◌∷◌, [], IfErr, IfOk, Option, length, map, vec_capacity};
+ghost use Rattle.session_seats.specs.Closes.{AllOf, Closes, HandsBack, claims_of, items_of};
+ghost use Rattle.session_seats.specs.Covers.{CoversEntries, CoversPlacesOnce, HasAllSeats};
+ghost use Rattle.sftp_model.specs.declared.error.Error.{Error as ErrorValue};
 ghost use Rattle.session_work.specs.Working.{past_of};
 ghost use Rattle.sftp_lanes.specs.Seen.{ReportsSession};
 ghost use Rattle.sftp_tasks.specs.Reported.{IsPrepared, Refused, Reported, reason_of};
+ghost use Rattle.sftp_tasks.specs.Shows.{shown_of};
 
 use crate::copies::copies_of;
 use crate::locked::Locked;
@@ -124,6 +126,49 @@ fn reason(error: Option<Error>) -> Error
 }
 
 impl SharedSftp {
+    /// Takes the session out of its lock, if this check lets it end. Returns its remains, and what was made of it before.
+    ///
+    /// # Errors
+    ///
+    /// The reason of the check, and `OutOfMemory` if an allocation fails, also one for a receipt. The seats come back
+    /// then, each with its receipts.
+    pub(crate) fn take_out<T: Drop, X: Ending<Locked, T, Error> + Drop, R: Wait>(
+        self,
+        rt: &R,
+        seat: Seat,
+        others: Vec<Seat>,
+        ending: X,
+    ) -> Result<(Ended<Locked>, T), NotClosed>
+        requires own { AllOf self.shared.table.shared.table_id (seat ∷ others.items) }
+        ensures closes { IfOk result (λ r. Closes shown_of (seat ∷ others.items) r.0 × X.allows ending r.0.value r.1) }
+        ensures covers { IfOk result (λ r. HasAllSeats (claims_of (seat ∷ others.items)) → CoversEntries shown_of r.0) }
+        ensures refused { IfErr result (λ n. (why : Option ErrorValue) × ((n.error ≡ reason_of why)
+            × HandsBack shown_of (X.refuses ending) seat others.items why n.seat n.others.items)) }
+    {
+        let SharedSftp { alloc, shared } = self;
+        let Ok(empty) = Locked::new(alloc, &[], &SftpOptions::default()) else {
+            return Err(NotClosed {
+                error: Error::OutOfMemory,
+                seat,
+                others,
+            });
+        };
+        match shared.close(rt, alloc, seat, others, TakeOut { ending, empty }) {
+            Ok(taken) => Ok(taken),
+            Err(
+                NotEnded {
+                    error,
+                    seat,
+                    others,
+                },
+            ) => Err(NotClosed {
+                error: reason(error),
+                seat,
+                others,
+            }),
+        }
+    }
+
     /// Ends the session, and reports what it did, with the receipts of each seat. Nothing is sent, and nothing is added
     /// to the journal.
     ///
@@ -142,19 +187,9 @@ impl SharedSftp {
         ensures covers { IfOk result (λ r. HasAllSeats (claims_of (seat ∷ others.items)) → CoversPlacesOnce (length r.journal.items) (map items_of r.receipts.items)) }
         ensures refused { IfErr result (λ n. Refused seat others.items n.error n.seat n.others.items) }
     {
-        let SharedSftp { alloc, shared } = self;
-        let Ok(empty) = Locked::new(alloc, &[], &SftpOptions::default()) else {
-            return Err(NotClosed {
-                error: Error::OutOfMemory,
-                seat,
-                others,
-            });
-        };
-        let out = TakeOut {
-            ending: Unfailed { alloc },
-            empty,
-        };
-        match shared.close(rt, alloc, seat, others, out) {
+        let ending = Unfailed { alloc: self.alloc };
+        // No `?`: it converts the error, and `refused` is about the error itself.
+        match self.take_out(rt, seat, others, ending) {
             Ok((ended, prepared)) => {
                 let Ended { value, receipts } = ended;
                 let Prepared {
@@ -169,17 +204,7 @@ impl SharedSftp {
                     is_open,
                 })
             }
-            Err(
-                NotEnded {
-                    error,
-                    seat,
-                    others,
-                },
-            ) => Err(NotClosed {
-                error: reason(error),
-                seat,
-                others,
-            }),
+            Err(refused) => Err(refused),
         }
     }
 }

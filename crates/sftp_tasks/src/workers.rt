@@ -134,8 +134,8 @@ pub fn flush_worker<O: LinkOut, R: Wait>(
     ensures rounds { FlushWorks result (seat.old.inner.me, O.LinkState.state out.old) (seat.new.inner.me, O.LinkState.state out.new) }
     ensures stage { OnOk result ((sight_by seat.new.inner.me).counts.stage ≡ 2) }
 {
+    let mut seen = shared.shared.changes(rt, Waiter::Sender);
     for _ in rt.forever() {
-        let seen = shared.shared.changes(rt, Waiter::Sender);
         // No `?`: it converts the error, and `rounds` is by cases on the result.
         let shift = match flush_shift(rt, shared, seat, out) {
             Ok(shift) => shift,
@@ -144,7 +144,7 @@ pub fn flush_worker<O: LinkOut, R: Wait>(
         if shift.is_over() {
             return Ok(());
         }
-        shared.rest(rt, shift, Waiter::Sender, seen);
+        seen = shared.rest(rt, shift, Waiter::Sender, seen);
     }
     unreachable!()
 }
@@ -169,8 +169,8 @@ pub fn read_worker<I: LinkIn, R: Wait>(
     ensures rounds { ReadWorks result (seat.old.inner.me, I.LinkState.state input.old) (seat.new.inner.me, I.LinkState.state input.new) }
     ensures answered { OnOk result (SeesAnswered (sight_by seat.new.inner.me)) }
 {
+    let mut seen = shared.shared.changes(rt, Waiter::Reader);
     for _ in rt.forever() {
-        let seen = shared.shared.changes(rt, Waiter::Reader);
         // No `?`: it converts the error, and `rounds` is by cases on the result.
         let shift = match read_shift(rt, shared, seat, input) {
             Ok(shift) => shift,
@@ -179,16 +179,17 @@ pub fn read_worker<I: LinkIn, R: Wait>(
         if shift.is_over() {
             return Ok(());
         }
-        shared.rest(rt, shift, Waiter::Reader, seen);
+        seen = shared.rest(rt, shift, Waiter::Reader, seen);
     }
     unreachable!()
 }
 
 impl SharedSftp {
-    /// Waits for a change that concerns the worker, after a shift without work.
-    fn rest<R: Wait>(&self, rt: &R, shift: Shift, who: Waiter, seen: u64) {
-        if let Shift::Idle = shift {
-            self.shared.wait(rt, who, seen);
+    /// Waits for a change that concerns the worker, after a shift without work. Returns how many did so far.
+    fn rest<R: Wait>(&self, rt: &R, shift: Shift, who: Waiter, seen: u64) -> u64 {
+        match shift {
+            Shift::Idle => self.shared.wait(rt, who, seen),
+            _ => self.shared.changes(rt, who),
         }
     }
 }

@@ -15,8 +15,8 @@ use Rattle.session_threads.proofs.FailureLaws.{workers_stop}
 use Rattle.session_threads.proofs.RunReports.{crew_complete, crew_ran, runs_made}
 use Rattle.session_threads.proofs.run.run_crew.Goals as goal
 
-pub close_failed-why-requires : goal.close_failed-why-requires
-close_failed-why-requires g c =
+pub close_stopped-why-requires : goal.close_stopped-why-requires
+close_stopped-why-requires g c =
     let t = c.run_threads-sent.ensures in
     let r = c.run_threads-sent.new in
     let crew = c.args.crew in
@@ -42,8 +42,8 @@ returns-in-Some-clause-stops g c =
     crew.reader r.crew.reader t.lanes.1 is.made t.lanes.0 is.moved t.sender.0 t.reader.0 is.sender is.reader all
     (g.O.LinkState.state c.args.halves.out) (g.O.LinkState.state r.out) (g.I.LinkState.state c.args.halves.input)
     (g.I.LinkState.state r.input) c.run_threads-sent.result.0 c.run_threads-sent.result.1 t.sender.1 t.reader.1
-    (claim_by crew.home).sight.lanes (claim_by crew.home).sight.options c.close_failed-why.result c.in-Some.e
-    (ran_made moves_none z _ _ t.lanes.0) c.in-Some.ensures c.close_failed-why.ensures
+    (claim_by crew.home).sight.lanes (claim_by crew.home).sight.options c.close_stopped-why.result c.in-Some.e
+    (ran_made moves_none z _ _ t.lanes.0) c.in-Some.ensures c.close_stopped-why.ensures
 
 pub close_run-requires-clause-own : goal.close_run-requires-clause-own
 close_run-requires-clause-own g c =

@@ -5,4 +5,4 @@ pub returns-clause-err : goal.returns-clause-err
 returns-clause-err g c =
     has_stopped_if g.P.Out.LinkState.Service g.P.In.LinkState.Service (g.P.Pair.last c.args.pair.now)
     (g.P.Pair.last c.run_over.new.pair)
-    c.run_over.result c.run_over.ensures.err
+    c.args.script.now c.run_over.result c.run_over.ensures.err

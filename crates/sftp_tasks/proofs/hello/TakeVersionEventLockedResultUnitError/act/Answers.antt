@@ -1,5 +1,5 @@
 use Rattle.sftp_tasks.proofs.OpeningLaws.{version_goes}
-use Rattle.sftp_tasks.proofs.opening.TakeVersionEventLockedResultUnitError.act.Goals as goal
+use Rattle.sftp_tasks.proofs.hello.TakeVersionEventLockedResultUnitError.act.Goals as goal
 
 pub returns-clause-goes : goal.returns-clause-goes
 returns-clause-goes c =

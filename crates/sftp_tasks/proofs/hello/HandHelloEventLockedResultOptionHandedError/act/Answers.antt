@@ -1,5 +1,5 @@
 use Rattle.sftp_tasks.proofs.OpeningLaws.{hello_goes}
-use Rattle.sftp_tasks.proofs.opening.HandHelloEventLockedResultOptionHandedError.act.Goals as goal
+use Rattle.sftp_tasks.proofs.hello.HandHelloEventLockedResultOptionHandedError.act.Goals as goal
 
 pub returns-clause-goes : goal.returns-clause-goes
 returns-clause-goes c =

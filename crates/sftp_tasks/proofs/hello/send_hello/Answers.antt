@@ -9,7 +9,7 @@ use Rattle.sftp_tasks.specs.LockedEvents.{tells_written}
 use Rattle.sftp_tasks.specs.Shows.{shown_of}
 use Rattle.sftp_tasks.proofs.OpeningLaws.{hello_handed, hello_none, hello_refused, hello_unwritten, opening_failing, opening_nothing, opening_on, share_kept_by}
 use Rattle.sftp_tasks.proofs.RoundLaws.{noted}
-use Rattle.sftp_tasks.proofs.opening.send_hello.Goals as goal
+use Rattle.sftp_tasks.proofs.hello.send_hello.Goals as goal
 
 pub returns-in-Ok-None-clause-only : goal.returns-in-Ok-None-clause-only
 returns-in-Ok-None-clause-only g c =

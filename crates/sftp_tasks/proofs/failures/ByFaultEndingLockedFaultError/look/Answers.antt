@@ -1,5 +1,5 @@
 use Rattle.std.proofs.Common.{◌∙◌, sym}
-use Rattle.sftp_tasks.proofs.failures.ByFaultEndingLockedFaultOutOfMemory.look.Goals as goal
+use Rattle.sftp_tasks.proofs.failures.ByFaultEndingLockedFaultError.look.Goals as goal
 
 pub returns-in-Some-clause-allowed : goal.returns-in-Some-clause-allowed
 returns-in-Some-clause-allowed c = record {

@@ -6,7 +6,7 @@ use Rattle.sftp_model.specs.declared.error.Error.{Error}
 use Rattle.sftp_tasks.specs.Opening.{GetsSomeVersion, VersionStops, by_opening}
 use Rattle.sftp_tasks.specs.Shows.{shown_of}
 use Rattle.sftp_tasks.proofs.OpeningLaws.{if_ok, opening_failing, share_kept_by, version_gets}
-use Rattle.sftp_tasks.proofs.opening.take_version.Goals as goal
+use Rattle.sftp_tasks.proofs.hello.take_version.Goals as goal
 
 pub returns-in-Err-clause-only : goal.returns-in-Err-clause-only
 returns-in-Err-clause-only g c = opening_failing c.args.seat.now.lane _ _ c.stop.ensures.only
