@@ -53,7 +53,9 @@ unfailed_flush : {L S : Type 0} (state : L → LinkView S) (old new : SftpValue 
     → FlushesUnfailed state old new result → KeepsHeld old.core new.core
 unfailed_flush state old new (Ok u) h = kept_out old.core new.core (ap (λ (s : SftpValue _). s.core) h.left)
 unfailed_flush state old new (Err e) (inl h) = send_stops state old new e h
-unfailed_flush state old new (Err e) (inr h) =
+unfailed_flush state old new (Err e) (inr (inr h)) =
+    keeps_unchanged old.core new.core (ap (λ (s : SftpValue _). s.core) h.1.left)
+unfailed_flush state old new (Err e) (inr (inl h)) =
     keeps_both old.core (handed_out old.core) new.core (kept_out old.core (handed_out old.core) refl)
     (send_stops state (with_queue_handed_out old) new e h)
 
