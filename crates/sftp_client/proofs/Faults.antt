@@ -43,8 +43,10 @@ round_faults : {L S : Type 0} (V : Type 0) (state : L → LinkView S) (old new :
 round_faults V state old new e (inl (inl kept)) = kept_faults V state old new e kept
 round_faults V state old new e (inl (inr (none, inl stops))) =
     caused_faults V (state old.link) (state new.link) e stops.caused
-round_faults V state old new e (inl (inr (none, inr stops))) =
+round_faults V state old new e (inl (inr (none, inr (inl stops)))) =
     caused_faults V (state old.link) (state new.link) e stops.caused
+round_faults V state old new e (inl (inr (none, inr (inr (memory, sends))))) =
+    faults_kept {V = V} (Err e) (state old.link).faults (state new.link).faults sends.unfaulted.cause
 round_faults V state old new e (inr (mid, (sends, takes))) =
     subst (λ (n : ℕ). KeepsFaults {V = V} n (state new.link).faults (Err e)) sends.1.unfaulted.cause
     (take_faults V state mid new e takes)

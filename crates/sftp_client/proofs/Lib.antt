@@ -18,3 +18,4 @@ mod Sequences
 mod PathCuts
 mod TreeMaking
 mod Walking
+mod TreeRemoving

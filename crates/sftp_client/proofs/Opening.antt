@@ -1,5 +1,5 @@
 -- What is sent, and then a frame that is taken: what they leave of a core, and how a session comes to be open.
-use Rattle.std.proofs.Common.{◌≡◌, ℕ, Bool, true, false, List, [], ◌++◌, Option, refl, ap, sym, ◌∙◌, subst, append_assoc, inr}
+use Rattle.std.proofs.Common.{◌≡◌, ℕ, Bool, true, false, List, [], ◌++◌, Option, refl, ap, sym, ◌∙◌, subst, append_assoc, inl, inr}
 use Rattle.std.specs.Prelude.{Result, Ok, Err, None, Some, IsSome, if◌then◌else◌}
 use Rattle.sftp_link.specs.Told.{IfLogged, SentAll}
 use Rattle.sftp_link.specs.Views.{LinkView}
@@ -65,10 +65,11 @@ flushed_after state old mid out new (Err e) first is second =
     let link : out.link ≡ mid.link = ap (λ (s : SftpValue _). s.link) is in
     let frames : out.unsent ≡ frames_of old.core.queue = ap (λ (s : SftpValue _). s.unsent) is
     ∙ ap (λ (c : Core). frames_of c.queue) core in
-    inr (record {
+    inr (inl (record {
       sent = old.unsent ++ second.sent;
       cut = ap (λ (w : List ℕ). old.unsent ++ w) (sym frames ∙ second.cut)
           ∙ sym (append_assoc old.unsent second.sent new.unsent);
+      rest = second.rest;
       log = told_on (SentAll old.unsent) (SentAll second.sent) (SentAll (old.unsent ++ second.sent))
           (state old.link).log (state mid.link).log (state new.link).log first.log
           (subst (λ l. IfLogged (SentAll second.sent) (state l).log (state new.link).log) link second.log)
@@ -82,7 +83,7 @@ flushed_after state old mid out new (Err e) first is second =
       only = second.only;
       caused = caused_on (state old.link) (state mid.link) (state new.link) tt (Err e) first.unfaulted
           (subst (λ l. IsCausedByLink {T = Unit {0}} (state l) (state new.link) (Err e)) link second.caused);
-    })
+    }))
 
 -- ---- a flush, and then a frame
 

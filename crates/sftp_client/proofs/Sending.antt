@@ -75,6 +75,15 @@ some_unsent pieces i k p later is within =
     ap length (unsent_at pieces i k p later is within) ∙ (length-append (drop k p) (joined_pieces later)
     ∙ ap (λ (n : ℕ). n + length (joined_pieces later)) (length-drop k p))
 
+-- Something is unsent if a piece is left.
+pub left_unsent : (pieces : List (List ℕ)) (i k : ℕ) → IsAt (Some pieces) i k → i < length pieces
+    → 0 < length (unsent_from (Some pieces) i k)
+left_unsent pieces i k at there =
+    let is : drop i pieces ≡ slice_index_or pieces i [] ∷ drop (i + 1) pieces = drop_more pieces i [] there in
+    let inside : k < length (slice_index_or pieces i []) = subst (λ (w : List (List ℕ)). IsWithin w k) is at.1 in
+    let len = some_unsent pieces i k (slice_index_or pieces i []) (drop (i + 1) pieces) is (omega (arith, inside)) in
+    omega (arith, len, inside)
+
 -- ---- what was sent so far
 
 -- the first of the bytes were sent, and the link didn't fail
@@ -123,12 +132,13 @@ is_unsent device.OutOfMemory = tt
 is_unsent device.Failed = tt
 
 pub sent_until : {S : Type 0} (old mid : List ℕ) (e : DeviceError) {x y z : LinkView S} → SentSoFar old mid x y
-    → HasSent S mid y z (Err e)
+    → HasSent S mid y z (Err e) → 0 < length mid
     → SendsOn {T = Unit {0}} old mid x z (Err (fault_of_link e))
-sent_until old mid e {x = x} {y = y} {z = z} so less = record {
+sent_until old mid e {x = x} {y = y} {z = z} so less some = record {
   sent = so.0;
   cut = so.1.0;
   whole = tt;
+  rest = some;
   log = told_on (SentAll so.0) (λ p q. q ≡ p) (SentAll so.0) x.log y.log z.log so.1.1.0 less.log
       (λ p q r s e. subst (λ (w : List _). SentAll so.0 p w) (sym e) s);
   only = is_unsent e;
@@ -141,6 +151,7 @@ all_sent old new none so = record {
   sent = so.0;
   cut = so.1.0;
   whole = none;
+  rest = tt;
   log = so.1.1.0;
   only = tt;
   caused =

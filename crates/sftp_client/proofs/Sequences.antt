@@ -5,12 +5,12 @@ use Rattle.sftp_model.specs.declared.error.Error.{Error}
 use Rattle.sftp_link.specs.Views.{LinkView}
 use Rattle.plan_state.proofs.Keeping.{keeps_both, keeps_same}
 use Rattle.sftp_client.specs.Calls.{IsUsable}
-use Rattle.sftp_client.specs.Sequences.{Continues, RunsAll, RunsEach}
+use Rattle.sftp_client.specs.Sequences.{ContinuesIfOk, RunsAll, RunsEach}
 use Rattle.sftp_client.specs.Sessions.{SftpValue}
 
 both_by : {S E : Type 0} (a b : S) (now : S) (result : Result (Unit {0}) E) (On Off : Type 0) → (On → Off)
-    → (first : Result (Unit {0}) E) → Continues first On ((b ≡ now) × (Ok tt ≡ first))
-    → Continues first Off ((a ≡ now) × (result ≡ first))
+    → (first : Result (Unit {0}) E) → ContinuesIfOk first On ((b ≡ now) × (Ok tt ≡ first))
+    → ContinuesIfOk first Off ((a ≡ now) × (result ≡ first))
 both_by a b now result On Off step (Ok u) on = step on
 both_by a b now result On Off step (Err e) off = absurd cc
 
@@ -32,7 +32,7 @@ each_both Step old mid new (x ∷ xs) ys result h later = (
 )
 
 stopped_by : {E : Type 0} (On Later Off : Type 0) → (On → Later) → (first : Result (Unit {0}) E)
-    → Continues first On Off → Continues first Later Off
+    → ContinuesIfOk first On Off → ContinuesIfOk first Later Off
 stopped_by On Later Off step (Ok u) on = step on
 stopped_by On Later Off step (Err f) off = off
 
@@ -53,7 +53,7 @@ each_stopped Step old new (x ∷ xs) ys e h = (
 )
 
 one_by : {S E : Type 0} (new : S) (result : Result (Unit {0}) E)
-    → Continues result ((new ≡ new) × (result ≡ Ok tt)) ((new ≡ new) × (result ≡ result))
+    → ContinuesIfOk result ((new ≡ new) × (result ≡ Ok tt)) ((new ≡ new) × (result ≡ result))
 one_by new (Ok u) = (refl, refl)
 one_by new (Err e) = (refl, refl)
 

@@ -58,7 +58,7 @@ pub refusal_usable : {L S : Type 0} (V : Type 0) (state : L → LinkView S) (new
 refusal_usable V state new error.LinkFault is h = absurd cc
 refusal_usable V state new other is h = h
 
-same_error : {L S : Type 0} (V W : Type 0) (state : L → LinkView S) (new : SftpValue L) (e : Error)
+pub same_error : {L S : Type 0} (V W : Type 0) (state : L → LinkView S) (new : SftpValue L) (e : Error)
     → IsUsableAfter {V = V} state new (Err e) → IsUsableAfter {V = W} state new (Err e)
 same_error V W state new error.LinkFault h = tt
 same_error V W state new other h = h

@@ -8,7 +8,19 @@ use Rattle.sftp_model.specs.declared.error.Fault.{Fault}
 use Rattle.sftp_core.specs.Core.{Core, record_at, awaited_of, failed_with, handed_out, is_ticket, reply_in}
 use Rattle.sftp_core.specs.Info.{info_of}
 use Rattle.sftp_link.specs.Views.{LinkView}
-use Rattle.plan_state.specs.Calls.{CallValue, CancelsAwaited, CountsGrant, HoldsReady, IsHeld, IsHeldAt, IsNoneOfCall, IsUnderWay, KeepsOtherTickets, core_after_cancel, is_ended}
+use Rattle.plan_state.specs.Calls.{
+  CallValue,
+  CancelsAwaited,
+  CountsGrant,
+  HoldsReady,
+  IsHeld,
+  IsHeldAt,
+  IsNoneOfCall,
+  IsUnderWay,
+  KeepsOtherTickets,
+  core_after_cancel,
+  is_ended,
+}
 use Rattle.plan_state.specs.Keeping.{KeepsHeld, KeepsGrants, SparesOthers}
 use Rattle.plan_state.proofs.Sparing.{cancelled_spares, spares_both, spares_kept, spares_then, stepped_spares}
 use Rattle.plan_state.specs.Runners.{Meaning}
@@ -25,7 +37,22 @@ use Rattle.sftp_core.proofs.Tables.{count-remove}
 use Rattle.sftp_client.proofs.Faults.{faults_kept, stop_faults}
 use Rattle.sftp_client.proofs.Lowering.{all_awaited}
 use Rattle.sftp_file.proofs.Steps.{cancelled_keeps}
-use Rattle.sftp_client.specs.Sessions.{FlushesQueue, FlushesUnfailed, IsKept, SendStops, SftpValue, TakesOrKept, TakesFrame, TakesUnfailed, TakesWhole, fault_by, failed_by, with_queue_handed_out, kept_after, with_core}
+use Rattle.sftp_client.specs.Sessions.{
+  FlushesQueue,
+  FlushesUnfailed,
+  IsKept,
+  SendStops,
+  SftpValue,
+  TakesFrame,
+  TakesOrKept,
+  TakesUnfailed,
+  TakesWhole,
+  failed_by,
+  fault_by,
+  kept_after,
+  with_core,
+  with_queue_handed_out,
+}
 use Rattle.sftp_client.specs.Waits.{ArePollRounds, HasFinished, HasWaited, MayWait, PolledIn, RoundFails, SendsAndTakes, WaitStops, WaitsIn}
 
 -- ---- a core over a round
@@ -53,7 +80,9 @@ unfailed_flush : {L S : Type 0} (state : L → LinkView S) (old new : SftpValue 
     → FlushesUnfailed state old new result → KeepsHeld old.core new.core
 unfailed_flush state old new (Ok u) h = kept_out old.core new.core (ap (λ (s : SftpValue _). s.core) h.left)
 unfailed_flush state old new (Err e) (inl h) = send_stops state old new e h
-unfailed_flush state old new (Err e) (inr h) =
+unfailed_flush state old new (Err e) (inr (inr h)) =
+    keeps_unchanged old.core new.core (ap (λ (s : SftpValue _). s.core) h.1.left)
+unfailed_flush state old new (Err e) (inr (inl h)) =
     keeps_both old.core (handed_out old.core) new.core (kept_out old.core (handed_out old.core) refl)
     (send_stops state (with_queue_handed_out old) new e h)
 

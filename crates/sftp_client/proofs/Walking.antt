@@ -11,7 +11,7 @@ use Rattle.plan_state.specs.Keeping.{KeepsHeld}
 use Rattle.plan_state.proofs.Keeping.{keeps_both}
 use Rattle.sftp_client.specs.Calls.{IsUsable, IsUsableAfter}
 use Rattle.sftp_client.specs.DirCalls.{ListsWhole}
-use Rattle.sftp_client.specs.Sequences.{Continues, RunsEach}
+use Rattle.sftp_client.specs.Sequences.{ContinuesIfOk, RunsEach}
 use Rattle.sftp_client.specs.Sessions.{SftpValue}
 use Rattle.sftp_client.specs.Walks.{ListsDir, ListsInto, StopsNext, StopsWalk, Walking, WalksWhole, dir_in, dirs_at, found_in}
 use Rattle.sftp_client.specs.declared.walk_entry.WalkEntry.{WalkEntry}
@@ -42,7 +42,7 @@ dirs_all found at = ap (λ l. flat_map dir_in l) (sym (take-append-drop at found
 by_first : {L : Type 0} (xs : List WalkEntry) (mid new : Walking L) (first : Result (Unit {0}) Error) (On : Type 0)
     → ((first ≡ Ok tt) → (more : List WalkEntry) × (mid.found ≡ xs ++ more))
     → (On → (more : List WalkEntry) × (new.found ≡ mid.found ++ more))
-    → Continues first On ((new ≡ mid) × (Ok tt ≡ first)) → (more : List WalkEntry) × (new.found ≡ xs ++ more)
+    → ContinuesIfOk first On ((new ≡ mid) × (Ok tt ≡ first)) → (more : List WalkEntry) × (new.found ≡ xs ++ more)
 by_first xs mid new (Ok u) On grows later on =
     let first = grows refl in
     let second = later on in

@@ -113,7 +113,7 @@ reads_next state count old mid polled new p m q w waits (inr round) =
     let next : suc count ≡ count + 1 = omega arith in
     let left = read_leaves mid polled m q poll.Pending w.may waits in
     let opened = pending_open mid polled m q w.may waits in
-    let stays = round_stays state polled new opened round in
+    let stays = round_stays state polled new opened round.1 in
     subst (λ (n : ℕ). ReadsOn state n old new p q) next (record {
       rounds = (mid, (m, (w.rounds, record { mid = polled; reads = waits; round = inr round })));
       may = record {
@@ -123,7 +123,7 @@ reads_next state count old mid polled new p m q w waits (inr round) =
       };
       spares = spares_then old.core polled.core new.core (IsNoneOfRead p.stage) (IsNoneOfRead q.stage)
           (reads_spare old.core mid.core polled.core p m q w.spares left.spares) stays;
-      unfaulted = round_unfaulted state polled new round ∙ (ap (λ l. (state l).faults) left.link ∙ w.unfaulted);
+      unfaulted = round_unfaulted state polled new round.1 ∙ (ap (λ l. (state l).faults) left.link ∙ w.unfaulted);
     })
 
 -- the read answered

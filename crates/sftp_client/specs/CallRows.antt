@@ -1,11 +1,12 @@
 -- Worked rows of calls that run in one, each beside a near miss.
-use Rattle.std.proofs.Common.{inl, refl}
-use Rattle.std.specs.Prelude.{◌≤◌, ℕ, [], Result, Ok, Err}
+use Rattle.std.proofs.Common.{arith, inl, inr, refl}
+use Rattle.std.specs.Prelude.{◌≡◌, ◌⊎◌, ◌<◌, ◌≤◌, ℕ, [], ◌∷◌, codes, Some, Result, Ok, Err}
 use Rattle.sftp_model.specs.declared.error.Error.{Error}
 use Rattle.sftp_model.specs.declared.error.Error.TheVariants as error
 use Rattle.sftp_core.specs.Core.{kept_of}
 use Rattle.sftp_core.specs.Info.{MAX_IDS}
 use Rattle.sftp_link.specs.Views.{LinkView}
+use Rattle.sftp_file.specs.Slices.{IsCutOff}
 use Rattle.sftp_client.specs.Calls.{IfIdLeft, IsUsable, IsUsableAfter, RunsInOne, StartsThenRuns}
 use Rattle.sftp_client.specs.Sessions.{SftpValue}
 
@@ -38,3 +39,18 @@ after_refusal state new h = h
 pub after_fault : {L S : Type 0} (state : L → LinkView S) (new : SftpValue L)
     → IsUsableAfter {V = ℕ} state new (Err error.LinkFault)
 after_fault state new = tt
+
+-- Of the pieces `abc` and `de`, four bytes are the first piece and a part of the second; five are both. The first piece
+-- is not returned as the rest, since it fits whole.
+pub part_of_a_piece : IsCutOff (codes "abc" ∷ codes "de" ∷ []) 4 (Some (4, 1, codes "d"))
+part_of_a_piece = (refl, omega arith, omega arith, refl, inr (omega arith))
+
+pub all_pieces : IsCutOff (codes "abc" ∷ codes "de" ∷ []) 9 (Some (5, 2, []))
+all_pieces = (refl, omega arith, omega arith, refl, inl refl)
+
+pub whole_piece_as_rest : IsCutOff (codes "abc" ∷ codes "de" ∷ []) 4 (Some (4, 0, codes "abcd")) → ⊥
+whole_piece_as_rest h = neither h.4
+  where
+    neither : (◌≡◌ {A = ℕ} 0 2) ⊎ (4 < 3) → ⊥
+    neither (inl same) = absurd (omega (arith, same))
+    neither (inr less) = absurd (omega (arith, less))

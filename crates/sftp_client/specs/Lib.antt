@@ -15,4 +15,5 @@ pub mod Sequences
 pub mod DirPaths
 pub mod CreatedDirs
 pub mod Walks
+pub mod RemovedTrees
 pub mod CallRows

@@ -1,5 +1,5 @@
 -- Bytes that were handed out and are not sent yet.
-use Rattle.std.specs.Prelude.{◌≡◌, ◌<◌, ℕ, List, [], ◌∷◌, ◌++◌, length, drop, Option, None, Some, Result, OnOk, IfErr}
+use Rattle.std.specs.Prelude.{◌≡◌, ◌<◌, ℕ, List, [], ◌∷◌, ◌++◌, length, drop, Option, None, Some, Result, OnOk, OnErr, IfErr}
 use Rattle.sftp_model.specs.Pieces.{joined_pieces}
 use Rattle.sftp_model.specs.declared.error.Error.{Error}
 use Rattle.sftp_core.specs.Frames.{AreFilled}
@@ -39,6 +39,7 @@ pub record SendsOn {Service T : Type 0} (old new : List ℕ) (before now : LinkV
   pub sent : List ℕ
   pub cut : old ≡ sent ++ new
   pub whole : OnOk result (new ≡ [])
+  pub rest : OnErr result (0 < length new)
   pub log : IfLogged (SentAll sent) before.log now.log
   pub only : IfErr result IsUnsent
   pub caused : IsCausedByLink before now result

@@ -7,16 +7,16 @@ use Rattle.sftp_client.specs.Calls.{IsUsableAfter}
 use Rattle.sftp_client.specs.Sessions.{SftpValue}
 
 -- After a step that ended well the others are made; after an error nothing more is.
-abbrev pub Continues : {E : Type 0} → Result (Unit {0}) E → Type 0 → Type 0 → Type 0
-Continues (Ok u) On Off = On
-Continues (Err e) On Off = Off
+abbrev pub ContinuesIfOk : {E : Type 0} → Result (Unit {0}) E → Type 0 → Type 0 → Type 0
+ContinuesIfOk (Ok u) On Off = On
+ContinuesIfOk (Err e) On Off = Off
 
 -- A step was made for each item, in order. The first error ends them, and is the result.
 abbrev pub RunsEach : {S A E : Type 0} → (A → S → S → Result (Unit {0}) E → Type 0) → S → S → List A
     → Result (Unit {0}) E → Type 0
 RunsEach Step old new [] result = (new ≡ old) × (result ≡ Ok tt)
 RunsEach {S = S} {E = E} Step old new (x ∷ xs) result = (mid : S) × ((first : Result (Unit {0}) E)
-    × (Step x old mid first × Continues first (RunsEach Step mid new xs result) ((new ≡ mid) × (result ≡ first))))
+    × (Step x old mid first × ContinuesIfOk first (RunsEach Step mid new xs result) ((new ≡ mid) × (result ≡ first))))
 
 -- The same in a session. Whatever the result, the core still holds each ticket and each grant that it held.
 pub record RunsAll {L S A : Type 0} (Step : A → SftpValue L → SftpValue L → Result (Unit {0}) Error → Type 0)

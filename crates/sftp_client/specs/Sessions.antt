@@ -102,11 +102,12 @@ pub record SendsAll {L S : Type 0} (state : L → LinkView S) (old new : SftpVal
   pub unfaulted : IsUnfaulted (state old.link) (state new.link)
   pub left : new ≡ record old { unsent = []; link = new.link }
 
--- A part of them was sent, and the rest is kept, after an allocation failed or a fault of the link; the fault is kept
--- then.
+-- A part of them was sent, and the rest, at least one byte, is kept, after an allocation failed or a fault of the link;
+-- the fault is kept then.
 pub record SendStops {L S : Type 0} (state : L → LinkView S) (old new : SftpValue L) (e : Error) : Type 0 where
   pub sent : List ℕ
   pub cut : old.unsent ≡ sent ++ new.unsent
+  pub rest : 0 < length new.unsent
   pub log : IfLogged (SentAll sent) (state old.link).log (state new.link).log
   pub left : new ≡ record old { core = kept_after e old.core; unsent = new.unsent; link = new.link }
   pub only : IsUnsent e
@@ -121,11 +122,13 @@ SendsRest state old new (Err e) = SendStops state old new e
 abbrev pub with_queue_handed_out : {L : Type 0} → SftpValue L → SftpValue L
 with_queue_handed_out s = record s { core = handed_out s.core; unsent = s.unsent ++ frames_of s.core.queue }
 
--- All that was unsent or queued was sent; or it stopped, before or after the queue was handed out.
+-- All that was unsent or queued was sent; or it stopped, before or after the queue was handed out; or an allocation
+-- failed for handing it out.
 abbrev pub FlushesUnfailed : {L S : Type 0} → (L → LinkView S) → SftpValue L → SftpValue L → Result (Unit {0}) Error
     → Type 0
 FlushesUnfailed state old new (Ok u) = SendsAll state (with_queue_handed_out old) new
 FlushesUnfailed state old new (Err e) = SendStops state old new e ⊎ SendStops state (with_queue_handed_out old) new e
+    ⊎ ((e ≡ error.OutOfMemory) × SendsAll state old new)
 
 -- The same, after a recorded fault is reported first.
 abbrev pub FlushesQueue : {L S : Type 0} → (L → LinkView S) → SftpValue L → SftpValue L → Result (Unit {0}) Error

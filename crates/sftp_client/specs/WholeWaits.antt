@@ -91,12 +91,14 @@ pub record IsReadRound {L S : Type 0} (state : L → LinkView S) (old new : Sftp
   where
     pub mid : SftpValue L
     pub reads : ReadIn old mid p q poll.Pending
-    pub round : ((new ≡ mid) × (kept_of mid.core ≢ kept_of old.core)) ⊎ SendsAndTakes state mid new
+    pub round : ((new ≡ mid) × (kept_of mid.core ≢ kept_of old.core))
+        ⊎ ((kept_of mid.core ≡ kept_of old.core) × SendsAndTakes state mid new)
 
 -- There was such a round, or none if another number of ids is in use; or it failed.
 abbrev pub MayRound : {L S : Type 0} → (L → LinkView S) → ℕ → SftpValue L → SftpValue L → Result (Unit {0}) Error
     → Type 0
-MayRound state kept old new (Ok u) = ((new ≡ old) × (kept_of old.core ≢ kept)) ⊎ SendsAndTakes state old new
+MayRound state kept old new (Ok u) = ((new ≡ old) × (kept_of old.core ≢ kept))
+    ⊎ ((kept_of old.core ≡ kept) × SendsAndTakes state old new)
 MayRound state kept old new (Err e) = RoundFails state old new e
 
 abbrev pub AreReadRounds : {L S : Type 0} → (L → LinkView S) → ℕ → SftpValue L → SftpValue L → FsReadValue → FsReadValue

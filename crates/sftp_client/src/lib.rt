@@ -40,8 +40,8 @@ mod dir_paths;
 mod incoming;
 mod outgoing;
 mod sftp;
+mod walk_entries;
 mod walk_entry;
-mod walked;
 
 pub use plan_state::{Alone, PendingCall, PlanRunner, Poll};
 pub use sftp::Sftp;

@@ -36,7 +36,7 @@ use std::mem;
 /// read. Bytes that are unsent when it is dropped are never sent. A contract sees its core, the bytes that were handed
 /// out and not sent, the bytes that came of the next frame, and the link.
 ///
-/// Example: `crates/example_client/src/directories.rt`.
+/// Example: `crates/example_client/src/first.rt`.
 #[derive(Drop)]
 pub struct Sftp<L> {
     alloc: Global,

@@ -125,7 +125,8 @@ pub flush_stopped : {L S : Type 0} (state : L → LinkView S) (old new : SftpVal
     → FlushesQueue state old new (Err e) → Left state old new
 flush_stopped state old new e going (inl kept) = kept_same state old new e going kept
 flush_stopped state old new e going (inr (unfailed, inl stops)) = left_stopped state old new e going unfailed stops
-flush_stopped state old new e going (inr (unfailed, inr stops)) =
+flush_stopped state old new e going (inr (unfailed, inr (inr (memory, sends)))) = left_sent state old new going sends
+flush_stopped state old new e going (inr (unfailed, inr (inl stops))) =
     (let h = left_handed state old going in left_both state old (with_queue_handed_out old) new h
     (left_stopped state (with_queue_handed_out old) new e h.going unfailed stops))
 

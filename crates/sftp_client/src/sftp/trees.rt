@@ -5,12 +5,13 @@ ghost use Rattle.sftp_model.specs.declared.error.Error.TheVariants as error;
 ghost use Rattle.sftp_client.specs.Calls.{IsUsable, IsUsableAfter};
 ghost use Rattle.sftp_client.specs.CreatedDirs.{FindsDir, MakesDirs, MakesPath, found_or, is_directory, is_refusal};
 ghost use Rattle.sftp_client.specs.DirPaths.{dir_at};
+ghost use Rattle.sftp_client.specs.RemovedTrees.{RemovesEach, RemovesOne, RemovesPath, RemovesTree, is_link, removal_of, removals_of};
 ghost use Rattle.sftp_client.specs.Walks.{ListsDir, StopsWalk, WalksWhole, dirs_at};
 
 use super::Sftp;
 use crate::dir_paths::is_dir_end;
+use crate::walk_entries::append_entries;
 use crate::walk_entry::WalkEntry;
-use crate::walked::append_entries;
 use sftp_link::Link;
 use sftp_meta::MetaData;
 use sftp_model::{Error, RemotePath, TryCopy};
@@ -106,6 +107,61 @@ impl<L: Link> Sftp<L> {
         Err(Error::OutOfMemory)
     }
 
+    /// Removes a directory with all entries below it. They are found as by `walk`, and removed in reverse order, so that
+    /// an entry is removed before its directory: a directory by RMDIR, and anything else by REMOVE
+    /// (draft-ietf-secsh-filexfer-02, sections 6.5 and 6.6). A symbolic link is removed and not followed, also if `path`
+    /// is one: LSTAT asks for it first.
+    ///
+    /// # Errors
+    ///
+    /// Those of `symlink_metadata` and `walk`: nothing was removed then. After the first error of `remove_file` or
+    /// `remove_dir`, nothing more is removed. An entry that `walk` leaves out is not removed, so its directory is not
+    /// empty.
+    pub fn remove_dir_all(&mut self, path: &[u8]) -> Result<(), Error>
+        requires { IsUsable L.LinkState.state self.old }
+        ensures { RemovesPath path.now L.LinkState.state self.old self.new result }
+    {
+        let told = self.symlink_metadata(path)?;
+        if is_link(&told) {
+            return self.remove_file(path);
+        }
+        self.remove_tree(path)
+    }
+
+    /// Removes a directory with all entries below it.
+    fn remove_tree(&mut self, path: &[u8]) -> Result<(), Error>
+        requires { IsUsable L.LinkState.state self.old }
+        ensures { RemovesTree path.now L.LinkState.state self.old self.new result }
+    {
+        let found = self.walk(path)?;
+        self.remove_walked(path, found)
+    }
+
+    /// Removes the entries of a walk, the last one first, and then its directory.
+    fn remove_walked(&mut self, path: &[u8], found: Vec<WalkEntry>) -> Result<(), Error>
+        requires { IsUsable L.LinkState.state self.old }
+        ensures { RemovesEach L.LinkState.state (removals_of path.now found.items) self.old self.new result }
+    {
+        let mut found = found;
+        while let Some(entry) = found.pop() {
+            self.remove_entry(&entry)?;
+        }
+        self.remove_dir(path)
+    }
+
+    /// Removes an entry.
+    fn remove_entry(&mut self, entry: &WalkEntry) -> Result<(), Error>
+        requires { IsUsable L.LinkState.state self.old }
+        ensures { RemovesOne L.LinkState.state (removal_of entry.now) self.old self.new result }
+    {
+        let path = entry.path.as_bytes();
+        if is_directory(&entry.metadata) {
+            self.remove_dir(path)
+        } else {
+            self.remove_file(path)
+        }
+    }
+
     /// Appends the entries of the directory at a place, if the entry there is one.
     fn walk_at(&mut self, at: usize, found: &mut Vec<WalkEntry>) -> Result<(), Error>
         requires usable { IsUsable L.LinkState.state self.old }
@@ -159,6 +215,16 @@ fn is_directory(metadata: &MetaData) -> bool
 {
     match metadata.file_type() {
         Some(kind) => kind.is_dir(),
+        None => false,
+    }
+}
+
+/// Returns true if the server reported that these are the attributes of a symbolic link.
+fn is_link(metadata: &MetaData) -> bool
+    ensures { result ≡ is_link metadata.now }
+{
+    match metadata.file_type() {
+        Some(kind) => kind.is_symlink(),
         None => false,
     }
 }
