@@ -1,4 +1,9 @@
 mod Answered
 mod Steps
+mod Progress
 mod Asking
 mod Sizing
+mod ReadsApart
+mod Downloading
+mod DownloadLaws
+mod Reporting

@@ -21,18 +21,7 @@ use Rattle.sftp_client.proofs.Waiting.{fail_stays, round_stays, round_unfaulted}
 use Rattle.sftp_client.specs.Calls.{IsUsable}
 use Rattle.example_client.specs.Sizes.{AreCallsAwaited, AreSizes, AreCallsUnderWay, GoesBySteps, SizesProgress, IsAsked, IsStep, sizes_progress_of}
 use Rattle.example_client.proofs.Asking.{awaited_kept, awaited_more, awaited_still, nothing_left}
-
-goes_on : {L S : Type 0} (state : L → LinkView S) (a b c : SizesProgress L) → GoesBySteps state a b → IsStep state b c
-    → GoesBySteps state a c
-goes_on state a b c g step = (suc g.0, (b, (g.1, step)))
-
-goes_first : {L S : Type 0} (state : L → LinkView S) (a b : SizesProgress L) → IsStep state a b → GoesBySteps state a b
-goes_first state a b step = (suc zero, (a, (refl, step)))
-
-goes_both : {L S : Type 0} (state : L → LinkView S) (a b c : SizesProgress L) → GoesBySteps state a b
-    → GoesBySteps state b c → GoesBySteps state a c
-goes_both {L = L} state a b c g (zero, h) = subst (λ (x : SizesProgress L). GoesBySteps state a x) (sym h) g
-goes_both state a b c g (suc n, h) = goes_on state a h.0 c (goes_both state a b h.0 g (n, h.1.0)) h.1.1
+use Rattle.example_client.proofs.Progress.{first_step, steps_both, steps_on}
 
 -- ---- the oldest call is heard
 
@@ -46,7 +35,7 @@ pub tells_first : {L S : Type 0} (state : L → LinkView S) (old new : SftpValue
     (sizes_progress_of new paths later more)
 tells_first state old new mid call ended later attrs paths sizes more polls cancels left last =
     let same = nothing_left mid new.core ended.stage polls.over cancels in
-    goes_first state (sizes_progress_of old paths (call ∷ later) sizes) (sizes_progress_of new paths later more)
+    first_step (IsStep state) (sizes_progress_of old paths (call ∷ later) sizes) (sizes_progress_of new paths later more)
     (inl (inr (record {
       call = call;
       ended = ended;
@@ -68,8 +57,8 @@ pub awaits_first : {L S : Type 0} (state : L → LinkView S) (old mid new : Sftp
 awaits_first state old mid new call after later paths sizes polls left round =
     let here = sizes_progress_of old paths (call ∷ later) sizes in
     let polled = sizes_progress_of mid paths (after ∷ later) sizes in
-    goes_on state here polled (sizes_progress_of new paths (after ∷ later) sizes)
-    (goes_first state here polled (inr (inl (record {
+    steps_on (IsStep state) here polled (sizes_progress_of new paths (after ∷ later) sizes)
+    (first_step (IsStep state) here polled (inr (inl (record {
       call = call;
       after = after;
       later = later;
@@ -165,7 +154,7 @@ sizes_asked state all old mid new asked calls later sizes path call s lt is asks
     let next : drop asked all ≡ path ∷ drop (asked + 1) all = drop_more all asked path lt
     ∙ ap (λ y. y ∷ drop (asked + 1) all) (sym is) in
     record {
-      goes = goes_on state (sizes_progress_of old all [] []) (sizes_progress_of mid (drop asked all) calls.items sizes)
+      goes = steps_on (IsStep state) (sizes_progress_of old all [] []) (sizes_progress_of mid (drop asked all) calls.items sizes)
           (sizes_progress_of new (drop (asked + 1) all) later.items sizes) s.goes
           (inl (inl (record { path = path; call = call; asks = asks; next = next; last = last; sizes = refl })));
       under_way = record {
@@ -193,7 +182,7 @@ pub sizes_heard : {L S : Type 0} (state : L → LinkView S) (all : List (List �
     → SizesOn state all old asked new later more
 sizes_heard state all old mid new asked calls later popped sizes more call s first went awaited usable room =
     record {
-      goes = goes_both state (sizes_progress_of old all [] []) (sizes_progress_of mid (drop asked all) (call ∷ popped)
+      goes = steps_both (IsStep state) (sizes_progress_of old all [] []) (sizes_progress_of mid (drop asked all) (call ∷ popped)
           sizes) (sizes_progress_of new (drop asked all) later.items more)
           (subst (λ (l : List (CallValue Telling)). GoesBySteps state (sizes_progress_of old all [] [])
           (sizes_progress_of mid (drop asked all) l sizes)) first s.goes) went;

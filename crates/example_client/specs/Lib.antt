@@ -1,5 +1,10 @@
 pub mod Files
 pub mod First
 pub mod Tasks
+pub mod Progress
 pub mod Sizes
+pub mod Largest
+pub mod Downloads
+pub mod Reports
 pub mod ExampleRows
+pub mod ReportRows

@@ -1,5 +1,5 @@
 -- Sizes of files, many of which are asked for before the first is reported.
-use Rattle.std.specs.Prelude.{◌≡◌, ◌⊎◌, ℕ, zero, suc, List, [], ◌∷◌, ◌++◌, Option, None, Ok}
+use Rattle.std.specs.Prelude.{◌≡◌, ◌⊎◌, ℕ, List, [], ◌∷◌, ◌++◌, Option, None, Ok}
 use Rattle.sftp_model.specs.declared.answers.Expected.TheVariants as expected
 use Rattle.sftp_model.specs.declared.file_attrs.FileAttrs.{FileAttrs}
 use Rattle.plan_model.specs.PathPlans.{stat_next}
@@ -16,6 +16,7 @@ use Rattle.sftp_fs.specs.PathStarts.{StartsFrom}
 use Rattle.sftp_client.specs.Sessions.{SftpValue, with_core}
 use Rattle.sftp_client.specs.Waits.{SendsAndTakes}
 use Rattle.sftp_client.specs.Calls.{IsUsable}
+use Rattle.example_client.specs.Progress.{ReachesBySteps}
 
 -- ---- Calls in flight
 
@@ -103,13 +104,8 @@ pub record GoesRound {L S : Type 0} (state : L → LinkView S) (old new : SizesP
 abbrev pub IsStep : {L S : Type 0} → (L → LinkView S) → SizesProgress L → SizesProgress L → Type 0
 IsStep state old new = (AsksNextPath old new ⊎ TellsFirst old new) ⊎ (AwaitsFirst old new ⊎ GoesRound state old new)
 
--- `n` steps, one after another.
-abbrev pub AreSteps : {L S : Type 0} → (L → LinkView S) → ℕ → SizesProgress L → SizesProgress L → Type 0
-AreSteps state zero old new = new ≡ old
-AreSteps {L = L} state (suc n) old new = (mid : SizesProgress L) × (AreSteps state n old mid × IsStep state mid new)
-
 abbrev pub GoesBySteps : {L S : Type 0} → (L → LinkView S) → SizesProgress L → SizesProgress L → Type 0
-GoesBySteps state old new = (count : ℕ) × AreSteps state count old new
+GoesBySteps state old new = ReachesBySteps (IsStep state) old new
 
 -- Each path was asked for, in order. Each size was reported, in the same order, by the attributes that answered the
 -- call of its path.

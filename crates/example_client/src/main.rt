@@ -1,18 +1,24 @@
 //! Programs over `sftp_client`, each proved: files that are written and read whole, and directories that are created,
-//! listed and walked, one call after another; and sizes of files, many of which are asked for at once.
+//! listed, walked and removed, one call after another; sizes of files, many of which are asked for at once; and a report
+//! of the largest files of a tree, which are downloaded at once.
 #![tactic(auto)]
 
 ghost use Rattle.std.specs.Prelude.{IfOk};
 ghost use Rattle.sftp_link.specs.Views.{stream_view};
 ghost use Rattle.sftp_client.specs.Calls.{IsUsable};
 
+mod downloads;
 mod files;
 mod first;
+mod largest;
+mod reports;
 mod sizes;
 mod tasks;
 
+pub use downloads::Download;
 pub use files::{get, put};
 pub use first::visit;
+pub use reports::write_report;
 use sftp_client::{Error, RemotePath, Sftp, SftpOptions};
 use sftp_link::{Dial, ReadSource, UnixDial, UnixLink, WriteSink, read_up_to, write_all};
 pub use sizes::sizes;
@@ -46,14 +52,18 @@ impl From<Error> for Failure {
 const MAX_CONTENT: usize = 67_108_864;
 
 /// The text that `--help` prints.
-const USAGE: &str = "example_client put|get|list|tree|mkdir SOCKET PATH\n\
+const USAGE: &str = "example_client put|get|list|tree|mkdir|remove SOCKET PATH\n\
     put: writes standard input to a file of the server that listens at SOCKET\n\
     get: prints a file\n\
     list: prints the names of a directory, a line each\n\
     tree: prints the paths of all that is below a directory, a line each\n\
     mkdir: creates a directory and each missing one on the way to it\n\
+    remove: removes a directory and all that is below it\n\
     example_client sizes SOCKET PATH..\n\
     sizes: prints the sizes of files, of which many are asked for at once\n\
+    example_client report SOCKET DIRECTORY TARGET\n\
+    report: downloads the ten largest files below a directory at once, and writes\n\
+    to TARGET a line for each: its size, the number of bytes that came, its path\n\
     example_client first SOCKET\n\
     first: writes notes.txt, prints its first bytes and the names of its directory\n";
 
@@ -64,7 +74,9 @@ const USAGE: &str = "example_client put|get|list|tree|mkdir SOCKET PATH\n\
 /// - `list SOCKET PATH` prints the names of a directory.
 /// - `tree SOCKET PATH` prints the paths of everything below a directory.
 /// - `mkdir SOCKET PATH` creates a directory and each missing one on the way to it.
+/// - `remove SOCKET PATH` removes a directory and everything below it.
 /// - `sizes SOCKET PATH..` prints the sizes of files.
+/// - `report SOCKET DIRECTORY TARGET` downloads the ten largest files below a directory, and writes a report of them.
 /// - `first SOCKET` writes a note, and prints its first bytes and the names of its directory.
 fn main(rt: HostRuntime) -> ExitCode {
     match run(&rt) {
@@ -92,8 +104,14 @@ fn run(rt: &HostRuntime) -> Result<(), Failure> {
         [word, socket] if word.as_str() == "first" => print_first(rt, socket),
         [word, socket, paths @ ..] if word.as_str() == "sizes" => print_sizes(rt, socket, paths),
         [word, socket, path] => run_on(rt, word, socket, path.as_bytes()),
+        [word, socket, directory, target] if word.as_str() == "report" => run_report(
+            rt,
+            socket,
+            directory.as_bytes(),
+            target.as_bytes(),
+        ),
         _ => Err(Failure::Refused(
-            "put, get, list, tree, mkdir, sizes or first, the path of a socket, and a path are needed (try --help)",
+            "a word, the path of a socket, and a path are needed (try --help)",
         )),
     }
 }
@@ -116,8 +134,9 @@ fn run_on(rt: &HostRuntime, word: &str, socket: &str, path: &[u8]) -> Result<(),
         "list" => over(rt, socket, Task::ListDir, path),
         "tree" => over(rt, socket, Task::Walk, path),
         "mkdir" => over(rt, socket, Task::CreateDirs, path),
+        "remove" => over(rt, socket, Task::RemoveDirs, path),
         _ => Err(Failure::Refused(
-            "the first word is put, get, list, tree, mkdir, sizes or first (try --help)",
+            "the first word is put, get, list, tree, mkdir, remove, sizes, report or first (try --help)",
         )),
     }
 }
@@ -147,6 +166,21 @@ fn print_first(rt: &HostRuntime, socket: &str) -> Result<(), Failure> {
         None => {}
     }
     print(rt, &text)
+}
+
+/// Writes a report of a directory to a file of the server that listens at a socket, and closes the session.
+fn run_report(
+    rt: &HostRuntime,
+    socket: &str,
+    directory: &[u8],
+    target: &[u8],
+) -> Result<(), Failure> {
+    let mut sftp = session(rt, socket)?;
+    write_report(rt.alloc(), &mut sftp, directory, target)?;
+    match sftp.close() {
+        Ok(_link) => Ok(()),
+        Err((e, _link)) => Err(Failure::Remote(e)),
+    }
 }
 
 /// Prints the sizes of files of the server that listens at a socket, a line each.

@@ -20,6 +20,8 @@ pub enum Task {
     Walk,
     /// Creates a directory and those on the way to it.
     CreateDirs,
+    /// Removes a directory and all that is below it.
+    RemoveDirs,
 }
 
 /// Runs one of them, and returns the text to print: the bytes of the file that was read, a line for the name or the path
@@ -54,6 +56,10 @@ pub fn do_task<L: Link>(
         }
         Task::CreateDirs => {
             sftp.create_dir_all(path)?;
+            Ok(Vec::new(alloc))
+        }
+        Task::RemoveDirs => {
+            sftp.remove_dir_all(path)?;
             Ok(Vec::new(alloc))
         }
     }
