@@ -2,6 +2,8 @@
 #![tactic(auto)]
 
 #[cfg(test)]
+mod nested_half;
+#[cfg(test)]
 mod one_thread;
 #[cfg(test)]
 mod texts;
