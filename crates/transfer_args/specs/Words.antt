@@ -70,9 +70,9 @@ unit_of b =
     else None
 
 -- The product, if it is at most `most`.
-abbrev pub scaled : ℕ → ℕ → Option ℕ → Option ℕ
-scaled most number None = None
-scaled most number (Some unit) = if nat_le (number * unit) most then Some (number * unit) else None
+abbrev pub product_at_most : ℕ → ℕ → Option ℕ → Option ℕ
+product_at_most most number None = None
+product_at_most most number (Some unit) = if nat_le (number * unit) most then Some (number * unit) else None
 
 -- The number of bytes that continues `number` with these decimal digits, after which `K`, `M` or `G` may come.
 abbrev pub size_behind : ℕ → ℕ → List ℕ → Option ℕ
@@ -80,7 +80,7 @@ size_behind most number [] = Some number
 size_behind most number (b ∷ bytes) =
     if nat_le 48 b && nat_le b 57 then (
     if nat_le (number * 10 + (b - 48)) most then size_behind most (number * 10 + (b - 48)) bytes else None
-    ) else if length bytes == 0 then scaled most number (unit_of b) else None
+    ) else if length bytes == 0 then product_at_most most number (unit_of b) else None
 
 -- A number of bytes from `least` to `most`: decimal digits, and then nothing, `K`, `M` or `G` for 1024, 1048576 or
 -- 1073741824 times the number.

@@ -1,6 +1,6 @@
 //! The numbers that follow options.
 ghost use Rattle.std.specs.Prelude.{◌≡◌, ◌≤◌};
-ghost use Rattle.transfer_args.specs.Words.{digits_behind, number_in, scaled, size_behind, size_in, unit_of};
+ghost use Rattle.transfer_args.specs.Words.{digits_behind, number_in, product_at_most, size_behind, size_in, unit_of};
 
 /// Returns the number that decimal digits write, or `None` if it is more than `most`.
 fn number(most: u32, digits: &[u8]) -> Option<u32>
@@ -46,9 +46,9 @@ fn unit_of(letter: u8) -> Option<u64>
 }
 
 /// Returns a number of a unit in bytes, or `None` if it is more than `most` or the letter is no unit.
-fn scaled(most: u32, number: u64, letter: u8) -> Option<u32>
+fn in_bytes(most: u32, number: u64, letter: u8) -> Option<u32>
     requires { number ≤ most }
-    ensures { result ≡ scaled most number (unit_of letter) }
+    ensures { result ≡ product_at_most most number (unit_of letter) }
 {
     let size = number * unit_of(letter)?;
     if size > u64::from(most) {
@@ -67,7 +67,7 @@ fn size(most: u32, word: &[u8]) -> Option<u32>
     while let [byte, later @ ..] = rest {
         if !(b'0'..=b'9').contains(byte) {
             return if later.is_empty() {
-                scaled(most, number, *byte)
+                in_bytes(most, number, *byte)
             } else {
                 None
             };
