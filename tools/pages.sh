@@ -1,6 +1,7 @@
 #!/bin/sh
 # Compares the pages with the repository: crates.txt with what the crates cite, the table of docs/PROVED.md with the
-# definitions, docs/API.md with the public items, and docs/ARCHITECTURE.md with the crates that exist.
+# definitions, docs/API.md with the public items, docs/ARCHITECTURE.md with the crates that exist, and the examples that
+# comments name with the files.
 set -u
 cd "$(dirname "$0")/.." || exit 1
 
@@ -12,6 +13,12 @@ for crate in crates/*/; do
     name=$(basename "$crate")
     if ! grep -q "\`$name\`" docs/ARCHITECTURE.md; then
         echo "pages: docs/ARCHITECTURE.md does not name the crate $name"
+        failed=1
+    fi
+done
+for example in $(grep -rhoE 'Example: `[^`]+`' crates/*/src --include='*.rt' | cut -d'`' -f2 | sort -u); do
+    if ! [ -e "$example" ]; then
+        echo "pages: a comment names the example $example, which doesn't exist"
         failed=1
     fi
 done

@@ -23,7 +23,7 @@ use std::marker::Model;
 ///
 /// It reports no pieces. Its faults are those of the wire, including those of sends that were held back.
 ///
-/// Example: `crates/link_duplex/src/tests.rt`.
+/// Example: `crates/test_link/src/duplex.rt`.
 #[derive(Drop)]
 pub struct DuplexLink<W> {
     wire: W,

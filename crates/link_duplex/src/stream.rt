@@ -20,7 +20,7 @@ use std::time::Duration;
 ///
 /// The system reports when they are ready (`mio`). That they do not block is up to the caller of `new`.
 ///
-/// Example: `crates/link_duplex/src/tests.rt`.
+/// Example: `crates/test_link/src/duplex.rt`.
 #[derive(Drop)]
 pub struct StreamWire<R, W> {
     reads: R,

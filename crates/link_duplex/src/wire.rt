@@ -19,7 +19,7 @@ pub enum Readiness {
 
 /// Both directions of a connection. `put` and `get` move the bytes that can be moved at once, and only `wait` waits.
 ///
-/// Example: `crates/link_duplex/src/tests.rt`.
+/// Example: `crates/test_link/src/duplex.rt`.
 pub trait Wire {
     // The steps that it reports, and how often it failed.
     ghost state: { Self → WireView };

@@ -21,7 +21,7 @@ use std::marker::Model;
 /// An open directory of the server. It isn't droppable: `read_dir` and `start_close` consume it, and `let_go` does
 /// after its core was given up. A contract sees its grant.
 ///
-/// Example: `crates/example_client/src/directories.rt`.
+/// Example: `crates/sftp_client/src/sftp/directories.rt`.
 #[must_use]
 pub struct Dir {
     grant: Grant,

@@ -25,7 +25,7 @@ use std::vec::IntoIter;
 /// given up. A contract sees the grant, the entries that came and were not returned yet, the number of the READDIR
 /// whose reply is awaited, and whether the end came.
 ///
-/// Example: `crates/example_client/src/directories.rt`.
+/// Example: `crates/sftp_client/src/sftp/directories.rt`.
 #[must_use]
 pub struct ReadDir {
     grant: Grant,

@@ -337,7 +337,7 @@ fn open_to_read(path: RemotePath) -> Request
 
 /// Starts of a whole read.
 ///
-/// Example: `crates/test_client/src/paths.rt`.
+/// Example: `crates/example_client/src/downloads.rt`.
 pub trait StartRead {
     // The precondition of a start, and its effect.
     ghost may: { CoreValue → Type 0 };

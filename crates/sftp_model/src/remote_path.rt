@@ -13,7 +13,7 @@ use std::marker::Model;
 
 /// A path on the server, of any bytes. A contract sees it as their list (draft-ietf-secsh-filexfer-02, section 6.2).
 ///
-/// Example: `crates/example_client/src/trees.rt`.
+/// Example: `crates/example_client/src/sizes.rt`.
 #[derive(Debug, Drop)]
 pub struct RemotePath {
     text: ByteText,

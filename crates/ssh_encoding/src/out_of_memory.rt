@@ -5,7 +5,7 @@ use std::alloc::{AllocError, AllocFailed};
 
 /// The error if an allocation that a call needed failed.
 ///
-/// Example: `crates/example_client/src/trees.rt`.
+/// Example: `crates/sftp_model/src/remote_path.rt`.
 #[derive(Clone, Copy, Debug, PartialEq, Eq)]
 pub struct OutOfMemory;
 
