@@ -10,7 +10,7 @@ import glob, os, re, sys, textwrap
 
 ROOT = os.path.dirname(os.path.dirname(os.path.abspath(__file__)))
 PAGE = f"{ROOT}/docs/API.md"
-CRATES = """ssh_encoding sftp_values sftp_model sftp_wire sftp_meta sftp_link link_duplex sftp_core sftp_file sftp_fs
+CRATES = """ssh_encoding sftp_values sftp_model sftp_wire sftp_meta sftp_link link_duplex ssh_channel sftp_core sftp_file sftp_fs
 sftp_fs_read sftp_buffered sftp_streams sftp_client sftp_lanes session_seats sftp_tasks session_threads""".split()
 
 ITEM = re.compile(r"\s*pub (?:const |unsafe )*(fn|struct|enum|trait|type|const|static) ([A-Za-z_0-9]+)")
