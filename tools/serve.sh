@@ -1,8 +1,9 @@
 #!/bin/sh
 # Runs OpenSSH's sftp, and the program of crates/sftp_cli through socat, over the server of crates/sftp_serve: files of 0 to
 # 8000000 bytes up and down, listings, directories, renames, what is removed, and what the server refuses or doesn't know; and
-# compares the files and the names with what is wanted. It installs nothing: where sftp or socat is missing it says so, and that
-# part is passed over. Other programs than those that `rt ci` built may be given as arguments, the server first.
+# compares the files and the names with what is wanted. Then python3 opens as many handles as there may be. It installs nothing:
+# where sftp, socat or python3 is missing it says so, and that part is passed over. Other programs than those that `rt ci` built
+# may be given as arguments, the server first.
 set -u
 case ${1-} in
 '' | /*) server=${1-} ;;
@@ -202,6 +203,75 @@ by_cli() {
     done
 }
 
+# ---- a client of python3
+
+# 4096 handles of one file are opened. Then an OPEN and an OPENDIR are refused with status 4, and create nothing; other requests
+# are answered as before. A CLOSE makes room for one handle, also of a directory, and one that fails makes none
+by_python() {
+    timeout 60 python3 - "$server" >"$room/said" 2>&1 <<'END'
+import struct, subprocess, sys
+
+INIT, OPEN, CLOSE, READ, OPENDIR, STAT = 1, 3, 4, 5, 11, 17
+VERSION, STATUS, HANDLE, DATA, ATTRS = 2, 101, 102, 103, 105
+server = subprocess.Popen([sys.argv[1], "file 61 6869", "dir 64"], stdin=subprocess.PIPE, stdout=subprocess.PIPE)
+count = 0
+
+
+def text(content):
+    return struct.pack(">I", len(content)) + content
+
+
+def answer(body):
+    server.stdin.write(text(body))
+    server.stdin.flush()
+    (length,) = struct.unpack(">I", server.stdout.read(4))
+    return server.stdout.read(length)
+
+
+# the rest of the answer, whose kind, id and first bytes are those wanted
+def want(kind, fields, wanted, first=b""):
+    global count
+    count += 1
+    number = struct.pack(">I", count)
+    got = answer(bytes([kind]) + number + fields)
+    due = bytes([wanted]) + number + first
+    if not got.startswith(due):
+        sys.exit("request %d: %s in place of %s" % (count, got[:32].hex(), due.hex()))
+    return got[len(due):]
+
+
+def status(code):
+    return STATUS, struct.pack(">I", code)
+
+
+opens = text(b"a") + struct.pack(">II", 1, 0)
+creates = text(b"new") + struct.pack(">II", 26, 0)
+if answer(bytes([INIT]) + struct.pack(">I", 3))[0] != VERSION:
+    sys.exit("no version")
+handles = [want(OPEN, opens, HANDLE) for _ in range(4096)]
+if len(set(handles)) != 4096:
+    sys.exit("a handle twice")
+want(OPEN, opens, *status(4))
+want(OPENDIR, text(b"d"), *status(4))
+want(OPEN, creates, *status(4))
+want(STAT, text(b"new"), *status(2))
+want(STAT, text(b"a"), ATTRS)
+want(READ, handles[4095] + struct.pack(">QI", 0, 9), DATA, text(b"hi"))
+want(CLOSE, handles[0], *status(0))
+want(CLOSE, handles[0], *status(4))
+opened = want(OPEN, opens, HANDLE)
+want(OPEN, opens, *status(4))
+want(CLOSE, opened, *status(0))
+listed = want(OPENDIR, text(b"d"), HANDLE)
+want(OPENDIR, text(b"d"), *status(4))
+want(CLOSE, listed, *status(0))
+want(OPEN, opens, HANDLE)
+server.stdin.close()
+sys.exit(server.wait())
+END
+    tell 'as many handles as there may be' $?
+}
+
 if command -v sftp >/dev/null; then
     by_sftp
 else
@@ -214,6 +284,11 @@ elif ! [ -x "$client" ]; then
     failed=$((failed + 1))
 else
     by_cli
+fi
+if command -v python3 >/dev/null; then
+    by_python
+else
+    echo "serve: there is no python3, so its client is passed over"
 fi
 echo "serve: $passed passed, $failed failed"
 [ $failed -eq 0 ]

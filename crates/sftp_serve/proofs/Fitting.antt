@@ -6,6 +6,7 @@ use Rattle.std.proofs.Common.{
   ℕ,
   ◌+◌,
   ◌*◌,
+  ◌^◌,
   Bool,
   true,
   false,
@@ -30,12 +31,13 @@ use Rattle.std.proofs.Common.{
   inr,
   length-append,
 }
-use Rattle.std.specs.Prelude.{IfSome, decimal, min, codes}
+use Rattle.std.specs.Prelude.{◌&&◌, IfSome, decimal, min, codes, nat_le}
 use Rattle.std.specs.List.{flat_map}
 use Rattle.std.specs.Option.{unwrap_or}
 use Rattle.std.proofs.lemmas.Fmt.{length-decimal-le}
 use Rattle.std.proofs.lemmas.List.{length-drop}
 use Rattle.ssh_encoding.specs.Writing.{string, uint32}
+use Rattle.sftp_model.specs.declared.config.Choice.{Choice}
 use Rattle.sftp_model.specs.declared.file_attrs.FileAttrs.{FileAttrs}
 use Rattle.sftp_model.specs.declared.reply.NameEntry.{NameEntry}
 use Rattle.sftp_model.specs.declared.reply.Reply.{Reply}
@@ -44,17 +46,33 @@ use Rattle.sftp_model.specs.declared.request.Request.{Request}
 use Rattle.sftp_model.specs.declared.request.Request.TheVariants as request
 use Rattle.sftp_model.specs.Answers.{status}
 use Rattle.sftp_model.specs.Frames.{attributes, bit, name_entry, reply_body}
-use Rattle.sftp_model.specs.Numbers.{MAX_BODY_LEN, MAX_TRANSFER_LEN, SSH_FX_OP_UNSUPPORTED}
+use Rattle.sftp_model.specs.Numbers.{MAX_BODY_LEN, MAX_TRANSFER_LEN, SSH_FX_FAILURE, SSH_FX_OK, SSH_FX_OP_UNSUPPORTED}
 use Rattle.sftp_wire.proofs.Lengths.{length-attributes, length-string, length-uint32}
-use Rattle.machine_model.specs.FitTrees.{AreShort, GivesWithin, IsShort, IsTold, MayReply}
+use Rattle.machine_model.specs.FitTrees.{AreShort, GivesWithin, IsFit, IsShort, IsTold, MayReply}
 use Rattle.machine_model.specs.Limits.{MAX_FILE_LEN}
 use Rattle.machine_model.proofs.ReplyFits.{body_within}
+use Rattle.machine_answers.specs.MachineState.{MachineState, answer}
+use Rattle.machine_answers.proofs.ReplyLaws.{may_reply}
 use Rattle.sftp_serve.specs.Details.{full_attrs, full_entry, full_reply, has_attrs, long_name, mode_text, spaces_before}
+use Rattle.sftp_serve.specs.Stream.{MAX_OPEN_HANDLES, choice_for, opens_handle}
 
 -- a DATA that is cut to the bound
-pub within_cap : (r : Request) → GivesWithin MAX_TRANSFER_LEN r
+within_cap : (r : Request) → GivesWithin MAX_TRANSFER_LEN r
 within_cap (request.Read handle offset len) = omega arith
 within_cap other = tt
+
+code_within : (count : ℕ) (r : Request) → (choice_for count r).refuse < 2 ^ 32
+code_within count r = by_test (opens_handle r && nat_le MAX_OPEN_HANDLES count)
+  where
+    by_test : (b : Bool) → (if b then SSH_FX_FAILURE else SSH_FX_OK) < 2 ^ 32
+    by_test true = lit< tt
+    by_test false = lit< tt
+
+-- the reply of a machine by its choice
+pub chosen_reply : (machine : MachineState) (r : Request) (count : ℕ) (choice : Choice) → IsFit machine.tree
+    → choice ≡ choice_for count r → MayReply (answer machine r choice).0
+chosen_reply machine r count choice fit is = subst (λ (w : Choice). MayReply (answer machine r w).0) (sym is)
+    (may_reply machine r (choice_for count r) fit (code_within count r) (within_cap r))
 
 pub unsupported_within : (id : ℕ) → length (reply_body (status SSH_FX_OP_UNSUPPORTED) id) ≤ MAX_BODY_LEN
 unsupported_within id = body_within (status SSH_FX_OP_UNSUPPORTED) id (lit< tt, refl, refl)

@@ -4,4 +4,6 @@ mod Steps
 mod Ends
 mod OtherExtensions
 mod Fitting
+mod HandleCounts
+mod HandleBound
 mod RefusedWords

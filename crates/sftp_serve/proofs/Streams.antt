@@ -41,7 +41,7 @@ use Rattle.sftp_map_server.proofs.Strings.{no_fault, nothing_missing, one_string
 -- ---- one frame more
 
 -- an answer and those after it, taken apart
-and_then_Some : (x : Option (List ℕ × ServedState)) (more : ServedState → Option (List ℕ × ServedState))
+pub and_then_Some : (x : Option (List ℕ × ServedState)) (more : ServedState → Option (List ℕ × ServedState))
     (out : List ℕ × ServedState) → and_then x more ≡ Some out
     → (a : List ℕ × ServedState) × (b : List ℕ × ServedState) × (x ≡ Some a) × (more a.1 ≡ Some b)
     × (out ≡ (a.0 ++ b.0, b.1))

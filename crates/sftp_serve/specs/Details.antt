@@ -31,7 +31,7 @@ mode_text (Some mode) = codes "drwxr-xr-x"
 abbrev pub spaces_before : ℕ → List ℕ
 spaces_before n = drop (min (length (decimal n)) 8) (codes "        ")
 
--- A line of `ls -l`, as draft-ietf-secsh-filexfer-02 recommends in section 7.
+-- A line of `ls -l`, as OpenSSH's server writes it (draft-ietf-secsh-filexfer-02, section 7, recommends such a line).
 abbrev pub long_name : List ℕ → FileAttrs → List ℕ
 long_name name a = mode_text a.permissions ++ codes "    1 root     root     " ++ spaces_before (unwrap_or a.size 0)
     ++ decimal (unwrap_or a.size 0) ++ codes " Jan  1  1970 " ++ name

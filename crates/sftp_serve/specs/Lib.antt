@@ -2,8 +2,10 @@ pub mod Details
 pub mod Stream
 pub mod Logs
 pub mod StreamRows
+pub mod DetailRows
 pub mod Ended
 pub mod Serving
 pub mod Words
+pub mod HandleCounts
 pub mod WordRows
 pub mod OtherExtensions

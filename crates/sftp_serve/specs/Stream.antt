@@ -12,6 +12,7 @@ use Rattle.std.specs.Prelude.{
   Bool,
   true,
   false,
+  ◌&&◌,
   List,
   [],
   ◌∷◌,
@@ -38,18 +39,24 @@ use Rattle.sftp_model.specs.declared.config.Choice.{Choice}
 use Rattle.sftp_model.specs.declared.frame_error.FormatKind.TheVariants as kinds
 use Rattle.sftp_model.specs.declared.frame_error.FrameError.{FrameError}
 use Rattle.sftp_model.specs.declared.frame_error.FrameError.TheVariants as errors
+use Rattle.sftp_model.specs.declared.reply.Reply.{Reply}
 use Rattle.sftp_model.specs.declared.request.Request.{Request}
 use Rattle.sftp_model.specs.declared.request.Request.TheVariants as request
 use Rattle.sftp_model.specs.Answers.{status}
-use Rattle.sftp_model.specs.Numbers.{MAX_BODY_LEN, MAX_TRANSFER_LEN, SSH_FXP_EXTENDED, SSH_FX_OK, SSH_FX_OP_UNSUPPORTED}
+use Rattle.sftp_model.specs.Numbers.{
+  MAX_BODY_LEN,
+  MAX_TRANSFER_LEN,
+  SSH_FXP_EXTENDED,
+  SSH_FX_FAILURE,
+  SSH_FX_OK,
+  SSH_FX_OP_UNSUPPORTED,
+}
 use Rattle.sftp_model.specs.Frames.{reply_frame}
 use Rattle.sftp_model.specs.RequestReadings.{request_at}
 use Rattle.sftp_wire.specs.FrameReader.{fault_of, missing_bytes}
 use Rattle.machine_answers.specs.MachineState.{MachineState, answer}
 use Rattle.sftp_map_server.specs.Serving.{AllShort, id_of, is_hello, version_reply}
 use Rattle.sftp_serve.specs.Details.{shown_reply}
-
--- ---- One frame
 
 -- A flag that is true if replies are full, one that is true if the hello came, and the machine.
 pub record ServedState : Type 0 where
@@ -61,9 +68,31 @@ pub record ServedState : Type 0 where
 abbrev pub first_state : Bool → MachineState → ServedState
 first_state long machine = record { long = long; greeted = false; machine = machine }
 
--- No request is refused, and a DATA has at most the number of bytes that a frame can carry.
-abbrev pub every_choice : Choice
-every_choice = record { refuse = SSH_FX_OK; cap = MAX_TRANSFER_LEN }
+-- ---- The bound on open handles
+
+-- The most handles that are open at once.
+abbrev pub MAX_OPEN_HANDLES : ℕ
+MAX_OPEN_HANDLES = 4096
+
+-- True for OPEN and OPENDIR.
+abbrev pub opens_handle : Request → Bool
+opens_handle (request.OpenFile path flags attrs) = true
+opens_handle (request.Opendir path) = true
+opens_handle other = false
+
+-- The choice for a request while this many handles are open. An OPEN or an OPENDIR is refused with a failure if 4096 or
+-- more are; no other request is refused. A DATA has at most the number of bytes that a frame can carry.
+abbrev pub choice_for : ℕ → Request → Choice
+choice_for count r = record {
+  refuse = if opens_handle r && nat_le MAX_OPEN_HANDLES count then SSH_FX_FAILURE else SSH_FX_OK;
+  cap = MAX_TRANSFER_LEN;
+}
+
+-- The machine's reply to a request, and the machine after it, by the choice for the handles that it has open.
+abbrev pub chosen_answer : MachineState → Request → Reply × MachineState
+chosen_answer machine r = answer machine r (choice_for (length machine.tree.handles) r)
+
+-- ---- One frame
 
 -- The hello of a client that knows version 3.
 abbrev pub is_welcome : Request → Bool
@@ -80,8 +109,8 @@ version_answer s = (
 -- The machine's answer to a request, under the request's id.
 abbrev pub machine_answer : ServedState → Option ℕ → Request → List ℕ × ServedState
 machine_answer s id r = (
-  reply_frame (shown_reply s.long (answer s.machine r every_choice).0) (id_of id),
-  record { long = s.long; greeted = s.greeted; machine = (answer s.machine r every_choice).1 },
+  reply_frame (shown_reply s.long (chosen_answer s.machine r).0) (id_of id),
+  record { long = s.long; greeted = s.greeted; machine = (chosen_answer s.machine r).1 },
 )
 
 -- The answer to an extension that the protocol's profile doesn't have.

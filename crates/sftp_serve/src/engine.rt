@@ -4,12 +4,10 @@ ghost use Rattle.sftp_link.specs.Told.{IfLogged};
 ghost use Rattle.sftp_wire.specs.FrameReader.{nothing};
 ghost use Rattle.sftp_serve.specs.declared.stop.Stop.TheVariants as stop;
 ghost use Rattle.sftp_serve.specs.Logs.{MayServe, ServesStream};
-ghost use Rattle.sftp_serve.specs.Stream.{first_state};
 ghost use Rattle.sftp_serve.specs.Serving.{HaltsAll, HasRoom, ServedOne, TookFrame, TookSome};
 
 use crate::server::Server;
 use crate::stop::Stop;
-use machine_answers::Machine;
 use sftp_link::{Link, LinkIn, send_all};
 use sftp_model::FrameError;
 use sftp_wire::FrameReader;
@@ -129,18 +127,13 @@ fn serve_frames<L: Link>(alloc: Global, link: &mut L, server: &mut Server) -> u8
     FULL
 }
 
-/// Serves a machine on a link, and returns the exit status.
+/// Serves one client on a link, and returns the exit status.
 #[tactic(auto, using(crate::proofs::Ends::serves_stream))]
-pub(crate) fn serve_machine<L: Link>(
-    alloc: Global,
-    machine: Machine,
-    long: bool,
-    link: &mut L,
-) -> u8
+pub(crate) fn serve_client<L: Link>(alloc: Global, server: Server, link: &mut L) -> u8
     requires { MayServe (L.LinkState.state link.old) }
-    ensures serves { ServesStream (first_state long machine) result (L.LinkState.state link.old) (L.LinkState.state link.new) }
+    ensures serves { ServesStream server result (L.LinkState.state link.old) (L.LinkState.state link.new) }
     ensures status { (result ≡ 0) ⊎ (result ≡ 1) ⊎ (result ≡ 3) ⊎ (result ≡ 5) ⊎ (result ≡ 7) }
 {
-    let mut server = Server::new(alloc, machine, long);
+    let mut server = server;
     serve_frames(alloc, link, &mut server)
 }

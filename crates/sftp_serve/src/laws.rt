@@ -1,4 +1,5 @@
-//! A law of the definitions; the function does nothing, and its ensures clauses hold for all values.
+//! Laws of the definitions. The functions do nothing: what they ensure holds for all values.
+ghost use Rattle.sftp_serve.specs.HandleCounts.{BoundsHandles};
 ghost use Rattle.sftp_serve.specs.OtherExtensions.{AnswersNoMore, AnswersOthers};
 
 /// States that after the hello an EXTENDED with a readable id and name is answered if the name is none of the six. Of
@@ -6,4 +7,9 @@ ghost use Rattle.sftp_serve.specs.OtherExtensions.{AnswersNoMore, AnswersOthers}
 pub fn other_extensions_are_answered()
     ensures answered { AnswersOthers }
     ensures only { AnswersNoMore }
+{}
+
+/// States that at most 4096 handles are open after any frames.
+pub fn handles_are_bounded()
+    ensures { BoundsHandles }
 {}

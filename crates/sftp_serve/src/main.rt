@@ -4,13 +4,14 @@
 
 mod details;
 mod engine;
+mod handles;
 mod laws;
 mod serve;
 mod server;
 mod stop;
 mod words;
 
-pub use laws::other_extensions_are_answered;
+pub use laws::{handles_are_bounded, other_extensions_are_answered};
 pub use serve::serve;
 use sftp_link::{Duplex, ReadSource, WriteSink};
 use std::env;

@@ -6,10 +6,10 @@ ghost use Rattle.machine_model.specs.FirstTree.{may_begin};
 ghost use Rattle.sftp_serve.specs.Logs.{MayServe, ServesStream};
 ghost use Rattle.sftp_serve.specs.Words.{is_long, script_state, server_lines};
 
-use crate::engine::serve_machine;
+use crate::engine::serve_client;
+use crate::server::Server;
 use crate::stop::OUT_OF_MEMORY;
 use crate::words::{is_long, server_lines};
-use machine_answers::Machine;
 use script_grammar::{LineError, Script, read_server_words};
 use sftp_link::Link;
 use std::alloc::Global;
@@ -24,13 +24,8 @@ fn serve_script<L: Link>(alloc: Global, script: &Script, long: bool, link: &mut 
     ensures serves { ServesStream (script_state long script.now) result (L.LinkState.state link.old) (L.LinkState.state link.new) }
     ensures status { (result ≡ 0) ⊎ (result ≡ 1) ⊎ (result ≡ 3) ⊎ (result ≡ 5) ⊎ (result ≡ 7) }
 {
-    match Machine::new_tree(
-        alloc,
-        script.files.as_slice(),
-        script.dirs.as_slice(),
-        script.server,
-    ) {
-        Ok(machine) => serve_machine(alloc, machine, long, link),
+    match Server::new(alloc, script, long) {
+        Ok(server) => serve_client(alloc, server, link),
         Err(_) => OUT_OF_MEMORY,
     }
 }

@@ -1,14 +1,18 @@
 //! The answer of the server to the body of a frame.
-ghost use Rattle.std.specs.Prelude.{◌≡◌, IfOk, false};
+ghost use Rattle.std.specs.Prelude.{◌≡◌, IfOk, false, length, true};
+ghost use Rattle.machine_model.specs.FirstTree.{may_begin};
 ghost use Rattle.sftp_model.specs.Answers.{IsAfterHello, status};
 ghost use Rattle.sftp_model.specs.Numbers.{SSH_FX_OP_UNSUPPORTED};
 ghost use Rattle.sftp_map_server.specs.Serving.{id_of as id_by, is_hello as is_hello_by};
-ghost use Rattle.sftp_serve.specs.Stream.{IsSaid, machine_answer, every_choice, id_in as id_in_by, is_welcome as is_welcome_by, answer_to_frame, to_refused, to_request, unknown_id as unknown_id_by, unsupported_answer, version_answer};
+ghost use Rattle.sftp_serve.specs.Stream.{IsSaid, machine_answer, choice_for, id_in as id_in_by, is_welcome as is_welcome_by, answer_to_frame, to_refused, to_request, unknown_id as unknown_id_by, unsupported_answer, version_answer};
+ghost use Rattle.sftp_serve.specs.Words.{script_state};
 
 use crate::details::shown_frame;
+use crate::handles::{choice_for, count_after};
 use machine_answers::Machine;
+use script_grammar::Script;
 use sftp_map_server::{frame_of, version};
-use sftp_model::numbers::{MAX_TRANSFER_LEN, SSH_FX_OP_UNSUPPORTED, SSH_FXP_EXTENDED};
+use sftp_model::numbers::{SSH_FX_OP_UNSUPPORTED, SSH_FXP_EXTENDED};
 use sftp_model::{Choice, FormatKind, FrameError, Reply, Request};
 use sftp_values::ByteText;
 use sftp_wire::read_request;
@@ -16,31 +20,26 @@ use ssh_encoding::OutOfMemory;
 use std::alloc::Global;
 use std::marker::Model;
 
-/// A machine, a flag that is true if replies have all attributes and long names, and one that is true if the hello came.
+/// A machine and the number of its open handles, a flag that is true if replies have all attributes and long names, and
+/// one that is true if the hello came.
 #[derive(Drop)]
 pub(crate) struct Server {
     alloc: Global,
     machine: Machine,
+    handle_count: u64,
     long: bool,
     greeted: bool,
 }
 
 impl Model for Server {
+    ghost use Rattle.sftp_serve.specs.HandleCounts.{CountsHandles};
     ghost use Rattle.sftp_serve.specs.Stream.{ServedState};
 
     ghost Value = { ServedState };
 
     ghost view = { λ s. record { long = s.long; greeted = s.greeted; machine = s.machine } };
-}
 
-/// Returns the choice for each request: none is refused, and a DATA is cut to the length that a frame can carry.
-fn every_choice() -> Choice
-    ensures { result ≡ every_choice }
-{
-    Choice {
-        refuse: 0,
-        cap: MAX_TRANSFER_LEN,
-    }
+    ghost invariant = { λ s. CountsHandles s.machine s.handle_count };
 }
 
 /// Returns true if a request is the hello.
@@ -111,16 +110,28 @@ fn unsupported(alloc: Global) -> Reply
 }
 
 impl Server {
-    /// Returns the state before the first frame.
-    pub(crate) fn new(alloc: Global, machine: Machine, long: bool) -> Server
-        ensures { result ≡ record { long = long; greeted = false; machine = machine } }
+    /// Returns the state before the first frame, with the files and directories of a script.
+    ///
+    /// # Errors
+    ///
+    /// `OutOfMemory` if an allocation fails.
+    pub(crate) fn new(alloc: Global, script: &Script, long: bool) -> Result<Server, OutOfMemory>
+        requires { may_begin script.now.files script.now.dirs ≡ true }
+        ensures { IfOk result (λ server. server ≡ script_state long script.now) }
     {
-        Server {
+        let machine = Machine::new_tree(
+            alloc,
+            script.files.as_slice(),
+            script.dirs.as_slice(),
+            script.server,
+        )?;
+        Ok(Server {
             alloc,
             machine,
+            handle_count: 0,
             long,
             greeted: false,
-        }
+        })
     }
 
     // Answers the hello with VERSION.
@@ -132,6 +143,13 @@ impl Server {
         Ok(frame)
     }
 
+    // Returns the choice for a request.
+    fn choice(&self, request: &Request) -> Choice
+        ensures { result ≡ choice_for (length self.now.machine.tree.handles) request.now }
+    {
+        choice_for(self.handle_count, request)
+    }
+
     // Answers a request by the machine.
     fn serve(&mut self, id: Option<u32>, request: &Request) -> Result<Vec<u8>, OutOfMemory>
         requires { IsAfterHello request.now }
@@ -139,9 +157,12 @@ impl Server {
     {
         // For the contract: its files and directories are consistent.
         let _count = self.machine.grant_count();
-        let answered = self.machine.answer(request, every_choice())?;
+        let choice = self.choice(request);
+        let answered = self.machine.answer(request, choice)?;
         let frame = shown_frame(self.alloc, self.long, answered.reply(), id_of(id))?;
+        let handle_count = count_after(self.handle_count, request, answered.reply());
         self.machine.commit(answered)?;
+        self.handle_count = handle_count;
         Ok(frame)
     }
 
