@@ -6,3 +6,5 @@ mod ActLaws
 mod ApartLaws
 mod DoneLaws
 mod JobPathLaws
+mod LinkLaws
+mod StemLaws

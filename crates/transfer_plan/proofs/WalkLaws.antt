@@ -33,9 +33,10 @@ use Rattle.std.specs.Prelude.{◌⊎◌, Ok, Result}
 use Rattle.transfer_plan.specs.declared.walk.WalkError.{WalkError}
 use Rattle.std.specs.List.{slice_get}
 use Rattle.std.specs.Str.{is_utf8}
+use Rattle.std.proofs.lemmas.Bool.{and_parts}
 use Rattle.std.proofs.lemmas.List.{length-append}
 use Rattle.sftp_model.specs.declared.file_attrs.FileAttrs.{FileAttrs}
-use Rattle.transfer_plan.specs.Names.{StaysIn, is_component, path_in}
+use Rattle.transfer_plan.specs.Names.{MAX_NAME_LEN, StaysIn, is_component, is_entry_name, path_in}
 use Rattle.transfer_plan.proofs.PathLaws.{leads_into, stays_at, stays_in}
 use Rattle.transfer_plan.specs.Entries.{MAX_DEPTH, entry_found, target_in, task_at, task_of}
 use Rattle.transfer_plan.specs.Walks.{AddsEntry, IsEntryOf, IsWalk, WalkValue, begun_walk, with_entry}
@@ -101,10 +102,13 @@ begun root texts is depth = record {
 -- ---- an entry more
 
 target_stays : (root folder name : List ℕ) → StaysIn root folder → StaysIn root (target_in folder name)
-target_stays root folder name h = by_test (is_component name) refl
+target_stays root folder name h = by_test (is_entry_name name) refl
   where
-    by_test : (t : Bool) → is_component name ≡ t → StaysIn root (if t then path_in folder name else folder)
-    by_test true is = stays_in root folder (path_in folder name) name h is (leads_into folder name is)
+    by_test : (t : Bool) → is_entry_name name ≡ t → StaysIn root (if t then path_in folder name else folder)
+    by_test true is =
+        let plain : is_component name ≡ true =
+        (and_parts (is_component name) (not (nat_lt MAX_NAME_LEN (length name))) is).0 in
+        stays_in root folder (path_in folder name) name h plain (leads_into folder name plain)
     by_test false is = h
 
 folder_depth : (depth : ℕ) (k : EntryKind) → task_at depth k ≡ task.MakeFolder → depth < MAX_DEPTH
@@ -120,7 +124,7 @@ folder_depth depth kind.Other e = absurd cc
 
 entry_depth : (texts : Bool) (depth : ℕ) (name : List ℕ) (k : EntryKind) → task_of texts depth name k ≡ task.MakeFolder
     → depth < MAX_DEPTH
-entry_depth texts depth name k e = by_tests (not (is_component name)) (texts && not (is_utf8 name)) e
+entry_depth texts depth name k e = by_tests (not (is_entry_name name)) (texts && not (is_utf8 name)) e
   where
     by_tests : (refused odd : Bool)
         → (if refused then task.RefuseName else if odd then task.RefuseText else task_at depth k) ≡ task.MakeFolder

@@ -2,7 +2,7 @@
 use Rattle.std.specs.Prelude.{◌+◌, ◌&&◌, ℕ, Bool, not, List, nat_lt, if◌then◌else◌}
 use Rattle.std.specs.Str.{is_utf8}
 use Rattle.sftp_model.specs.declared.file_attrs.FileAttrs.{FileAttrs}
-use Rattle.transfer_plan.specs.Names.{is_component, path_in}
+use Rattle.transfer_plan.specs.Names.{is_entry_name, path_in}
 use Rattle.transfer_plan.specs.declared.found.Found.{Found}
 use Rattle.transfer_plan.specs.declared.task.EntryKind.{EntryKind}
 use Rattle.transfer_plan.specs.declared.task.EntryKind.TheVariants as kind
@@ -20,17 +20,18 @@ task_at depth kind.Folder = if nat_lt depth MAX_DEPTH then task.MakeFolder else 
 task_at depth kind.Link = task.CopyLink
 task_at depth kind.Other = task.PassOver
 
--- A name that is no component is refused. A name that isn't UTF-8 is refused if names must be UTF-8.
+-- A name is refused if it is no component or has more than 255 bytes. A name that isn't UTF-8 is refused if names must
+-- be UTF-8.
 abbrev pub task_of : Bool → ℕ → List ℕ → EntryKind → Task
 task_of texts depth name kind =
-    if not (is_component name) then task.RefuseName
+    if not (is_entry_name name) then task.RefuseName
     else if texts && not (is_utf8 name) then task.RefuseText
     else task_at depth kind
 
--- The path that an entry is copied to: a path in the target directory if its name is a component, otherwise the target
--- directory itself.
+-- The path that an entry is copied to: a path in the target directory, or the target directory itself if the name is
+-- refused.
 abbrev pub target_in : List ℕ → List ℕ → List ℕ
-target_in folder name = if is_component name then path_in folder name else folder
+target_in folder name = if is_entry_name name then path_in folder name else folder
 
 -- An entry of a directory, as the walk records it.
 abbrev pub entry_found : Bool → Found → List ℕ → EntryKind → FileAttrs → Found

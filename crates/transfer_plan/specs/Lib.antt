@@ -7,3 +7,5 @@ pub mod WalkRows
 pub mod Jobs
 pub mod Apart
 pub mod ApartRows
+pub mod Links
+pub mod LinkRows

@@ -1,5 +1,5 @@
 -- Worked entries.
-use Rattle.std.specs.Prelude.{◌≡◌, false, [], ◌∷◌, codes, refl}
+use Rattle.std.specs.Prelude.{◌≡◌, false, [], ◌∷◌, ◌++◌, codes, replicate, refl}
 use Rattle.sftp_model.specs.Frames.{no_attributes}
 use Rattle.transfer_plan.specs.Names.{is_component}
 use Rattle.transfer_plan.specs.Entries.{entry_found, root_found, task_of}
@@ -19,6 +19,23 @@ pub up_found : entry_found false (root_found (codes "a") (codes "b") no_attribut
     ≡ record { task = task.RefuseName; depth = 1; source = codes "a/../x"; target = codes "b"; attrs = no_attributes }
 unfolding is_component
 up_found = refl
+
+-- No file system takes a name of 256 bytes.
+pub greatest_name : task_of false 0 (replicate 255 120) kind.File ≡ task.CopyFile
+unfolding is_component
+greatest_name = refl
+
+pub long_name : entry_found false (root_found (codes "a") (codes "b") no_attributes) (replicate 256 120) kind.Folder
+    no_attributes
+    ≡ record {
+      task = task.RefuseName;
+      depth = 1;
+      source = codes "a/" ++ replicate 256 120;
+      target = codes "b";
+      attrs = no_attributes;
+    }
+unfolding is_component
+long_name = refl
 
 -- A device is skipped.
 pub device_found : task_of false 0 (codes "null") kind.Other ≡ task.PassOver

@@ -10,70 +10,84 @@ use crate::{Found, Task, part_path};
 use ssh_encoding::OutOfMemory;
 use std::alloc::Global;
 
-/// Adds the path of a file's part file. Fails only if an allocation fails.
-fn add_part(alloc: Global, parts: &mut PathSet, found: &Found) -> Result<(), OutOfMemory>
+/// Adds the path of a file's part. Fails only if an allocation fails.
+fn add_part(
+    alloc: Global,
+    run: &[u8],
+    parts: &mut PathSet,
+    found: &Found,
+) -> Result<(), OutOfMemory>
     ensures { OnOk result ((p : List ℕ) → has_path parts.new p
-        ≡ (has_path parts.old p || (is_file found.now.task && bytes_eq p (part_of found.now.target)))) }
+        ≡ (has_path parts.old p || (is_file found.now.task && bytes_eq p (part_of found.now.target run.now)))) }
 {
     if found.task == Task::CopyFile {
-        let part = part_path(alloc, found.target.as_slice())?;
+        let part = part_path(alloc, found.target.as_slice(), run)?;
         parts.insert(part)?;
     }
     Ok(())
 }
 
-/// Returns the paths of the part files, in which files are written until all their bytes are there. Fails only if an
-/// allocation fails.
-fn parts_of(alloc: Global, jobs: &[Found]) -> Result<PathSet, OutOfMemory>
-    ensures { IfOk result (λ parts. (p : List ℕ) → has_path parts p ≡ is_part jobs.now p) }
+/// Returns the paths of the parts of all files. Fails only if an allocation fails.
+fn parts_of(alloc: Global, jobs: &[Found], run: &[u8]) -> Result<PathSet, OutOfMemory>
+    ensures { IfOk result (λ parts. (p : List ℕ) → has_path parts p ≡ is_part jobs.now run.now p) }
 {
     let mut parts = PathSet::new(alloc);
     for found in jobs {
-        add_part(alloc, &mut parts, found)?;
+        add_part(alloc, run, &mut parts, found)?;
     }
     Ok(parts)
 }
 
-/// Returns the task for a job, where `parts` are the paths of part files and `taken` are the targets of the files
-/// before it. A file adds its own target to `taken`. Fails only if an allocation fails.
+/// Returns the task for a job, where `parts` are the paths of all parts, `taken` are the targets of the files before it
+/// and `started` are the paths of their parts. A file adds its own to the last two. Fails only if an allocation fails.
 fn task_among(
     alloc: Global,
+    run: &[u8],
     parts: &PathSet,
     taken: &mut PathSet,
+    started: &mut PathSet,
     found: &Found,
 ) -> Result<Task, OutOfMemory>
-    ensures task { IfOk result (λ task. task ≡ task_among parts.now taken.old found.now) }
+    ensures task { IfOk result (λ task. task ≡ task_among parts.now taken.old started.old run.now found.now) }
     ensures takes { OnOk result ((p : List ℕ) → has_path taken.new p
         ≡ (has_path taken.old p || (is_file found.now.task && bytes_eq p found.now.target))) }
+    ensures starts { OnOk result ((p : List ℕ) → has_path started.new p
+        ≡ (has_path started.old p || (is_file found.now.task && bytes_eq p (part_of found.now.target run.now)))) }
 {
     if found.task != Task::CopyFile {
         return Ok(found.task);
     }
     let target = found.target.as_slice();
     let is_new = taken.insert(Vec::from_slice(alloc, target)?)?;
+    let has_own = started.insert(part_path(alloc, target, run)?)?;
     if parts.has(target) {
         return Ok(Task::RefusePart);
     }
-    if is_new {
+    if !is_new {
+        return Ok(Task::RefuseTwice);
+    }
+    if has_own {
         return Ok(Task::CopyFile);
     }
-    Ok(Task::RefuseTwice)
+    Ok(Task::RefusePart)
 }
 
-/// Returns the jobs with the conflicting files refused, where `parts` are the paths of all part files. Fails only if an
-/// allocation fails.
+/// Returns the jobs with the conflicting files refused, where `parts` are the paths of the parts of all files. Fails
+/// only if an allocation fails.
 fn refuse_others(
     alloc: Global,
     jobs: Vec<Found>,
+    run: &[u8],
     parts: &PathSet,
 ) -> Result<Vec<Found>, OutOfMemory>
-    requires { (p : List ℕ) → has_path parts.now p ≡ is_part jobs.items p }
-    ensures { IfOk result (λ kept. kept.items ≡ kept_apart jobs.items) }
+    requires { (p : List ℕ) → has_path parts.now p ≡ is_part jobs.items run.now p }
+    ensures { IfOk result (λ kept. kept.items ≡ kept_apart jobs.items run.now) }
 {
     let mut taken = PathSet::new(alloc);
+    let mut started = PathSet::new(alloc);
     let mut kept = Vec::with_capacity(alloc, jobs.len())?;
     for found in jobs {
-        let task = task_among(alloc, parts, &mut taken, &found)?;
+        let task = task_among(alloc, run, parts, &mut taken, &mut started, &found)?;
         let mut job = found;
         job.task = task;
         kept.push(job)?;
@@ -81,17 +95,21 @@ fn refuse_others(
     Ok(kept)
 }
 
-/// Returns the jobs, in which each file is copied to a path of its own. A file is refused if a file before it has the
-/// same path. It is also refused if its path is the part file of another, for example if a directory contains a part
-/// file that was left there. All other jobs are unchanged.
+/// Returns the jobs of a run, in which each file is copied to a path of its own and has a part of its own. All other
+/// jobs are unchanged. A file is refused:
+///
+/// - if a file before it has the same path;
+/// - if its path is that of a part, for example because a directory contains a part that was left there;
+/// - if its part would have the path of the part of a file before it. Two names with more than 232 bytes whose last 232
+///   are equal have such parts.
 ///
 /// # Errors
 ///
 /// `OutOfMemory` if an allocation fails.
-pub fn keep_apart(alloc: Global, jobs: Vec<Found>) -> Result<Vec<Found>, OutOfMemory>
-    ensures is { IfOk result (λ kept. kept.items ≡ kept_apart jobs.items) }
-    ensures apart { IfOk result (λ kept. FilesAreApart kept.items) }
+pub fn keep_apart(alloc: Global, jobs: Vec<Found>, run: &[u8]) -> Result<Vec<Found>, OutOfMemory>
+    ensures is { IfOk result (λ kept. kept.items ≡ kept_apart jobs.items run.now) }
+    ensures apart { IfOk result (λ kept. FilesAreApart kept.items run.now) }
 {
-    let parts = parts_of(alloc, jobs.as_slice())?;
-    refuse_others(alloc, jobs, &parts)
+    let parts = parts_of(alloc, jobs.as_slice(), run)?;
+    refuse_others(alloc, jobs, run, &parts)
 }

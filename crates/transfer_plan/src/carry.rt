@@ -114,14 +114,14 @@ fn work_all<H: Hand>(
 }
 
 /// Copies all files that lie in no directory that was not created, unless the transfer has stopped.
-fn copy_files<H: Hand>(hand: &mut H, tally: &Tally, jobs: &[Found])
+fn copy_files<H: Hand>(hand: &mut H, tally: &Tally, jobs: &[Found], run: &[u8])
     requires may { H.may hand.old }
-    requires apart { FilesAreApart jobs.now }
+    requires apart { FilesAreApart jobs.now run.now }
     ensures may { H.may hand.new }
     ensures copies { HasCopied H.done jobs.now tally.now (H.history hand.old) (H.history hand.new) }
 {
     if !tally.stopped() {
-        hand.copy(jobs, tally);
+        hand.copy(jobs, run, tally);
     }
 }
 
@@ -171,7 +171,8 @@ fn keep_where<H: Hand>(
 /// 4. With `keeps`, directories are given their permissions and times, the last one first.
 ///
 /// Entries in a directory that was not created are skipped. After a job that ends in `Stop` nothing else is done. The
-/// jobs must be those of `keep_apart`, because files that were copied at once to one path would be mixed there.
+/// jobs must be those of `keep_apart` for this run, because files that were copied at once to one path would be mixed
+/// there.
 ///
 /// # Errors
 ///
@@ -180,17 +181,18 @@ pub fn carry_out<H: Hand>(
     alloc: Global,
     hand: &mut H,
     jobs: &[Found],
+    run: &[u8],
     keeps: bool,
 ) -> Result<Tally, OutOfMemory>
     requires may { H.may hand.old }
-    requires apart { FilesAreApart jobs.now }
+    requires apart { FilesAreApart jobs.now run.now }
     ensures may { H.may hand.new }
     ensures carries_out { IfOk result (CarriesOut H.done keeps jobs.now (H.history hand.old) (H.history hand.new)) }
     ensures all_done { IfOk result (λ tally. tally.all_done ≡ true → AreAllDone H.done jobs.now (H.history hand.old) (H.history hand.new)) }
 {
     let mut tally = Tally::new(alloc);
     work_all(alloc, hand, &mut tally, jobs, TaskKind::Folders)?;
-    copy_files(hand, &tally, jobs);
+    copy_files(hand, &tally, jobs, run);
     work_all(alloc, hand, &mut tally, jobs, TaskKind::Files)?;
     work_all(alloc, hand, &mut tally, jobs, TaskKind::Links)?;
     keep_where(alloc, hand, &mut tally, jobs, keeps)?;

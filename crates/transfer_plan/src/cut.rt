@@ -1,14 +1,11 @@
-//! The parts of a path: its directory, its last component and the path of its part file.
-ghost use Rattle.std.specs.Prelude.{◌≡◌, true, IfOk};
+//! The parts of a path: its directory and its last component.
 ghost use Rattle.std.specs.Option.{option_copied};
-ghost use Rattle.transfer_plan.specs.Cuts.{EndsFolder, EndsText, IsLastPart, NamesLast, part_of};
+ghost use Rattle.transfer_plan.specs.Cuts.{EndsFolder, EndsText, IsLastPart, NamesLast};
 
 use crate::component::is_component;
-use ssh_encoding::OutOfMemory;
-use std::alloc::Global;
 
 /// Returns the length of a path up to and including its last slash, or 0 if it has none.
-fn folder_len(path: &[u8]) -> usize
+pub(crate) fn folder_len(path: &[u8]) -> usize
     ensures { EndsFolder path.now result }
 {
     let mut len = path.len();
@@ -50,20 +47,4 @@ pub fn last_component(path: &[u8]) -> Option<&[u8]>
 {
     let last = last_part(path);
     if is_component(last) { Some(last) } else { None }
-}
-
-/// Returns the path of the file `.NAME.part` beside the file NAME.
-///
-/// # Errors
-///
-/// `OutOfMemory` if an allocation fails.
-pub fn part_path(alloc: Global, path: &[u8]) -> Result<Vec<u8>, OutOfMemory>
-    ensures { IfOk result (λ part. part.items ≡ part_of path.now) }
-{
-    let (folder, name) = path.split_at(folder_len(path));
-    let mut part = Vec::from_slice(alloc, folder)?;
-    part.push(b'.')?;
-    part.extend_from_slice(name)?;
-    part.extend_from_slice(b".part")?;
-    Ok(part)
 }

@@ -1,10 +1,10 @@
 //! An entry that a walk found.
 ghost use Rattle.std.specs.Prelude.{◌≡◌, ◌<◌, ◌^◌, ◌-◌, true, IfOk};
-ghost use Rattle.transfer_plan.specs.Names.{is_component};
 ghost use Rattle.transfer_plan.specs.Entries.{entry_found, root_found, target_in};
 
+use crate::component::is_entry_name;
+use crate::path_in;
 use crate::task::{EntryKind, Task, task_of};
-use crate::{is_component, path_in};
 use sftp_model::FileAttrs;
 use sftp_values::ByteText;
 use ssh_encoding::OutOfMemory;
@@ -78,7 +78,7 @@ impl Found {
 fn target_in(alloc: Global, folder: &[u8], name: &[u8]) -> Result<Vec<u8>, OutOfMemory>
     ensures { IfOk result (λ target. target.items ≡ target_in folder.now name.now) }
 {
-    if is_component(name) {
+    if is_entry_name(name) {
         return path_in(alloc, folder, name);
     }
     Ok(Vec::from_slice(alloc, folder)?)

@@ -35,10 +35,11 @@ pub trait Hand {
     // The condition that each job requires and ensures.
     ghost may: { Self → Type 0 };
 
-    /// Copies all files among the jobs that lie in no directory that was not created, many at once, in any order.
-    fn copy(&mut self, jobs: &[Found], tally: &Tally)
+    /// Copies all files among the jobs that lie in no directory that was not created, many at once, in any order. The
+    /// parts of the files are those of the run.
+    fn copy(&mut self, jobs: &[Found], run: &[u8], tally: &Tally)
         requires may { Self.may self.old }
-        requires apart { FilesAreApart jobs.now }
+        requires apart { FilesAreApart jobs.now run.now }
         ensures may { Self.may self.new }
         ensures did { Self.history self.new ≡ Self.done (Copied (files_in tally.now jobs.now)) (Self.history self.old) };
 

@@ -3,7 +3,7 @@ ghost use Rattle.std.specs.Prelude.{◌≡◌};
 ghost use Rattle.std.specs.Str.{is_utf8};
 ghost use Rattle.transfer_plan.specs.Entries.{task_at, task_of};
 
-use crate::is_component;
+use crate::component::is_entry_name;
 use std::str;
 
 /// The greatest depth of nested directories below the root.
@@ -37,7 +37,8 @@ pub enum Task {
     CopyLink,
     /// Skips the entry, since it is no file, no directory and no symbolic link.
     PassOver,
-    /// Refuses the entry: its name is no component, and could lead out of the target.
+    /// Refuses the entry: its name is no component, and could lead out of the target, or it has more than 255 bytes,
+    /// which no file system takes.
     RefuseName,
     /// Refuses the entry: its name isn't UTF-8, so no entry with that name can be created.
     RefuseText,
@@ -45,7 +46,8 @@ pub enum Task {
     RefuseDepth,
     /// Refuses a file: another file before it is copied to the same path.
     RefuseTwice,
-    /// Refuses a file: its path is the part file of another file, which is written there until all its bytes are in it.
+    /// Refuses a file: its path is that of a part, in which a file is written until all its bytes are there, or its own
+    /// part would have the path of another one's part.
     RefusePart,
 }
 
@@ -81,7 +83,7 @@ fn task_at(depth: u32, kind: EntryKind) -> Task
 pub(crate) fn task_of(texts: bool, depth: u32, name: &[u8], kind: EntryKind) -> Task
     ensures { result ≡ task_of texts depth name.now kind }
 {
-    if !is_component(name) {
+    if !is_entry_name(name) {
         return Task::RefuseName;
     }
     if texts && !is_text(name) {

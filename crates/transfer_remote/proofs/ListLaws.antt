@@ -1,5 +1,5 @@
 -- What listings add to a walk, one after another.
-use Rattle.std.proofs.Common.{◌≡◌, ℕ, zero, suc, Bool, true, false, List, [], ◌∷◌, ◌++◌, Option, Some, None, if◌then◌else◌, refl, sym, ap, ◌∙◌, subst, inl, inr}
+use Rattle.std.proofs.Common.{◌≡◌, ◌≤◌, ◌+◌, ℕ, zero, suc, Bool, true, false, List, [], ◌∷◌, ◌++◌, Option, Some, None, if◌then◌else◌, refl, sym, ap, ◌∙◌, subst, inl, inr, arith}
 use Rattle.std.specs.Prelude.{Result, Ok, Err}
 use Rattle.std.specs.List.{flat_map, slice_get}
 use Rattle.std.specs.Option.{option_and_then}
@@ -24,9 +24,13 @@ use Rattle.transfer_remote.proofs.RunLaws.{live_going}
 use Rattle.sftp_model.specs.declared.reply.NameEntry.{NameEntry}
 use Rattle.sftp_meta.specs.FileType.{type_of_mode}
 use Rattle.transfer_plan.specs.Entries.{entry_found}
-use Rattle.transfer_plan.specs.Walks.{WalkValue, with_entry}
+use Rattle.transfer_plan.specs.Walks.{MAX_ENTRIES, WalkValue, with_entry}
 use Rattle.transfer_plan.specs.declared.found.Found.{Found}
 use Rattle.transfer_remote.specs.Listed.{
+  CountsSelf,
+  Gathered,
+  Gathers,
+  GrowsBy,
   GrowsByGiven,
   HasGrown,
   HasListedInto,
@@ -43,6 +47,7 @@ use Rattle.transfer_remote.specs.Listed.{
   is_self,
   kind_of,
   listed_as,
+  selves_in,
 }
 
 pub none_listed : (w : WalkValue) → HasListedInto [] w w
@@ -111,12 +116,76 @@ listed_then xs ys a b c first later = record {
       ∙ ap (λ (l : List Found). a.found ++ l) (sym (flat_map-append (listed_as a.texts folder) xs ys));
 }
 
-pub grown_none : (w : WalkValue) → HasGrown w w
-grown_none w = ([], none_listed w)
+-- ---- entries that are counted
 
-pub grown_then : (a b c : WalkValue) → HasGrown a b → HasGrown b c → HasGrown a c
-grown_then a b c first later =
-    (first.0 ++ later.0, listed_then (first.0) (later.0) a b c (first.1) (later.1))
+selves_then : (xs ys : List NameEntry) → selves_in (xs ++ ys) ≡ selves_in xs + selves_in ys
+selves_then [] ys = omega arith
+selves_then (e ∷ xs) ys = by_test (is_self e.filename) (selves_then xs ys)
+  where
+    by_test : (t : Bool) → selves_in (xs ++ ys) ≡ selves_in xs + selves_in ys
+        → (if t then selves_in (xs ++ ys) + 1 else selves_in (xs ++ ys))
+        ≡ (if t then selves_in xs + 1 else selves_in xs) + selves_in ys
+    by_test true more = omega (arith, more)
+    by_test false more = more
+
+pub none_gathered : (g : Gathered) → Gathers [] g g
+none_gathered g = record { listed = none_listed g.walk; counted = omega arith; few = λ less. less }
+
+pub self_gathered : (e : NameEntry) (w : WalkValue) (n m : ℕ) → is_self e.filename ≡ true
+    → (m ≡ n + 1) × (m ≤ MAX_ENTRIES)
+    → Gathers (e ∷ []) (record { walk = w; selves = n }) (record { walk = w; selves = m })
+self_gathered e w n m is h = record {
+  listed = self_listed e w is;
+  counted = by_test (is_self e.filename) is;
+  few = λ less. h.1;
+}
+  where
+    by_test : (t : Bool) → t ≡ true → m ≡ n + (if t then 0 + 1 else 0)
+    by_test true is = h.0
+    by_test false is = absurd cc
+
+pub self_counted : {E : Type 0} (e : NameEntry) (w : WalkValue) (n m : ℕ) (result : Result (Unit {0}) E)
+    → is_self e.filename ≡ true → CountsSelf n m result
+    → GrowsBy (e ∷ []) (record { walk = w; selves = n }) (record { walk = w; selves = m }) result
+self_counted e w n m (Ok u) is h = self_gathered e w n m is h
+self_counted e w n m (Err x) is h = refl
+
+pub entry_gathered : (e : NameEntry) (w v : WalkValue) (n : ℕ) → is_self e.filename ≡ false
+    → HasListedInto (e ∷ []) w v
+    → Gathers (e ∷ []) (record { walk = w; selves = n }) (record { walk = v; selves = n })
+entry_gathered e w v n other listed = record {
+  listed = listed;
+  counted = by_test (is_self e.filename) other;
+  few = λ less. less;
+}
+  where
+    by_test : (t : Bool) → t ≡ false → n ≡ n + (if t then 0 + 1 else 0)
+    by_test true is = absurd cc
+    by_test false is = omega arith
+
+pub gathered_then : (xs ys : List NameEntry) (a b c : Gathered) → Gathers xs a b → Gathers ys b c
+    → Gathers (xs ++ ys) a c
+gathered_then xs ys a b c first later = record {
+  listed = listed_then xs ys a.walk b.walk c.walk first.listed later.listed;
+  counted =
+      let one = first.counted in
+      let two = later.counted in
+      let all = selves_then xs ys in
+      omega (arith, one, two, all);
+  few = λ less. later.few (first.few less);
+}
+
+pub grown_none : (w : WalkValue) → HasGrown w w
+grown_none w = ([], none_listed w, omega arith)
+
+-- from the start of a listing on
+grown_by : (entries : List NameEntry) (w : WalkValue) (u : Gathered)
+    → Gathers entries (record { walk = w; selves = 0 }) u
+    → HasListedInto entries w u.walk × (selves_in entries ≤ MAX_ENTRIES)
+grown_by entries w u h =
+    let few : u.selves ≤ MAX_ENTRIES = h.few (omega arith) in
+    let counted : u.selves ≡ 0 + selves_in entries = h.counted in
+    (h.listed, omega (arith, few, counted))
 
 -- ---- a step
 
@@ -139,7 +208,7 @@ turned_on state old core new p q given result lists turned =
     record { going = turned.going; listing = listing_still core new.core q turned.keeps lists.listing }
 
 pub told_given : {L S E : Type 0} (state : L → LinkView S) (old : SftpValue L) (core : Core) (p q : ListingValue)
-    (given : Option (Result NameEntry Error)) (w v : WalkValue) (result : Result Bool E)
+    (given : Option (Result NameEntry Error)) (w v : Gathered) (result : Result Bool E)
     → PollsEntries old.core core p q (Ready given) → GrowsByGiven given w v result
     → StepTold state (record { session = old; listing = p }) (record { session = with_core old core; listing = q }) w v
     result
@@ -150,14 +219,12 @@ told_given state old core p q (Some (Ok entry)) w v (Ok false) lists h =
     (entry ∷ [], inl (entry, record { lists = lists; rest = refl }, refl), h.1)
 told_given state old core p q (Some (Err x)) w v (Ok true) lists h = absurd h
 told_given state old core p q (Some (Err x)) w v (Ok false) lists h = absurd h
-told_given state old core p q None w v (Err e) lists h = subst (λ (x : WalkValue). HasGrown w x) (sym h) (grown_none w)
-told_given state old core p q (Some (Ok entry)) w v (Err e) lists h =
-    subst (λ (x : WalkValue). HasGrown w x) (sym h) (grown_none w)
-told_given state old core p q (Some (Err x)) w v (Err e) lists h =
-    subst (λ (x : WalkValue). HasGrown w x) (sym h) (grown_none w)
+told_given state old core p q None w v (Err e) lists h = h
+told_given state old core p q (Some (Ok entry)) w v (Err e) lists h = h
+told_given state old core p q (Some (Err x)) w v (Err e) lists h = h
 
 pub told_turns : {L S D : Type 0} (E : Type 0) (state : L → LinkView S) (old : SftpValue L) (core : Core)
-    (new : SftpValue L) (p q : ListingValue) (w : WalkValue)
+    (new : SftpValue L) (p q : ListingValue) (w : Gathered)
     → PollsEntries old.core core p q Pending → TookTurn {E = D} state (with_core old core) new (Ok tt)
     → (let result : Result Bool E = Ok false in
     StepTold state (record { session = old; listing = p }) (record { session = new; listing = q }) w w result)
@@ -170,21 +237,21 @@ told_turns E state old core new p q w lists turned = (
     refl,
     refl,
   ),
-  none_listed w,
+  none_gathered w,
 )
 
 -- ---- one step after another
 
--- so far these entries were given, and added
-pub record IsListingOn {L S : Type 0} (state : L → LinkView S) (first now : ListingAt L) (before after : WalkValue) :
+-- so far these entries were given, and added or counted
+pub record IsListingOn {L S : Type 0} (state : L → LinkView S) (first now : ListingAt L) (before after : Gathered) :
     Type 0 where
   pub goes : MayGoOn state now
   pub steps : ℕ
   pub entries : List NameEntry
   pub taken : TakesSteps state steps first entries now
-  pub grown : HasListedInto entries before after
+  pub grown : Gathers entries before after
 
-pub begins_on : {L S : Type 0} (state : L → LinkView S) (first : ListingAt L) (w : WalkValue)
+pub begins_on : {L S : Type 0} (state : L → LinkView S) (first : ListingAt L) (w : Gathered)
     → IsGoing state first.session
     → IsListing first.session.core first.listing → IsListingOn state first first w w
 begins_on state first w going listing = record {
@@ -192,56 +259,63 @@ begins_on state first w going listing = record {
   steps = 0;
   entries = [];
   taken = (refl, refl);
-  grown = none_listed w;
+  grown = none_gathered w;
 }
 
-pub goes_on : {L S : Type 0} (state : L → LinkView S) (first mid new : ListingAt L) (w u v : WalkValue)
+pub goes_on : {L S : Type 0} (state : L → LinkView S) (first mid new : ListingAt L) (w u v : Gathered)
     → IsListingOn state first mid w u → MayGoOn state new
-    → ((entries : List NameEntry) × TakesStep state mid new entries × HasListedInto entries u v)
+    → ((entries : List NameEntry) × TakesStep state mid new entries × Gathers entries u v)
     → IsListingOn state first new w v
 goes_on state first mid new w u v h goes told = record {
   goes = goes;
   steps = suc h.steps;
   entries = h.entries ++ told.0;
   taken = (mid, h.entries, told.0, h.taken, told.1, refl);
-  grown = listed_then h.entries (told.0) w u v h.grown (told.2);
+  grown = gathered_then h.entries (told.0) w u v h.grown (told.2);
 }
 
-pub ends_on : {L S : Type 0} (state : L → LinkView S) (first mid new : ListingAt L) (w u v : WalkValue)
-    → IsListingOn state first mid w u → PollsListing mid new (Ready None) × (v ≡ u)
-    → ListsToEnd state first new w v
-ends_on state first mid new w u v h told = record {
-  steps = h.steps;
-  entries = h.entries;
-  last = mid;
-  taken = h.taken;
-  end = told.0;
-  grown = subst (λ (x : WalkValue). HasListedInto h.entries w x) (sym told.1) h.grown;
-}
+pub ends_on : {L S : Type 0} (state : L → LinkView S) (first mid new : ListingAt L) (w : WalkValue) (u v : Gathered)
+    → IsListingOn state first mid (record { walk = w; selves = 0 }) u → PollsListing mid new (Ready None) × (v ≡ u)
+    → ListsToEnd state first new w v.walk
+ends_on state first mid new w u v h told =
+    let all = grown_by h.entries w u h.grown in record {
+      steps = h.steps;
+      entries = h.entries;
+      last = mid;
+      taken = h.taken;
+      end = told.0;
+      grown = subst (λ (x : Gathered). HasListedInto h.entries w x.walk) (sym told.1) (all.0);
+      few = all.1;
+    }
 
-pub fails_on : {L S : Type 0} (state : L → LinkView S) (first mid : ListingAt L) (w u v : WalkValue)
-    → IsListingOn state first mid w u → HasGrown u v → HasGrown w v
-fails_on state first mid w u v h later = grown_then w u v (h.entries, h.grown) later
+pub fails_on : {L S : Type 0} (state : L → LinkView S) (first mid : ListingAt L) (w : WalkValue) (u v : Gathered)
+    → IsListingOn state first mid (record { walk = w; selves = 0 }) u → v.walk ≡ u.walk → HasGrown w v.walk
+fails_on state first mid w u v h same =
+    let all = grown_by h.entries w u h.grown in
+    (h.entries, subst (λ (x : WalkValue). HasListedInto h.entries w x) (sym same) (all.0), all.1)
 
-pub grown_on : {L S : Type 0} (state : L → LinkView S) (first mid : ListingAt L) (w u : WalkValue)
-    → IsListingOn state first mid w u → HasGrown w u
-grown_on state first mid w u h = (h.entries, h.grown)
+pub grown_on : {L S : Type 0} (state : L → LinkView S) (first mid : ListingAt L) (w v : WalkValue) (n : ℕ)
+    → IsListingOn state first mid (record { walk = w; selves = 0 }) (record { walk = v; selves = n }) → HasGrown w v
+grown_on state first mid w v n h =
+    let u : Gathered = record { walk = v; selves = n } in
+    let all = grown_by h.entries w u h.grown in
+    (h.entries, all.0, all.1)
 
 -- whatever was told, the walk has grown by entries
 pub grown_told : {L S E : Type 0} (state : L → LinkView S) (old new : ListingAt L) (w v : WalkValue)
     (result : Result (Unit {0}) E) → ListingTold state old new w v result → HasGrown w v
-grown_told state old new w v (Ok u) told = (told.entries, told.grown)
+grown_told state old new w v (Ok u) told = (told.entries, told.grown, told.few)
 grown_told state old new w v (Err e) told = told
 
-pub is_end : {L S E : Type 0} (state : L → LinkView S) (mid new : ListingAt L) (u v : WalkValue)
+pub is_end : {L S E : Type 0} (state : L → LinkView S) (mid new : ListingAt L) (u v : Gathered)
     (result : Result Bool E)
     → result ≡ Ok true → StepTold state mid new u v result → PollsListing mid new (Ready None) × (v ≡ u)
 is_end state mid new u v result is told = subst (λ (r : Result Bool _). StepTold state mid new u v r) is told
 
-pub is_step : {L S E : Type 0} (state : L → LinkView S) (mid new : ListingAt L) (u v : WalkValue)
+pub is_step : {L S E : Type 0} (state : L → LinkView S) (mid new : ListingAt L) (u v : Gathered)
     (result : Result Bool E)
     → result ≡ Ok false → StepTold state mid new u v result
-    → ((entries : List NameEntry) × TakesStep state mid new entries × HasListedInto entries u v)
+    → ((entries : List NameEntry) × TakesStep state mid new entries × Gathers entries u v)
 is_step state mid new u v result is told = subst (λ (r : Result Bool _). StepTold state mid new u v r) is told
 
 -- ---- a folder
@@ -261,7 +335,8 @@ closed_told state dir old listed core call new w v (Ok u) lists closes awaited =
   closes = closes;
   answers = awaited.answers;
 }
-closed_told state dir old listed core call new w v (Err e) lists closes awaited = (lists.entries, lists.grown)
+closed_told state dir old listed core call new w v (Err e) lists closes awaited =
+    (lists.entries, lists.grown, lists.few)
 
 pub folder_told : {L S E : Type 0} (state : L → LinkView S) (old opened new : SftpValue L) (folder : Found)
     (dir : GrantValue) (w v : WalkValue) (result : Result (Unit {0}) E) → slice_get w.found w.at ≡ Some folder

@@ -1,6 +1,8 @@
 -- The entries that a listing of the server adds to a walk.
 use Rattle.std.specs.Prelude.{
   ◌≡◌,
+  ◌≤◌,
+  ◌+◌,
   ◌⊎◌,
   ◌||◌,
   ℕ,
@@ -43,7 +45,7 @@ use Rattle.sftp_meta.specs.declared.file_type.RawFileType.TheVariants as raw
 use Rattle.transfer_pool.specs.Sessions.{IsGoing, FlushesAndTakes}
 use Rattle.transfer_remote.specs.Runs.{AnsweredWith, RunsCall}
 use Rattle.transfer_plan.specs.Entries.{entry_found}
-use Rattle.transfer_plan.specs.Walks.{WalkValue}
+use Rattle.transfer_plan.specs.Walks.{MAX_ENTRIES, WalkValue}
 use Rattle.transfer_plan.specs.declared.found.Found.{Found}
 use Rattle.transfer_plan.specs.declared.task.EntryKind.{EntryKind}
 use Rattle.transfer_plan.specs.declared.task.EntryKind.TheVariants as kind
@@ -73,21 +75,42 @@ pub record HasListedInto (entries : List NameEntry) (old new : WalkValue) : Type
   pub grown : (folder : Found) → slice_get old.found old.at ≡ Some folder
       → new.found ≡ old.found ++ flat_map (listed_as old.texts folder) entries
 
--- The walk grew by some entries.
+-- The number of these entries that are the directory itself or its parent.
+abbrev pub selves_in : List NameEntry → ℕ
+selves_in [] = 0
+selves_in (entry ∷ later) = if is_self entry.filename then selves_in later + 1 else selves_in later
+
+-- The walk grew by some entries. At most 1000000 others were the directory itself or its parent.
 abbrev pub HasGrown : WalkValue → WalkValue → Type 0
-HasGrown old new = (entries : List NameEntry) × HasListedInto entries old new
+HasGrown old new = (entries : List NameEntry) × HasListedInto entries old new × (selves_in entries ≤ MAX_ENTRIES)
 
--- The entries were added; or an error came, and nothing changed.
-abbrev pub GrowsBy : {E : Type 0} → List NameEntry → WalkValue → WalkValue → Result (Unit {0}) E → Type 0
-GrowsBy entries old new (Ok u) = HasListedInto entries old new
-GrowsBy entries old new (Err e) = new ≡ old
+-- A walk, and the number of the listing's entries so far that were the directory itself or its parent.
+pub record Gathered : Type 0 where
+  pub walk : WalkValue
+  pub selves : ℕ
 
--- The result of a poll of a listing: the end, an entry, which was added, or an error. After an error nothing changed.
-abbrev pub GrowsByGiven : {E : Type 0} → Option (Result NameEntry Error) → WalkValue → WalkValue → Result Bool E
-    → Type 0
-GrowsByGiven given old new (Err e) = new ≡ old
+-- Each of these entries was added or counted.
+pub record Gathers (entries : List NameEntry) (old new : Gathered) : Type 0 where
+  pub listed : HasListedInto entries old.walk new.walk
+  pub counted : new.selves ≡ old.selves + selves_in entries
+  pub few : old.selves ≤ MAX_ENTRIES → new.selves ≤ MAX_ENTRIES
+
+-- One more entry was counted, or there were 1000000.
+abbrev pub CountsSelf : {E : Type 0} → ℕ → ℕ → Result (Unit {0}) E → Type 0
+CountsSelf old new (Ok u) = (new ≡ old + 1) × (new ≤ MAX_ENTRIES)
+CountsSelf old new (Err e) = (MAX_ENTRIES ≤ old) × (new ≡ old)
+
+-- The entries were added or counted; or an error came, and the walk is unchanged.
+abbrev pub GrowsBy : {E : Type 0} → List NameEntry → Gathered → Gathered → Result (Unit {0}) E → Type 0
+GrowsBy entries old new (Ok u) = Gathers entries old new
+GrowsBy entries old new (Err e) = new.walk ≡ old.walk
+
+-- The result of a poll of a listing: the end, an entry, which was added or counted, or an error. After an error the
+-- walk is unchanged.
+abbrev pub GrowsByGiven : {E : Type 0} → Option (Result NameEntry Error) → Gathered → Gathered → Result Bool E → Type 0
+GrowsByGiven given old new (Err e) = new.walk ≡ old.walk
 GrowsByGiven None old new (Ok end) = (end ≡ true) × (new ≡ old)
-GrowsByGiven (Some (Ok entry)) old new (Ok end) = (end ≡ false) × HasListedInto (entry ∷ []) old new
+GrowsByGiven (Some (Ok entry)) old new (Ok end) = (end ≡ false) × Gathers (entry ∷ []) old new
 GrowsByGiven (Some (Err e)) old new (Ok end) = ⊥
 
 -- ---- Polls of a listing
@@ -119,7 +142,8 @@ TakesSteps {L = L} state (suc n) old entries new = (mid : ListingAt L) × (first
     × TakesStep state mid new last
     × (entries ≡ first ++ last)
 
--- Each entry that was returned before the end of the listing was added to the walk.
+-- Each entry that was returned before the end of the listing was added to the walk, except the directory itself and its
+-- parent, which were at most 1000000.
 pub record ListsToEnd {L S : Type 0} (state : L → LinkView S) (old new : ListingAt L) (before after : WalkValue) :
     Type 0 where
   pub steps : ℕ
@@ -128,14 +152,15 @@ pub record ListsToEnd {L S : Type 0} (state : L → LinkView S) (old new : Listi
   pub taken : TakesSteps state steps old entries last
   pub end : PollsListing last new (Ready None)
   pub grown : HasListedInto entries before after
+  pub few : selves_in entries ≤ MAX_ENTRIES
 
 -- The result of one step: the end, or at most one entry.
-abbrev pub StepTold : {L S E : Type 0} → (L → LinkView S) → ListingAt L → ListingAt L → WalkValue → WalkValue
+abbrev pub StepTold : {L S E : Type 0} → (L → LinkView S) → ListingAt L → ListingAt L → Gathered → Gathered
     → Result Bool E → Type 0
 StepTold state old new before after (Ok true) = PollsListing old new (Ready None) × (after ≡ before)
 StepTold state old new before after (Ok false) = (entries : List NameEntry) × TakesStep state old new entries
-    × HasListedInto entries before after
-StepTold state old new before after (Err e) = HasGrown before after
+    × Gathers entries before after
+StepTold state old new before after (Err e) = after.walk ≡ before.walk
 
 abbrev pub ListingTold : {L S E : Type 0} → (L → LinkView S) → ListingAt L → ListingAt L → WalkValue → WalkValue
     → Result (Unit {0}) E → Type 0

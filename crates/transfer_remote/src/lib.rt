@@ -9,6 +9,7 @@ mod wait;
 
 pub use listing::list_remote;
 pub use paths::{
-    make_remote_folder, make_remote_link, read_remote_link, remote_metadata, set_remote_attrs,
+    make_remote_folder, make_remote_link, read_remote_link, remote_link_metadata, remote_metadata,
+    remove_remote, rename_remote, set_remote_attrs,
 };
 pub use remote_error::RemoteError;

@@ -4,7 +4,7 @@ ghost use Rattle.sftp_core.specs.Core.{IsGrant};
 ghost use Rattle.sftp_fs.specs.Directories.{OpensFrom, opening_dir};
 ghost use Rattle.sftp_fs.specs.Listings.{IsListing};
 ghost use Rattle.transfer_pool.specs.Sessions.{IsGoing};
-ghost use Rattle.transfer_remote.specs.Listed.{ListingTold, ClosedTold, FolderTold, GrowsBy, GrowsByGiven, MayGoOn, StepTold, is_self, kind_of};
+ghost use Rattle.transfer_remote.specs.Listed.{ListingTold, ClosedTold, CountsSelf, FolderTold, GrowsBy, GrowsByGiven, MayGoOn, StepTold, is_self, kind_of};
 ghost use Rattle.transfer_remote.specs.Runs.{RunsCall};
 
 use crate::asks::{finish, plain_paths, ready};
@@ -16,7 +16,7 @@ use sftp_link::Link;
 use sftp_meta::FileType;
 use sftp_model::Error;
 use std::alloc::Global;
-use transfer_plan::{EntryKind, Walk, WalkError};
+use transfer_plan::{EntryKind, MAX_ENTRIES, Walk, WalkError};
 use transfer_pool::turn;
 
 /// The name under which a directory lists itself.
@@ -50,13 +50,32 @@ fn kind_of(kind: Option<FileType>) -> EntryKind
     }
 }
 
-/// Adds an entry to a walk, unless it is the directory itself or its parent. After an error the walk is unchanged.
-fn add_entry(alloc: Global, walk: &mut Walk, entry: &DirEntry) -> Result<(), RemoteError>
-    ensures { GrowsBy (entry.now ∷ []) walk.old walk.new result }
+/// Counts an entry that is the directory itself or its parent. Fails if there were 1000000: so a listing without an end
+/// fails, whatever its entries are.
+fn count_self(selves: &mut usize) -> Result<(), RemoteError>
+    ensures { CountsSelf selves.old selves.new result }
+{
+    if *selves >= MAX_ENTRIES {
+        return Err(RemoteError::TooManyEntries);
+    }
+    *selves += 1;
+    Ok(())
+}
+
+/// Adds an entry to a walk, unless it is the directory itself or its parent, which is counted. After an error the walk
+/// is unchanged.
+fn add_entry(
+    alloc: Global,
+    walk: &mut Walk,
+    selves: &mut usize,
+    entry: &DirEntry,
+) -> Result<(), RemoteError>
+    ensures { GrowsBy (entry.now ∷ []) (record { walk = walk.old; selves = selves.old })
+        (record { walk = walk.new; selves = selves.new }) result }
 {
     let name = entry.filename().as_bytes();
     if is_self(name) {
-        return Ok(());
+        return count_self(selves);
     }
     let attrs = entry.metadata().into_inner();
     match walk.add(alloc, name, kind_of(entry.file_type()), attrs) {
@@ -70,14 +89,16 @@ fn add_entry(alloc: Global, walk: &mut Walk, entry: &DirEntry) -> Result<(), Rem
 fn take_given(
     alloc: Global,
     walk: &mut Walk,
+    selves: &mut usize,
     given: Option<Result<DirEntry, Error>>,
 ) -> Result<bool, RemoteError>
-    ensures { GrowsByGiven given walk.old walk.new result }
+    ensures { GrowsByGiven given (record { walk = walk.old; selves = selves.old })
+        (record { walk = walk.new; selves = selves.new }) result }
 {
     // No `?`: it converts the error, and the clause is by cases on the result.
     match given {
         None => Ok(true),
-        Some(Ok(entry)) => match add_entry(alloc, walk, &entry) {
+        Some(Ok(entry)) => match add_entry(alloc, walk, selves, &entry) {
             Ok(()) => Ok(false),
             Err(e) => Err(e),
         },
@@ -91,12 +112,14 @@ fn list_step<L: Link>(
     sftp: &mut Sftp<L>,
     listing: &mut ReadDir,
     walk: &mut Walk,
+    selves: &mut usize,
 ) -> Result<bool, RemoteError>
     requires going { IsGoing L.LinkState.state sftp.old }
     requires listing { IsListing sftp.old.core listing.old }
     ensures goes { MayGoOn L.LinkState.state (record { session = sftp.new; listing = listing.new }) }
     ensures told { StepTold L.LinkState.state (record { session = sftp.old; listing = listing.old })
-        (record { session = sftp.new; listing = listing.new }) walk.old walk.new result }
+        (record { session = sftp.new; listing = listing.new }) (record { walk = walk.old; selves = selves.old })
+        (record { walk = walk.new; selves = selves.new }) result }
 {
     // No `?`: it converts the error, and `told` is by cases on the result.
     match ready(sftp) {
@@ -104,7 +127,7 @@ fn list_step<L: Link>(
         Err(e) => return Err(e),
     }
     match listing.poll_next(sftp.core()) {
-        Poll::Ready(given) => take_given(alloc, walk, given),
+        Poll::Ready(given) => take_given(alloc, walk, selves, given),
         Poll::Pending => match turn(sftp) {
             Ok(()) => Ok(false),
             Err(e) => Err(e.into()),
@@ -125,9 +148,10 @@ fn list_entries<L: Link>(
     ensures told { ListingTold L.LinkState.state (record { session = sftp.old; listing = listing.old })
         (record { session = sftp.new; listing = listing.new }) walk.old walk.new result }
 {
+    let mut selves = 0;
     for _ in 0..u64::MAX {
         // No `?`: it converts the error, and `told` is by cases on the result.
-        match list_step(alloc, sftp, listing, walk) {
+        match list_step(alloc, sftp, listing, walk, &mut selves) {
             Ok(true) => return Ok(()),
             Ok(false) => {}
             Err(e) => return Err(e),
@@ -181,8 +205,9 @@ fn list_closed<L: Link>(
 ///
 /// # Errors
 ///
-/// A `RemoteError` if the server refuses, the session fails, an allocation fails, the walk has too many entries or
-/// 18446744073709551615 steps were not enough. The entries that came before it are added.
+/// A `RemoteError` if the server refuses, the session fails, an allocation fails, the walk has too many entries, the
+/// directory lists itself or its parent more than 1000000 times, or 18446744073709551615 steps were not enough. The
+/// entries that came before it are added.
 pub fn list_remote<L: Link>(
     alloc: Global,
     sftp: &mut Sftp<L>,
