@@ -12,7 +12,7 @@ use Rattle.transfer_copy.specs.declared.put.PutStage.TheVariants as stage
 use Rattle.transfer_copy.specs.Acts.{HasReadFile, IsReadOnly, SentAfter, SentSoFar, end_acts}
 use Rattle.transfer_copy.specs.Holdings.{HoldingValue, bytes_under_way}
 use Rattle.transfer_copy.specs.Local.{AreGot, Failed, Got, HasDone, IsGot, LocalAct, Opened, reads_of}
-use Rattle.transfer_copy.specs.Puts.{AcceptsWrite, IsWritingOn, MayPut, PutAsksAttrs, PutNamed, PutStepDid, PutFinishes, PutGivesUp, PutReadsNext, PutSentAll, StandsPut, PutWritesNext, rename_stage}
+use Rattle.transfer_copy.specs.Puts.{AcceptsWrite, IsWritingOn, MayPut, PutAsksAttrs, PutNamed, PutStepDid, PutFinishes, PutGivesUp, PutReadsNext, PutSentAll, StandsPut, PutWritesNext, offers_rename, rename_stage}
 use Rattle.transfer_copy.proofs.ActLaws.{acts_join, failed_is, total_last}
 
 reads_last : (pieces : List (List ℕ)) (piece : List ℕ) → reads_of (pieces ++ piece ∷ []) ≡ reads_of pieces
@@ -263,10 +263,10 @@ sent_on done name part remote from core after old new first before now stage.Sta
     (begun_so done name from old.offset new first before now none is_from opened
     (ap (λ (x : FilePut). x.next) is ∙ next_is) (ap (λ (x : FilePut). x.at_end) is ∙ going))
 sent_on done name part remote from core after old new first before now stage.Starting (progress.Ended (Err e)) at may
-    (none, is_from, next_is, going) (inl opened, same, is) =
+    (none, is_from, next_is, going) (inl (opened, asks)) =
     (Opened name from ∷ [], opened ∙ (λ i. done (Opened name (is_from i)) (none i)), (tt, tt))
 sent_on done name part remote from core after old new first before now stage.Starting (progress.Ended (Err e)) at may
-    (none, is_from, next_is, going) (inr failed, same, is) =
+    (none, is_from, next_is, going) (inr (failed, same, is)) =
     (Failed (Opened name from) ∷ [], failed ∙ (λ i. done (Failed (Opened name (is_from i))) (none i)), (tt, tt))
 sent_on done name part remote from core after old new first before now stage.Starting (progress.Ended (Ok len)) at may
     so never = absurd never
@@ -311,8 +311,8 @@ sent_on done name part remote from core after old new first before now stage.Clo
     ((missing, (core_is, is)), same) =
     put_still done name from old new first before now stage.Closing at so is same
 sent_on done name part remote from core after old new first before now stage.Closing progress.Moved at may (only, all)
-    ((none, (replaces, then_asks)), same) =
-    closed_so done name from old new first before now replaces (all none) same
+    ((none, then_asks), same) =
+    closed_so done name from old new first before now (offers_rename core) (all none) same
     (ap (λ (x : FilePut). x.stage) then_asks.asks.1)
     (ap (λ (x : FilePut). x.offset) then_asks.asks.1)
 sent_on done name part remote from core after old new first before now stage.Closing (progress.Ended (Err e)) at may
@@ -340,6 +340,20 @@ sent_on done name part remote from core after old new first before now stage.Ren
     (over, same) =
     read_of done name from true old.offset first now (read_still done name from true old.offset old.offset first before
     now so same refl)
+sent_on done name part remote from core after old new first before now stage.Checking progress.Waits at may so
+    ((missing, (core_is, is)), same) =
+    put_still done name from old new first before now stage.Checking at so is same
+sent_on done name part remote from core after old new first before now stage.Checking progress.Moved at may so
+    (asks, same) =
+    subst (λ (s : PutStage). SentSoFar done name from new first now s) (sym (ap (λ (x : FilePut). x.stage) asks.asks.1))
+    (read_still done name from true old.offset new.offset first before now so same
+    (ap (λ (x : FilePut). x.offset) asks.asks.1))
+sent_on done name part remote from core after old new first before now stage.Checking (progress.Ended (Err e)) at may so
+    (over, same) =
+    read_of done name from true old.offset first now (read_still done name from true old.offset old.offset first before
+    now so same refl)
+sent_on done name part remote from core after old new first before now stage.Checking (progress.Ended (Ok len)) at may
+    so (never, same) = absurd never
 sent_on done name part remote from core after old new first before now stage.Removing progress.Waits at may so
     ((missing, (core_is, is)), same) =
     put_still done name from old new first before now stage.Removing at so is same

@@ -7,6 +7,7 @@ use Rattle.sftp_model.specs.declared.reply.Reply.{Reply}
 use Rattle.sftp_model.specs.declared.request.Request.TheVariants as request
 use Rattle.sftp_core.specs.Core.{Core}
 use Rattle.sftp_core.specs.Info.{info_of}
+use Rattle.sftp_core.specs.declared.handshake.Handshake.{Handshake}
 use Rattle.plan_state.specs.Asked.{request_of}
 use Rattle.plan_state.specs.declared.submission.Asking.{Asking}
 use Rattle.plan_state.specs.declared.submission.Asking.TheVariants.{Whole, Parts}
@@ -22,6 +23,7 @@ use Rattle.transfer_copy.specs.Holdings.{
   AsksForPart,
   AsksForWrite,
   HoldingValue,
+  WasFound,
   WasNotOk,
   WasOk,
   IsFileOpen,
@@ -33,10 +35,12 @@ use Rattle.transfer_copy.specs.Holdings.{
 use Rattle.transfer_copy.specs.Puts.{
   AcceptsWrite,
   AsksAt,
+  ChecksOrFails,
   EndsWriting,
+  FindsPart,
   IsClosedAt,
   IsWritingOn,
-  NamedOrRemoves,
+  NamedOrChecks,
   PutGivesUp,
   PutLeaves,
   PutsNoMore,
@@ -45,6 +49,8 @@ use Rattle.transfer_copy.specs.Puts.{
   PutEndsSending,
   StandsPut,
   WritesOn,
+  can_replace,
+  offers_rename,
   rename_of,
   rename_stage,
 }
@@ -201,53 +207,66 @@ write_idle done core mid after old new left before now result idle sends =
 
 -- ---- the end
 
-some_is_none : (p : Option CopyError) (e : CopyError) → p ≡ None → p ≡ Some e → ⊥
-some_is_none p e none some = let bad : (◌≡◌ {A = Option CopyError} None (Some e)) = sym none ∙ some in cc
-
-named_close : (core mid after : Core) (old new : FilePut) (left : HoldingValue) (part remote : List ℕ) (replaces : Bool)
+named_close : (core mid after : Core) (old new : FilePut) (left : HoldingValue) (part remote : List ℕ)
     (result : Progress)
     → WasOk core old.holding mid left → old.failure ≡ None
-    → AsksAt (rename_of part remote replaces) (rename_stage replaces) mid (record old { holding = left }) after new
-    result
+    → AsksAt (rename_of part remote (offers_rename core)) (rename_stage (offers_rename core)) mid
+    (record old { holding = left }) after new result
     → EndsWriting part remote core old after new result
-named_close core mid after old new left part remote replaces progress.Waits ok none never = absurd never
-named_close core mid after old new left part remote replaces progress.Moved ok none asks =
-    (none, (replaces, record { mid = mid; left = left; ok = ok; asks = asks }))
-named_close core mid after old new left part remote replaces (progress.Ended (Err e)) ok none (same, now) =
-    (λ first some. absurd (some_is_none old.failure first none some), ap (λ (x : FilePut). x.stage) now)
-named_close core mid after old new left part remote replaces (progress.Ended (Ok len)) ok none never = absurd never
+named_close core mid after old new left part remote progress.Waits ok none never = absurd never
+named_close core mid after old new left part remote progress.Moved ok none asks =
+    (none, record { mid = mid; left = left; ok = ok; asks = asks })
+named_close core mid after old new left part remote (progress.Ended (Err e)) ok none asks =
+    inr (inr (none, record { mid = mid; left = left; ok = ok; asks = asks }))
+named_close core mid after old new left part remote (progress.Ended (Ok len)) ok none never = absurd never
 
 failed_close : (core mid after : Core) (old new : FilePut) (part remote : List ℕ) (first : CopyError)
     (result : Progress)
     → old.failure ≡ Some first → result ≡ progress.Ended (Err first) → new.stage ≡ stage.Ended
     → EndsWriting part remote core old after new result
 failed_close core mid after old new part remote first result some is over =
-    subst (λ x. EndsWriting part remote core old after new x) (sym is)
-    (λ other is_other. some_same first other (sym some ∙ is_other), over)
-  where
-    some_same : (a b : CopyError) → (◌≡◌ {A = Option CopyError} (Some a) (Some b)) → a ≡ b
-    some_same a b e = cc
+    subst (λ x. EndsWriting part remote core old after new x) (sym is) (inl (some, over))
 
 pub put_closed : (core mid after : Core) (old new : FilePut) (left : HoldingValue) (part remote : List ℕ)
     (result : Progress)
-    → WasOk core old.holding mid left → IsClosedAt part remote mid (record old { holding = left }) after new result
+    → WasOk core old.holding mid left → mid.phase ≡ core.phase
+    → IsClosedAt part remote mid (record old { holding = left }) after new result
     → EndsWriting part remote core old after new result
-put_closed core mid after old new left part remote result ok (inl (none, (replaces, asks))) =
-    named_close core mid after old new left part remote replaces result ok none asks
-put_closed core mid after old new left part remote result ok (inr (first, some, is, same, over)) =
+put_closed core mid after old new left part remote result ok phase (inl (none, asks)) =
+    named_close core mid after old new left part remote result ok none
+    (subst (λ (b : Bool). AsksAt (rename_of part remote b) (rename_stage b) mid (record old { holding = left }) after
+    new result) (ap (λ (p : Handshake). can_replace (info_of p)) phase) asks)
+put_closed core mid after old new left part remote result ok phase (inr (first, some, is, same, over)) =
     failed_close core mid after old new part remote first result some is over
 
-pub put_removes : (core mid after : Core) (old new : FilePut) (left : HoldingValue) (remote : List ℕ)
+pub put_checks : (core mid after : Core) (old new : FilePut) (left : HoldingValue) (part : List ℕ) (why : CopyError)
     (result : Progress)
-    → WasNotOk core old.holding mid left → AsksAt (request.Remove remote) stage.Removing mid
-    (record old { holding = left }) after new result
-    → NamedOrRemoves remote core old after new result
-put_removes core mid after old new left remote progress.Waits not_ok never = absurd never
-put_removes core mid after old new left remote progress.Moved not_ok asks =
-    record { mid = mid; left = left; not_ok = not_ok; asks = asks }
-put_removes core mid after old new left remote (progress.Ended (Err e)) not_ok (same, now) =
-    ap (λ (x : FilePut). x.stage) now
-put_removes core mid after old new left remote (progress.Ended (Ok len)) not_ok never = absurd never
+    → WasNotOk core old.holding mid left why
+    → ChecksOrFails why part mid (record old { holding = left }) after new result
+    → NamedOrChecks part core old after new result
+put_checks core mid after old new left part why progress.Waits not_ok (inl (failed, never)) = absurd never
+put_checks core mid after old new left part why progress.Moved not_ok (inl (failed, asks)) =
+    record { mid = mid; left = left; why = why; not_ok = not_ok; failed = failed; asks = asks }
+put_checks core mid after old new left part why (progress.Ended (Err e)) not_ok (inl (failed, asks)) =
+    inr (record { mid = mid; left = left; why = why; not_ok = not_ok; failed = failed; asks = asks })
+put_checks core mid after old new left part why (progress.Ended (Ok len)) not_ok (inl (failed, never)) = absurd never
+put_checks core mid after old new left part why result not_ok (inr (cause, is, same, now)) =
+    let holds : new.holding ≡ left = ap (λ (x : FilePut). x.holding) now in
+    let left_so = subst (λ (h : HoldingValue). WasNotOk core old.holding mid h why) (sym holds) not_ok in
+    let not_named = subst (λ (x : Core). WasNotOk core old.holding x new.holding why) (sym same) left_so in
+    subst (λ x. NamedOrChecks part core old after new x) (sym is)
+    (inl (not_named, cause, ap (λ (x : FilePut). x.stage) now))
+
+pub put_finds : (core mid after : Core) (old new : FilePut) (left : HoldingValue) (remote : List ℕ) (result : Progress)
+    → WasFound core old.holding mid left
+    → AsksAt (request.Remove remote) stage.Removing mid (record old { holding = left }) after new result
+    → FindsPart remote core old after new result
+put_finds core mid after old new left remote progress.Waits found never = absurd never
+put_finds core mid after old new left remote progress.Moved found asks =
+    record { mid = mid; left = left; found = found; asks = asks }
+put_finds core mid after old new left remote (progress.Ended (Err e)) found asks =
+    inr (record { mid = mid; left = left; found = found; asks = asks })
+put_finds core mid after old new left remote (progress.Ended (Ok len)) found never = absurd never
 
 pub put_removed : (core mid after : Core) (old new : FilePut) (left : HoldingValue) (part remote : List ℕ)
     (result : Progress)
@@ -257,6 +276,6 @@ pub put_removed : (core mid after : Core) (old new : FilePut) (left : HoldingVal
 put_removed core mid after old new left part remote progress.Waits ok never = absurd never
 put_removed core mid after old new left part remote progress.Moved ok asks =
     record { mid = mid; left = left; ok = ok; asks = asks }
-put_removed core mid after old new left part remote (progress.Ended (Err e)) ok (same, now) =
-    ap (λ (x : FilePut). x.stage) now
+put_removed core mid after old new left part remote (progress.Ended (Err e)) ok asks =
+    inr (record { mid = mid; left = left; ok = ok; asks = asks })
 put_removed core mid after old new left part remote (progress.Ended (Ok len)) ok never = absurd never

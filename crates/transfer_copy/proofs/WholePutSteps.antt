@@ -11,11 +11,12 @@ use Rattle.transfer_copy.specs.declared.put.PutStage.{PutStage}
 use Rattle.transfer_copy.specs.declared.put.PutStage.TheVariants as stage
 use Rattle.transfer_copy.specs.Holdings.{HoldingValue, WasOk}
 use Rattle.transfer_copy.specs.Legs.{AreDeeds, AreLegs, FollowsSteps, HasGoneOn, HasWaited, IsWholeCopy, CopyStep, history_behind, state_behind}
-use Rattle.transfer_copy.specs.Puts.{AcceptsWrite, AsksThen, PutAsksAttrs, PutGivesUp, PutNamed, PutReadsNext, PutStepDid, PutsReply, put_begun, rename_of, rename_stage}
+use Rattle.transfer_copy.specs.Puts.{AcceptsWrite, AsksName, PutAsksAttrs, PutGivesUp, PutNamed, PutReadsNext, PutStepDid, PutsReply, offers_rename, put_begun, rename_stage}
 use Rattle.transfer_copy.specs.WholePuts.{
   AreWrittenFromTo,
   AsksAgain,
   AsksOpen,
+  AsksPart,
   AsksRemove,
   AsksRename,
   Closes,
@@ -59,10 +60,12 @@ IsSentUpTo done name part remote from legs p first now stage.Replacing =
     IsSent done name part remote from (AsksRename ∷ []) legs p.offset first now
 IsSentUpTo done name part remote from legs p first now stage.Renaming =
     IsSent done name part remote from (AsksRename ∷ []) legs p.offset first now
+IsSentUpTo done name part remote from legs p first now stage.Checking =
+    IsSent done name part remote from (AsksPart ∷ AsksRename ∷ []) legs p.offset first now
 IsSentUpTo done name part remote from legs p first now stage.Removing =
-    IsSent done name part remote from (AsksRemove ∷ AsksRename ∷ []) legs p.offset first now
+    IsSent done name part remote from (AsksRemove ∷ AsksPart ∷ AsksRename ∷ []) legs p.offset first now
 IsSentUpTo done name part remote from legs p first now stage.RenamingAgain =
-    IsSent done name part remote from (AsksAgain ∷ AsksRemove ∷ AsksRename ∷ []) legs p.offset first now
+    IsSent done name part remote from (AsksAgain ∷ AsksRemove ∷ AsksPart ∷ AsksRename ∷ []) legs p.offset first now
 IsSentUpTo done name part remote from legs p first now stage.Ended = Unit {0}
 
 abbrev IsSentAfter : {H : Type 0} → (LocalAct → H → H) → List ℕ → List ℕ → List ℕ → ℕ → List (CopyStep FilePut H)
@@ -138,11 +141,14 @@ waits_at done name part remote from legs leg p first now stage.Replacing waited 
     sent_waits done name part remote from (AsksRename ∷ []) legs leg p.offset first now waited so
 waits_at done name part remote from legs leg p first now stage.Renaming waited so =
     sent_waits done name part remote from (AsksRename ∷ []) legs leg p.offset first now waited so
+waits_at done name part remote from legs leg p first now stage.Checking waited so =
+    sent_waits done name part remote from (AsksPart ∷ AsksRename ∷ []) legs leg p.offset first now waited so
 waits_at done name part remote from legs leg p first now stage.Removing waited so =
-    sent_waits done name part remote from (AsksRemove ∷ AsksRename ∷ []) legs leg p.offset first now waited so
-waits_at done name part remote from legs leg p first now stage.RenamingAgain waited so =
-    sent_waits done name part remote from (AsksAgain ∷ AsksRemove ∷ AsksRename ∷ []) legs leg p.offset first now waited
+    sent_waits done name part remote from (AsksRemove ∷ AsksPart ∷ AsksRename ∷ []) legs leg p.offset first now waited
     so
+waits_at done name part remote from legs leg p first now stage.RenamingAgain waited so =
+    sent_waits done name part remote from (AsksAgain ∷ AsksRemove ∷ AsksPart ∷ AsksRename ∷ []) legs leg p.offset first
+    now waited so
 waits_at done name part remote from legs leg p first now stage.Ended waited so = tt
 
 put_waits : {H : Type 0} (done : LocalAct → H → H) (name part remote : List ℕ) (from : ℕ)
@@ -239,15 +245,14 @@ rename_there done name part remote from legs p first now false here so =
 
 put_closed : {H : Type 0} (done : LocalAct → H → H) (name part remote : List ℕ) (from : ℕ)
     (legs : List (CopyStep FilePut H)) (leg : CopyStep FilePut H)
-    (first : H) (replaces : Bool) → IsSentToClose done name part remote from legs leg.old first leg.before
-    → AsksThen (rename_of part remote replaces) (rename_stage replaces) leg.core leg.old leg.after leg.new
-    progress.Moved
+    (first : H) → IsSentToClose done name part remote from legs leg.old first leg.before
+    → AsksName part remote leg.core leg.old leg.after leg.new progress.Moved
     → leg.now ≡ leg.before → IsSentUpTo done name part remote from (leg ∷ legs) leg.new first leg.now leg.new.stage
-put_closed done name part remote from legs leg first replaces so asks same =
-    rename_there done name part remote from (leg ∷ legs) leg.new first leg.now replaces
+put_closed done name part remote from legs leg first so asks same =
+    rename_there done name part remote from (leg ∷ legs) leg.new first leg.now (offers_rename leg.core)
     (ap (λ (p : FilePut). p.stage) asks.asks.1)
     (sent_then done name part remote from AsksRename [] legs leg leg.old.offset leg.new.offset first so.sent
-    (so.file, (replaces, asks), same) (ap (λ (p : FilePut). p.offset) asks.asks.1) same)
+    (so.file, asks, same) (ap (λ (p : FilePut). p.offset) asks.asks.1) same)
 
 -- the last rename had OK
 sent_named : {H : Type 0} (done : LocalAct → H → H) (name part remote : List ℕ) (from len : ℕ) (again : Bool)
@@ -346,8 +351,8 @@ put_on done name part remote from legs leg first stage.Writing progress.Moved he
 put_on done name part remote from legs leg first stage.Writing (progress.Ended result) here so never = absurd never
 put_on done name part remote from legs leg first stage.Closing progress.Waits here so ((missing, (core_is, is)), same) =
     put_waits done name part remote from legs leg first stage.Closing here so core_is is same
-put_on done name part remote from legs leg first stage.Closing progress.Moved here so ((none, (replaces, asks)), same) =
-    put_closed done name part remote from legs leg first replaces (so none) asks same
+put_on done name part remote from legs leg first stage.Closing progress.Moved here so ((none, asks), same) =
+    put_closed done name part remote from legs leg first (so none) asks same
 put_on done name part remote from legs leg first stage.Closing (progress.Ended (Err e)) here so did = tt
 put_on done name part remote from legs leg first stage.Closing (progress.Ended (Ok len)) here so (never, same) =
     absurd never
@@ -355,7 +360,7 @@ put_on done name part remote from legs leg first stage.Replacing result here so 
     put_named done name part remote from false (AsksRename ∷ []) legs leg first stage.Replacing result refl here so so
     named same
 put_on done name part remote from legs leg first stage.RenamingAgain result here so (named, same) =
-    put_named done name part remote from true (AsksAgain ∷ AsksRemove ∷ AsksRename ∷ []) legs leg first
+    put_named done name part remote from true (AsksAgain ∷ AsksRemove ∷ AsksPart ∷ AsksRename ∷ []) legs leg first
     stage.RenamingAgain result refl here so so
     named same
 put_on done name part remote from legs leg first stage.Renaming progress.Waits here so ((missing, (core_is, is)), same)
@@ -364,20 +369,32 @@ put_on done name part remote from legs leg first stage.Renaming progress.Waits h
 put_on done name part remote from legs leg first stage.Renaming progress.Moved here so (asks, same) =
     subst (λ (s : PutStage). IsSentUpTo done name part remote from (leg ∷ legs) leg.new first leg.now s)
     (sym (ap (λ (x : FilePut). x.stage) asks.asks.1))
-    (sent_then done name part remote from AsksRemove (AsksRename ∷ []) legs leg leg.old.offset leg.new.offset first so
+    (sent_then done name part remote from AsksPart (AsksRename ∷ []) legs leg leg.old.offset leg.new.offset first so
     (asks, same)
     (ap (λ (x : FilePut). x.offset) asks.asks.1) same)
 put_on done name part remote from legs leg first stage.Renaming (progress.Ended (Ok len)) here so
     ((ok, len_is, over), same) =
     sent_named done name part remote from len false (AsksRename ∷ []) legs leg first refl so ok len_is same
 put_on done name part remote from legs leg first stage.Renaming (progress.Ended (Err e)) here so did = tt
+put_on done name part remote from legs leg first stage.Checking progress.Waits here so ((missing, (core_is, is)), same)
+    =
+    put_waits done name part remote from legs leg first stage.Checking here so core_is is same
+put_on done name part remote from legs leg first stage.Checking progress.Moved here so (asks, same) =
+    subst (λ (s : PutStage). IsSentUpTo done name part remote from (leg ∷ legs) leg.new first leg.now s)
+    (sym (ap (λ (x : FilePut). x.stage) asks.asks.1))
+    (sent_then done name part remote from AsksRemove (AsksPart ∷ AsksRename ∷ []) legs leg leg.old.offset
+    leg.new.offset first so (asks, same)
+    (ap (λ (x : FilePut). x.offset) asks.asks.1) same)
+put_on done name part remote from legs leg first stage.Checking (progress.Ended (Err e)) here so did = tt
+put_on done name part remote from legs leg first stage.Checking (progress.Ended (Ok len)) here so (never, same) =
+    absurd never
 put_on done name part remote from legs leg first stage.Removing progress.Waits here so ((missing, (core_is, is)), same)
     =
     put_waits done name part remote from legs leg first stage.Removing here so core_is is same
 put_on done name part remote from legs leg first stage.Removing progress.Moved here so (asks, same) =
     subst (λ (s : PutStage). IsSentUpTo done name part remote from (leg ∷ legs) leg.new first leg.now s)
     (sym (ap (λ (x : FilePut). x.stage) asks.asks.1))
-    (sent_then done name part remote from AsksAgain (AsksRemove ∷ AsksRename ∷ []) legs leg leg.old.offset
+    (sent_then done name part remote from AsksAgain (AsksRemove ∷ AsksPart ∷ AsksRename ∷ []) legs leg leg.old.offset
     leg.new.offset first so (asks, same)
     (ap (λ (x : FilePut). x.offset) asks.asks.1) same)
 put_on done name part remote from legs leg first stage.Removing (progress.Ended (Err e)) here so did = tt

@@ -66,6 +66,7 @@ use Rattle.transfer_copy.specs.Holdings.{
   nothing_held,
 }
 use Rattle.transfer_copy.specs.Local.{Failed, LocalAct, Renamed, Wrote, part_opened}
+use Rattle.transfer_copy.specs.Refusals.{IsUnasked}
 
 -- The flags of an open for reading only.
 abbrev pub read_flags : OpenFlags
@@ -179,13 +180,14 @@ GetGivesUp core h old after new = LeavesGet (λ why. IsSome why) core h old afte
 abbrev pub GetFinishes : Core → HoldingValue → FileGet → Core → FileGet → Type 0
 GetFinishes core h old after new = LeavesGet (λ why. why ≡ None) core h old after new
 
--- The OPEN of the path for reading was asked, or nothing was.
+-- The OPEN of the path for reading was asked, or it could not be submitted.
 abbrev pub GetStarts : List ℕ → Core → FileGet → Core → FileGet → Progress → Type 0
 GetStarts remote core old after new progress.Moved =
     AsksFile core old.holding (open_request read_flags remote) after new.holding
     × (new ≡ record old { stage = stage.Opening; holding = new.holding })
 GetStarts remote core old after new (progress.Ended (Err e)) = (after ≡ core)
     × (new ≡ record old { stage = stage.Ended })
+    × IsUnasked core (open_request read_flags remote) e
 GetStarts remote core old after new other = ⊥
 
 -- The part file was created, or reopened with the bytes before the offset; or that failed.
@@ -209,7 +211,7 @@ GetOpens done part core old after new before now progress.Waits =
     SettlesFile core old.holding core old.holding file_answer.Missing × IsStill core old after new × (now ≡ before)
 GetOpens done part core old after new before now progress.Moved = OpensGet done part core old after new before now
 GetOpens done part core old after new before now (progress.Ended (Err e)) =
-    WasRefused core old.holding after new.holding
+    WasRefused core old.holding after new.holding e
     × (new ≡ record old { stage = stage.Ended; holding = new.holding })
     × (now ≡ before)
 GetOpens done part core old after new before now (progress.Ended (Ok len)) = ⊥

@@ -1,8 +1,8 @@
--- believed, except KeepsApart, IsFileAsked, SettlesStatus, drops_file
+-- believed, except KeepsApart, IsFileAsked, SettlesStatus, SettlesAttrs, drops_file
 -- The entries that a copy of one file has in a core: the request or the grant of its file, and the requests for its
 -- bytes and its attributes.
 use Rattle.std.specs.Prelude.{◌≡◌, ◌≢◌, ◌⊎◌, ◌<◌, ℕ, ◌+◌, true, false, List, [], ◌∷◌, ◌++◌, length, Option, Some, None}
-use Rattle.sftp_model.specs.Answers.{allows_reply, expected_of}
+use Rattle.sftp_model.specs.Answers.{allows_reply, expected_of, is_attrs}
 use Rattle.sftp_model.specs.declared.answers.Expected.{Expected}
 use Rattle.sftp_model.specs.declared.answers.Expected.TheVariants as expected
 use Rattle.sftp_model.specs.declared.error.Fault.{Fault}
@@ -19,6 +19,7 @@ use Rattle.sftp_core.specs.declared.id_record.IdRecord.TheVariants.{Granted}
 use Rattle.plan_state.specs.Asked.{HoldsTicket, SubmitsAsking, request_of}
 use Rattle.plan_state.specs.declared.submission.Asking.{Asking}
 use Rattle.plan_state.specs.declared.submission.Asking.TheVariants.{Whole, Parts}
+use Rattle.transfer_copy.specs.declared.copy_error.CopyError.{CopyError}
 use Rattle.transfer_copy.specs.declared.holding.FileAnswer.{FileAnswer}
 use Rattle.transfer_copy.specs.declared.holding.FileAnswer.TheVariants as file_answer
 use Rattle.transfer_copy.specs.declared.holding.FileHold.{FileHold}
@@ -28,7 +29,7 @@ use Rattle.transfer_copy.specs.declared.holding.PartAnswer.{PartAnswer}
 use Rattle.transfer_copy.specs.declared.holding.PartAnswer.TheVariants as part_answer
 use Rattle.transfer_copy.specs.declared.holding.StatusAnswer.{StatusAnswer}
 use Rattle.transfer_copy.specs.declared.holding.StatusAnswer.TheVariants as status_answer
-use Rattle.transfer_copy.specs.Refusals.{IsOkStatus}
+use Rattle.transfer_copy.specs.Refusals.{IsOkStatus, faulted_by, refusal_of}
 
 -- The file, and the parts in flight in order.
 pub record HoldingValue : Type 0 where
@@ -113,7 +114,7 @@ file_handle other = []
 
 -- ---- Requests
 
--- A request of the file: to open, close, rename or remove it.
+-- A request of the file: to open, close, rename, look for or remove it.
 pub record AsksFile (core : Core) (old : HoldingValue) (asked : Request) (after : Core) (new : HoldingValue) : Type 0
   where
     pub ticket : ℕ
@@ -184,15 +185,17 @@ SettlesFile core old after new file_answer.Granted = (handle : List ℕ)
     × GivesGrant old.file handle new.file
     × (new.parts ≡ old.parts)
 
--- A request of the file was refused, or a fault is kept in place of its reply.
-abbrev pub WasRefused : Core → HoldingValue → Core → HoldingValue → Type 0
-WasRefused core old after new = ((r : Reply) × SettlesFile core old after new (file_answer.Came r))
-    ⊎ ((fault : Fault) × SettlesFile core old after new (file_answer.Failed fault))
+-- A request of the file was refused, or a fault is kept in place of its reply; and the failure by it.
+abbrev pub WasRefused : Core → HoldingValue → Core → HoldingValue → CopyError → Type 0
+WasRefused core old after new e = ((r : Reply) × SettlesFile core old after new (file_answer.Came r)
+    × (e ≡ refusal_of r))
+    ⊎ ((fault : Fault) × SettlesFile core old after new (file_answer.Failed fault) × (e ≡ faulted_by fault))
 
--- A request of the file had a reply other than OK, or a fault is kept in place of its reply.
-abbrev pub WasNotOk : Core → HoldingValue → Core → HoldingValue → Type 0
-WasNotOk core old after new = ((r : Reply) × SettlesFile core old after new (file_answer.Came r) × (IsOkStatus r → ⊥))
-    ⊎ ((fault : Fault) × SettlesFile core old after new (file_answer.Failed fault))
+-- A request of the file had a reply other than OK, or a fault is kept in place of its reply; and the failure by it.
+abbrev pub WasNotOk : Core → HoldingValue → Core → HoldingValue → CopyError → Type 0
+WasNotOk core old after new e = ((r : Reply) × SettlesFile core old after new (file_answer.Came r) × (IsOkStatus r → ⊥)
+    × (e ≡ refusal_of r))
+    ⊎ ((fault : Fault) × SettlesFile core old after new (file_answer.Failed fault) × (e ≡ faulted_by fault))
 
 -- The server answered it with OK.
 pub record WasOk (core : Core) (old : HoldingValue) (after : Core) (new : HoldingValue) : Type 0 where
@@ -205,7 +208,26 @@ abbrev pub SettlesStatus : Core → HoldingValue → Core → HoldingValue → S
 SettlesStatus core old after new status_answer.Missing = SettlesFile core old core old file_answer.Missing
     × (after ≡ core) × (new ≡ old)
 SettlesStatus core old after new status_answer.Done = WasOk core old after new × (new ≡ nothing_held)
-SettlesStatus core old after new (status_answer.NotDone e) = WasNotOk core old after new × (new ≡ nothing_held)
+SettlesStatus core old after new (status_answer.NotDone e) = WasNotOk core old after new e × (new ≡ nothing_held)
+
+-- The server answered it with ATTRS.
+pub record WasFound (core : Core) (old : HoldingValue) (after : Core) (new : HoldingValue) : Type 0 where
+  pub answered : Reply
+  pub came : SettlesFile core old after new (file_answer.Came answered)
+  pub attrs : is_attrs answered ≡ true
+
+-- It had a reply other than ATTRS, or a fault is kept in place of its reply.
+abbrev pub WasNotFound : Core → HoldingValue → Core → HoldingValue → Type 0
+WasNotFound core old after new = ((r : Reply) × SettlesFile core old after new (file_answer.Came r)
+    × (is_attrs r ≡ false))
+    ⊎ ((fault : Fault) × SettlesFile core old after new (file_answer.Failed fault))
+
+-- Only a request for attributes is in flight, and this is its result.
+abbrev pub SettlesAttrs : Core → HoldingValue → Core → HoldingValue → StatusAnswer → Type 0
+SettlesAttrs core old after new status_answer.Missing = SettlesFile core old core old file_answer.Missing
+    × (after ≡ core) × (new ≡ old)
+SettlesAttrs core old after new status_answer.Done = WasFound core old after new × (new ≡ nothing_held)
+SettlesAttrs core old after new (status_answer.NotDone e) = WasNotFound core old after new × (new ≡ nothing_held)
 
 -- The first part was taken, and this is known of it.
 pub record TakesFirst (Known : Part → Type 0) (core : Core) (old : HoldingValue) (after : Core) (new : HoldingValue) :

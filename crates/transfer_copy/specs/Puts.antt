@@ -1,5 +1,5 @@
 -- believed, except PutHasEnded, put_is_over, IsOpenToWrite, IsBehindWrite, IsBetween, AwaitsStatus, PutSendsOn,
---   IsClosedAt, PutLeaves
+--   IsClosedAt, ChecksOrFails, PutLeaves
 -- A copy from a local file to the server, step by step.
 use Rattle.std.specs.Prelude.{
   ◌≡◌,
@@ -25,6 +25,8 @@ use Rattle.std.specs.Prelude.{
   IsSome,
 }
 use Rattle.sftp_model.specs.OpenOptions.{flags_of, nothing_chosen}
+use Rattle.sftp_model.specs.Numbers.{POSIX_RENAME}
+use Rattle.sftp_model.specs.Readings.{has_bit}
 use Rattle.sftp_model.specs.declared.answers.Expected.TheVariants as expected
 use Rattle.sftp_model.specs.declared.file_attrs.FileAttrs.{FileAttrs}
 use Rattle.sftp_model.specs.declared.flags.OpenFlags.{OpenFlags}
@@ -34,6 +36,7 @@ use Rattle.sftp_model.specs.declared.request.Request.TheVariants as request
 use Rattle.sftp_model.specs.Frames.{no_attributes}
 use Rattle.sftp_core.specs.Core.{Core}
 use Rattle.sftp_core.specs.Info.{info_of}
+use Rattle.sftp_core.specs.declared.info.Info.{Info}
 use Rattle.transfer_copy.specs.declared.copy_error.CopyError.{CopyError}
 use Rattle.transfer_copy.specs.declared.holding.FileAnswer.TheVariants as file_answer
 use Rattle.transfer_copy.specs.declared.holding.PartAnswer.TheVariants as part_answer
@@ -48,6 +51,8 @@ use Rattle.transfer_copy.specs.Holdings.{
   AsksForWrite,
   HoldingValue,
   HoldsAll,
+  WasFound,
+  WasNotFound,
   WasNotOk,
   WasOk,
   IsOnly,
@@ -61,11 +66,12 @@ use Rattle.transfer_copy.specs.Holdings.{
   nothing_held,
 }
 use Rattle.transfer_copy.specs.Local.{Failed, Got, LocalAct, Opened}
-use Rattle.transfer_copy.specs.Refusals.{IsOkStatus}
+use Rattle.transfer_copy.specs.Refusals.{IsOkStatus, IsUnasked, is_failure}
 
--- The flags of an open for writing from an offset on. From 0 the file is created or truncated; otherwise it must exist.
+-- The flags of an open for writing from an offset on. From 0 the open must create the file, so the server refuses it if
+-- an entry has the name, also a symbolic link; otherwise the file must exist.
 abbrev pub write_flags : ℕ → OpenFlags
-write_flags from = flags_of (record nothing_chosen { write = true; create = from == 0; truncate = from == 0 })
+write_flags from = flags_of (record nothing_chosen { write = true; create_new = from == 0 })
 
 -- A rename, which replaces a file that has the name at once, or is a plain RENAME.
 abbrev pub rename_of : List ℕ → List ℕ → Bool → Request
@@ -98,6 +104,7 @@ StandsPut stage.Writing p = IsWritingOn p
 StandsPut stage.Closing p = IsOnly expected.Status p.holding
 StandsPut stage.Replacing p = IsOnly expected.Status p.holding
 StandsPut stage.Renaming p = IsOnly expected.Status p.holding
+StandsPut stage.Checking p = IsOnly expected.Attrs p.holding
 StandsPut stage.Removing p = IsOnly expected.Status p.holding
 StandsPut stage.RenamingAgain p = IsOnly expected.Status p.holding
 StandsPut stage.Ended p = p.holding ≡ nothing_held
@@ -167,6 +174,7 @@ abbrev pub AwaitsStatus : PutStage → Type 0
 AwaitsStatus stage.Starting = ⊥
 AwaitsStatus stage.Opening = ⊥
 AwaitsStatus stage.Writing = ⊥
+AwaitsStatus stage.Checking = ⊥
 AwaitsStatus stage.Ended = ⊥
 AwaitsStatus other = Unit {0}
 
@@ -191,16 +199,18 @@ PutGivesUp core h old after new = LeavesPut (λ why. IsSome why) core h old afte
 abbrev pub PutFinishes : Core → HoldingValue → FilePut → Core → FilePut → Type 0
 PutFinishes core h old after new = LeavesPut (λ why. why ≡ None) core h old after new
 
--- A request of the file was asked, which the copy awaits at this stage. Or it was refused, and the copy has ended.
+-- A request of the file was asked, which the copy awaits at this stage. Or it could not be submitted, and the copy has
+-- ended.
 abbrev pub AsksAt : Request → PutStage → Core → FilePut → Core → FilePut → Progress → Type 0
 AsksAt asked to core old after new progress.Moved = AsksFile core old.holding asked after new.holding
     × (new ≡ record old { stage = to; holding = new.holding })
 AsksAt asked to core old after new (progress.Ended (Err e)) = (after ≡ core)
     × (new ≡ record old { stage = stage.Ended })
+    × IsUnasked core asked e
 AsksAt asked to core old after new other = ⊥
 
--- The OPEN of the part file for writing from an offset on. If it is created, it has these permissions, as far as the
--- server permits them.
+-- The OPEN of the part file for writing from an offset on. If it creates the file, that has these permissions, as far
+-- as the server permits them.
 abbrev pub open_part : ℕ → Option ℕ → List ℕ → Request
 open_part from mode part = request.OpenFile part (write_flags from) (record no_attributes { permissions = mode })
 
@@ -211,9 +221,10 @@ abbrev pub StartsPut : {H : Type 0} → (LocalAct → H → H) → List ℕ → 
 StartsPut done name part core old after new before now progress.Moved = (now ≡ done (Opened name old.offset) before)
     × AsksAt (open_part old.offset old.mode part) stage.Opening core old after new progress.Moved
 StartsPut done name part core old after new before now (progress.Ended (Err e)) =
-    ((now ≡ done (Opened name old.offset) before) ⊎ (now ≡ done (Failed (Opened name old.offset)) before))
-    × (after ≡ core)
-    × (new ≡ record old { stage = stage.Ended })
+    ((now ≡ done (Opened name old.offset) before)
+    × AsksAt (open_part old.offset old.mode part) stage.Opening core old after new (progress.Ended (Err e)))
+    ⊎ ((now ≡ done (Failed (Opened name old.offset)) before) × (after ≡ core)
+    × (new ≡ record old { stage = stage.Ended }))
 StartsPut done name part core old after new before now other = ⊥
 
 -- The HANDLE came.
@@ -222,7 +233,7 @@ OpensPut core old after new progress.Waits = SettlesFile core old.holding core o
     × IsPutStill core old after new
 OpensPut core old after new progress.Moved = SettlesFile core old.holding after new.holding file_answer.Granted
     × (new ≡ record old { stage = stage.Writing; holding = new.holding })
-OpensPut core old after new (progress.Ended (Err e)) = WasRefused core old.holding after new.holding
+OpensPut core old after new (progress.Ended (Err e)) = WasRefused core old.holding after new.holding e
     × (new ≡ record old { stage = stage.Ended; holding = new.holding })
 OpensPut core old after new (progress.Ended (Ok len)) = ⊥
 
@@ -318,13 +329,33 @@ pub record AsksThen (asked : Request) (to : PutStage) (core : Core) (old : FileP
   pub ok : WasOk core old.holding mid left
   pub asks : AsksAt asked to mid (record old { holding = left }) after new result
 
--- The server answered with another status, or a fault is kept, and then this was asked.
-pub record AsksInstead (asked : Request) (to : PutStage) (core : Core) (old : FilePut) (after : Core) (new : FilePut)
+-- The server refused a plain RENAME with FAILURE, which names no cause. This refusal is kept, and then the attributes
+-- of the part file were asked.
+pub record ChecksPart (part : List ℕ) (core : Core) (old : FilePut) (after : Core) (new : FilePut) (result : Progress) :
+    Type 0 where
+  pub mid : Core
+  pub left : HoldingValue
+  pub why : CopyError
+  pub not_ok : WasNotOk core old.holding mid left why
+  pub failed : is_failure why ≡ true
+  pub asks : AsksAt (request.Lstat part) stage.Checking mid (record old { holding = left; failure = Some why }) after
+      new result
+
+-- The attributes of the part file came, so it is still there. Then the file that has the name was asked to be removed.
+pub record RemovesOther (remote : List ℕ) (core : Core) (old : FilePut) (after : Core) (new : FilePut)
     (result : Progress) : Type 0 where
   pub mid : Core
   pub left : HoldingValue
-  pub not_ok : WasNotOk core old.holding mid left
-  pub asks : AsksAt asked to mid (record old { holding = left }) after new result
+  pub found : WasFound core old.holding mid left
+  pub asks : AsksAt (request.Remove remote) stage.Removing mid (record old { holding = left }) after new result
+
+-- The server offers the extension that replaces a file by a rename.
+abbrev pub can_replace : Option Info → Bool
+can_replace (Some info) = has_bit info.extensions.0 POSIX_RENAME
+can_replace None = false
+
+abbrev pub offers_rename : Core → Bool
+offers_rename core = can_replace (info_of core.phase)
 
 -- The stage at which such a rename is awaited.
 abbrev pub rename_stage : Bool → PutStage
@@ -336,10 +367,16 @@ abbrev pub PutWaits : Core → FilePut → Core → FilePut → Type 0
 PutWaits core old after new = SettlesFile core old.holding core old.holding file_answer.Missing
     × IsPutStill core old after new
 
+-- The server answered with OK, and then the rename of the part file was asked. It replaces a file that has the name
+-- exactly if the server offers that.
+abbrev pub AsksName : List ℕ → List ℕ → Core → FilePut → Core → FilePut → Progress → Type 0
+AsksName part remote core old after new result =
+    AsksThen (rename_of part remote (offers_rename core)) (rename_stage (offers_rename core)) core old after new result
+
 -- The file is closed. If nothing failed, the rename of the part file is asked; otherwise the first failure is returned.
 abbrev pub IsClosedAt : List ℕ → List ℕ → Core → FilePut → Core → FilePut → Progress → Type 0
 IsClosedAt part remote core old after new result = ((old.failure ≡ None)
-    × ((replaces : Bool) × AsksAt (rename_of part remote replaces) (rename_stage replaces) core old after new result))
+    × AsksAt (rename_of part remote (offers_rename core)) (rename_stage (offers_rename core)) core old after new result)
     ⊎ ((first : CopyError) × (old.failure ≡ Some first) × (result ≡ progress.Ended (Err first)) × (after ≡ core)
     × (new.stage ≡ stage.Ended))
 
@@ -348,10 +385,11 @@ IsClosedAt part remote core old after new result = ((old.failure ≡ None)
 abbrev pub EndsWriting : List ℕ → List ℕ → Core → FilePut → Core → FilePut → Progress → Type 0
 EndsWriting part remote core old after new progress.Waits = PutWaits core old after new
 EndsWriting part remote core old after new progress.Moved = (old.failure ≡ None)
-    × ((replaces : Bool) × AsksThen (rename_of part remote replaces) (rename_stage replaces) core old after new
-    progress.Moved)
-EndsWriting part remote core old after new (progress.Ended (Err e)) = ((first : CopyError) → old.failure ≡ Some first
-    → e ≡ first) × (new.stage ≡ stage.Ended)
+    × AsksName part remote core old after new progress.Moved
+EndsWriting part remote core old after new (progress.Ended (Err e)) =
+    ((old.failure ≡ Some e) × (new.stage ≡ stage.Ended))
+    ⊎ ((old.failure ≡ None) × WasNotOk core old.holding after new.holding e × (new.stage ≡ stage.Ended))
+    ⊎ ((old.failure ≡ None) × AsksName part remote core old after new (progress.Ended (Err e)))
 EndsWriting part remote core old after new (progress.Ended (Ok len)) = ⊥
 
 -- The last rename was OK, or it was not.
@@ -360,24 +398,46 @@ PutNamed core old after new progress.Waits = PutWaits core old after new
 PutNamed core old after new progress.Moved = ⊥
 PutNamed core old after new (progress.Ended (Ok len)) = WasOk core old.holding after new.holding × (len ≡ old.offset)
     × (new.stage ≡ stage.Ended)
-PutNamed core old after new (progress.Ended (Err e)) = WasNotOk core old.holding after new.holding
+PutNamed core old after new (progress.Ended (Err e)) = WasNotOk core old.holding after new.holding e
     × (new.stage ≡ stage.Ended)
 
--- A plain rename was OK, or the file that has the name is removed.
-abbrev pub NamedOrRemoves : List ℕ → Core → FilePut → Core → FilePut → Progress → Type 0
-NamedOrRemoves remote core old after new progress.Waits = PutWaits core old after new
-NamedOrRemoves remote core old after new progress.Moved =
-    AsksInstead (request.Remove remote) stage.Removing core old after new progress.Moved
-NamedOrRemoves remote core old after new (progress.Ended (Ok len)) = WasOk core old.holding after new.holding
+-- After a plain RENAME that was refused so: if the server named no cause, the part file is looked for; otherwise the
+-- copy ends with this refusal.
+abbrev pub ChecksOrFails : CopyError → List ℕ → Core → FilePut → Core → FilePut → Progress → Type 0
+ChecksOrFails why part core old after new result = ((is_failure why ≡ true)
+    × AsksAt (request.Lstat part) stage.Checking core (record old { failure = Some why }) after new result)
+    ⊎ ((is_failure why ≡ false) × (result ≡ progress.Ended (Err why)) × (after ≡ core)
+    × (new ≡ record old { stage = stage.Ended }))
+
+-- A plain RENAME was OK. Or it was refused: if the server named no cause, the part file is looked for; otherwise the
+-- copy ends with this refusal.
+abbrev pub NamedOrChecks : List ℕ → Core → FilePut → Core → FilePut → Progress → Type 0
+NamedOrChecks part core old after new progress.Waits = PutWaits core old after new
+NamedOrChecks part core old after new progress.Moved = ChecksPart part core old after new progress.Moved
+NamedOrChecks part core old after new (progress.Ended (Ok len)) = WasOk core old.holding after new.holding
     × (len ≡ old.offset) × (new.stage ≡ stage.Ended)
-NamedOrRemoves remote core old after new (progress.Ended (Err e)) = new.stage ≡ stage.Ended
+NamedOrChecks part core old after new (progress.Ended (Err e)) = (WasNotOk core old.holding after new.holding e
+    × (is_failure e ≡ false) × (new.stage ≡ stage.Ended))
+    ⊎ ChecksPart part core old after new (progress.Ended (Err e))
+
+-- The part file is still there, and the file that has the name is removed. Or it was not found, and the copy ends with
+-- the refusal of the RENAME.
+abbrev pub FindsPart : List ℕ → Core → FilePut → Core → FilePut → Progress → Type 0
+FindsPart remote core old after new progress.Waits = PutWaits core old after new
+FindsPart remote core old after new progress.Moved = RemovesOther remote core old after new progress.Moved
+FindsPart remote core old after new (progress.Ended (Err e)) = (WasNotFound core old.holding after new.holding
+    × ((first : CopyError) → old.failure ≡ Some first → e ≡ first) × (new.stage ≡ stage.Ended))
+    ⊎ RemovesOther remote core old after new (progress.Ended (Err e))
+FindsPart remote core old after new (progress.Ended (Ok len)) = ⊥
 
 -- The file was removed, and the plain rename is asked again.
 abbrev pub RemovesTarget : List ℕ → List ℕ → Core → FilePut → Core → FilePut → Progress → Type 0
 RemovesTarget part remote core old after new progress.Waits = PutWaits core old after new
 RemovesTarget part remote core old after new progress.Moved =
     AsksThen (rename_of part remote false) stage.RenamingAgain core old after new progress.Moved
-RemovesTarget part remote core old after new (progress.Ended (Err e)) = new.stage ≡ stage.Ended
+RemovesTarget part remote core old after new (progress.Ended (Err e)) =
+    (WasNotOk core old.holding after new.holding e × (new.stage ≡ stage.Ended))
+    ⊎ AsksThen (rename_of part remote false) stage.RenamingAgain core old after new (progress.Ended (Err e))
 RemovesTarget part remote core old after new (progress.Ended (Ok len)) = ⊥
 
 -- ---- One step
@@ -398,7 +458,9 @@ PutStepDid done name part remote core old after new before now result stage.Repl
     PutNamed core old after new result
     × (now ≡ before)
 PutStepDid done name part remote core old after new before now result stage.Renaming =
-    NamedOrRemoves remote core old after new result × (now ≡ before)
+    NamedOrChecks part core old after new result × (now ≡ before)
+PutStepDid done name part remote core old after new before now result stage.Checking =
+    FindsPart remote core old after new result × (now ≡ before)
 PutStepDid done name part remote core old after new before now result stage.Removing =
     RemovesTarget part remote core old after new result × (now ≡ before)
 PutStepDid done name part remote core old after new before now result stage.RenamingAgain =

@@ -21,7 +21,6 @@ use Rattle.sftp_model.specs.declared.answers.Expected.TheVariants as expected
 use Rattle.sftp_model.specs.declared.file_attrs.FileAttrs.{FileAttrs}
 use Rattle.sftp_model.specs.declared.reply.Reply.{Reply}
 use Rattle.sftp_model.specs.declared.reply.Reply.TheVariants as reply
-use Rattle.sftp_model.specs.declared.request.Request.TheVariants as request
 use Rattle.sftp_core.specs.Core.{record_at, reply_in}
 use Rattle.sftp_core.specs.Grant.{GrantValue}
 use Rattle.transfer_copy.specs.Local.{Got, HasDone, LocalAct, Opened, reads_of}
@@ -31,7 +30,7 @@ use Rattle.transfer_copy.specs.declared.put.FilePut.{FilePut}
 use Rattle.transfer_copy.specs.declared.put.PutStage.TheVariants as stage
 use Rattle.transfer_copy.specs.Holdings.{AsksFile, AsksForAttrs, AsksForWrite, LetsFileGo, WasOk}
 use Rattle.transfer_copy.specs.Legs.{AnswersFirst, AreDeeds, CopyStep}
-use Rattle.transfer_copy.specs.Puts.{AsksInstead, AsksThen, PutStepDid, rename_of, rename_stage, open_part}
+use Rattle.transfer_copy.specs.Puts.{AsksName, AsksThen, ChecksPart, PutStepDid, RemovesOther, rename_of, open_part}
 use Rattle.transfer_copy.specs.Refusals.{IsOkStatus}
 
 -- A step of a copy to the server.
@@ -87,14 +86,15 @@ carried_by writes = map (λ (w : AskedWrite). w.bytes) writes
 -- ---- Operations
 
 -- The local file was opened and the OPEN asked; its HANDLE came; bytes were sent and answered; the CLOSE was queued;
--- the CLOSE had OK, and the rename was asked; it was refused, and the REMOVE was asked; that had OK, and the rename was
--- asked again; or the last rename had OK.
+-- the CLOSE had OK, and the rename was asked; FAILURE refused it, and the LSTAT of the part was asked; ATTRS came, and
+-- the REMOVE was asked; that had OK, and the rename was asked again; or the last rename had OK.
 pub data PutDeed : Type 0 where
   AsksOpen : PutDeed
   Opens : PutDeed
   Writing : WriteDeed → PutDeed
   Closes : PutDeed
   AsksRename : PutDeed
+  AsksPart : PutDeed
   AsksRemove : PutDeed
   AsksAgain : PutDeed
   Names : PutDeed
@@ -128,11 +128,13 @@ DidPut done name part remote from grant Closes leg = (leg.old.holding.file ≡ h
     × LetsFileGo leg.core leg.old.holding leg.after leg.new.holding
     × (leg.now ≡ leg.before)
 DidPut done name part remote from grant AsksRename leg = (leg.old.holding.file ≡ hold.Asked grant.id expected.Status)
-    × ((replaces : Bool) × AsksThen (rename_of part remote replaces) (rename_stage replaces) leg.core leg.old leg.after
-    leg.new progress.Moved)
+    × AsksName part remote leg.core leg.old leg.after leg.new progress.Moved
+    × (leg.now ≡ leg.before)
+DidPut done name part remote from grant AsksPart leg =
+    ChecksPart part leg.core leg.old leg.after leg.new progress.Moved
     × (leg.now ≡ leg.before)
 DidPut done name part remote from grant AsksRemove leg =
-    AsksInstead (request.Remove remote) stage.Removing leg.core leg.old leg.after leg.new progress.Moved
+    RemovesOther remote leg.core leg.old leg.after leg.new progress.Moved
     × (leg.now ≡ leg.before)
 DidPut done name part remote from grant AsksAgain leg =
     AsksThen (rename_of part remote false) stage.RenamingAgain leg.core leg.old leg.after leg.new progress.Moved
@@ -141,10 +143,11 @@ DidPut done name part remote from grant Names leg =
     WasOk leg.core leg.old.holding leg.after leg.new.holding
     × (leg.now ≡ leg.before)
 
--- The last rename had OK. It was the first one, or a second one after a file that had the name was removed.
+-- The last rename had OK. It was the first one, or a second one after a file that had the name was removed. Before
+-- that, FAILURE refused the first one, and the part was found.
 abbrev pub is_named_by : Bool → List PutDeed
 is_named_by false = Names ∷ AsksRename ∷ []
-is_named_by true = Names ∷ AsksAgain ∷ AsksRemove ∷ AsksRename ∷ []
+is_named_by true = Names ∷ AsksAgain ∷ AsksRemove ∷ AsksPart ∷ AsksRename ∷ []
 
 -- ---- The whole copy
 

@@ -1,15 +1,16 @@
 //! The entries that a copy of one file has in a core.
-ghost use Rattle.std.specs.Prelude.{◌≡◌, ◌<◌, ◌^◌, [], true, length, OnOk, OnErr, IsSome};
+ghost use Rattle.std.specs.Prelude.{◌≡◌, ◌<◌, ◌^◌, [], true, length, IfErr, OnOk, OnErr, IsSome};
 ghost use Rattle.sftp_model.specs.declared.answers.Expected.TheVariants as expected;
 ghost use Rattle.sftp_core.specs.Core.{is_call};
 ghost use Rattle.sftp_core.specs.Info.{info_of};
 ghost use Rattle.transfer_copy.specs.declared.holding.FileHold.TheVariants as hold;
-ghost use Rattle.transfer_copy.specs.Holdings.{AsksFile, ClosesFile, DropsParts, HoldsAll, IsFileAsked, IsFileHeld, IsOnly, IsFileOpen, ArePartsHeld, AsksForAttrs, AsksForRead, AsksForWrite, KeepsApart, LetsFileGo, SettlesFile, SettlesStatus, SparesIds, TakesPart, drops_file, drops_parts, nothing_held};
+ghost use Rattle.transfer_copy.specs.Holdings.{AsksFile, ClosesFile, DropsParts, HoldsAll, IsFileAsked, IsFileHeld, IsOnly, IsFileOpen, ArePartsHeld, AsksForAttrs, AsksForRead, AsksForWrite, KeepsApart, LetsFileGo, SettlesAttrs, SettlesFile, SettlesStatus, SparesIds, TakesPart, drops_file, drops_parts, nothing_held};
+ghost use Rattle.transfer_copy.specs.Refusals.{IsUnasked};
 ghost use Rattle.transfer_copy.specs.declared.holding.FileHold.{FileHold as FileValue};
 
 use crate::answers::{TicketAnswer, answer_to};
 use crate::copy_error::CopyError;
-use crate::refusals::{faulted, settled};
+use crate::refusals::{faulted, found, settled};
 use crate::submission::{submit, submit_write};
 use bytes::Bytes;
 use sftp_core::{Core, Grant, Ticket};
@@ -37,7 +38,7 @@ pub struct Part {
 pub enum FileHold {
     /// Nothing is open or in flight.
     Nothing,
-    /// A request of the file in flight: to open, close, rename or remove it.
+    /// A request of the file in flight: to open, close, rename, look for or remove it.
     Asked(Ticket, Expected),
     /// The file is open.
     Opened(Grant),
@@ -55,11 +56,11 @@ pub(crate) enum FileAnswer {
     Failed(Fault),
 }
 
-/// The result of a request of the file that a status answers.
+/// The result of a request of the file that OK or ATTRS answers if it is granted.
 pub(crate) enum StatusAnswer {
     /// The reply is missing, and no fault is kept.
     Missing,
-    /// The server answered with OK.
+    /// The server answered with OK, or with ATTRS if these were asked for.
     Done,
     /// The server answered otherwise, or a fault is kept.
     NotDone(CopyError),
@@ -142,9 +143,9 @@ impl Holding {
         requires call { is_call request.now ≡ true }
         requires held { HoldsAll core.old self.old }
         ensures ok { OnOk result (AsksFile core.old self.old request.now core.new self.new × KeepsApart self.old self.new core.old core.new) }
-        ensures unchanged { OnErr result ((core.new ≡ core.old) × (self.new ≡ self.old)) }
+        ensures refused { IfErr result (λ e. (core.new ≡ core.old) × (self.new ≡ self.old) × IsUnasked core.old request.now e) }
     {
-        // No `?`: the answer is named by the arm `Ok`, and `unchanged` is about this one.
+        // No `?`: the answer is named by the arm `Ok`, and `refused` is about this one.
         match submit(core, request) {
             Ok(ticket) => {
                 self.file
@@ -191,6 +192,24 @@ impl Holding {
             FileAnswer::Missing => StatusAnswer::Missing,
             FileAnswer::Granted => unreachable!(),
             FileAnswer::Came(reply) => match settled(reply) {
+                Ok(()) => StatusAnswer::Done,
+                Err(e) => StatusAnswer::NotDone(e),
+            },
+            FileAnswer::Failed(fault) => StatusAnswer::NotDone(faulted(fault)),
+        }
+    }
+
+    /// Returns the result of the request of the file, which ATTRS or a refusal answers, if nothing else is in flight.
+    pub(crate) fn settle_attrs(&mut self, core: &mut Core) -> StatusAnswer
+        requires only { IsOnly expected.Attrs self.old }
+        requires held { HoldsAll core.old self.old }
+        ensures answers { SettlesAttrs core.old self.old core.new self.new result }
+        ensures apart { KeepsApart self.old self.new core.old core.new }
+    {
+        match self.settle(core) {
+            FileAnswer::Missing => StatusAnswer::Missing,
+            FileAnswer::Granted => unreachable!(),
+            FileAnswer::Came(reply) => match found(reply) {
                 Ok(()) => StatusAnswer::Done,
                 Err(e) => StatusAnswer::NotDone(e),
             },

@@ -49,11 +49,13 @@ pub trait LocalFile {
     fn open(&mut self, name: &str, from: u64) -> Result<(), LocalError>
         ensures { HasDone Self.done (act_of result (Opened name.now from) ∷ []) (Self.history self.old) (Self.history self.new) };
 
-    /// Creates a file and opens it for writing from its start. It replaces a file that has the name.
+    /// Creates a file that does not exist, and opens it for writing from its start. A file that is only compared with the
+    /// bytes opens the existing one instead.
     ///
     /// # Errors
     ///
-    /// The error if the file can't be created; the history records the failed operation.
+    /// The error if the file can't be created. An entry that has the name, also a symbolic link, is such an error, and
+    /// stays as it is. The history records the failed operation.
     fn create(&mut self, name: &str) -> Result<(), LocalError>
         ensures { HasDone Self.done (act_of result (Created name.now) ∷ []) (Self.history self.old) (Self.history self.new) };
 

@@ -76,6 +76,16 @@ pub(crate) fn rename_request(
     Ok(Request::Rename { old, to })
 }
 
+/// Returns the LSTAT of a path. Fails only if an allocation fails.
+pub(crate) fn lstat_request(alloc: Global, name: &str) -> Result<Request, OutOfMemory>
+    ensures is { IfOk result (λ asked. asked ≡ request.Lstat name.now) }
+    ensures call { IfOk result (λ asked. is_call asked ≡ true) }
+{
+    Ok(Request::Lstat {
+        path: path(alloc, name)?,
+    })
+}
+
 /// Returns the REMOVE of a path. Fails only if an allocation fails.
 pub(crate) fn remove_request(alloc: Global, name: &str) -> Result<Request, OutOfMemory>
     ensures is { IfOk result (λ asked. asked ≡ request.Remove name.now) }

@@ -38,6 +38,8 @@ pub enum PutStage {
     Replacing,
     /// A plain RENAME is in flight.
     Renaming,
+    /// The LSTAT of the part file is in flight, after FAILURE refused a plain RENAME.
+    Checking,
     /// The REMOVE of a file with the name is in flight.
     Removing,
     /// The RENAME after the REMOVE is in flight.
@@ -66,21 +68,22 @@ pub struct FilePut {
     failure: Option<CopyError>,
 }
 
-/// Returns the options to open a file of the server for writing from an offset on. From 0 the file is created or
-/// truncated; otherwise it must exist.
+/// Returns the options to open a file of the server for writing from an offset on. From 0 the open must create the
+/// file; otherwise the file must exist.
 fn write_options(from: u64) -> OpenOptions
     ensures { flags_of result ≡ write_flags from }
 {
     let mut options = OpenOptions::new();
-    options.write(true).create(from == 0).truncate(from == 0);
+    options.write(true).create_new(from == 0);
     options
 }
 
 impl FilePut {
     /// Returns a copy that has asked for nothing, with at most `window` WRITEs in flight, and at least one. It starts
-    /// at the offset `from`: the part file has this many bytes. If `from` is 0, the part file is created or truncated.
-    /// If it is created, it has the permissions `mode`, as far as the server permits them. The part file is given the
-    /// attributes before it is closed.
+    /// at the offset `from`: the part file has this many bytes. If `from` is 0, the part file is created, with the
+    /// permissions `mode` as far as the server permits them. If an entry has its name already, also a symbolic link,
+    /// the server refuses the open and does not follow the link. The part file is given the attributes before it is
+    /// closed.
     pub fn new(
         alloc: Global,
         window: u32,
@@ -147,7 +150,8 @@ impl FilePut {
             PutStage::Writing => self.write(core, local),
             PutStage::Closing => self.close(core, part, remote),
             PutStage::Replacing => self.last(core),
-            PutStage::Renaming => self.rename(core, remote),
+            PutStage::Renaming => self.rename(core, part),
+            PutStage::Checking => self.check(core, remote),
             PutStage::Removing => self.remove(core, part, remote),
             PutStage::RenamingAgain => self.last(core),
             PutStage::Ended => unreachable!(),

@@ -1,21 +1,26 @@
 //! The failure of a copy, by the reply of the server or the fault of the session.
-ghost use Rattle.std.specs.Prelude.{◌≡◌, true, OnOk, OnErr};
-ghost use Rattle.sftp_model.specs.Answers.{allows_reply};
-ghost use Rattle.sftp_model.specs.declared.answers.Expected.TheVariants as expected;
-ghost use Rattle.transfer_copy.specs.Refusals.{IsOkStatus};
+ghost use Rattle.std.specs.Prelude.{◌≡◌, true, false, IfErr, OnOk, OnErr};
+ghost use Rattle.sftp_model.specs.Answers.{is_attrs};
+ghost use Rattle.sftp_model.specs.declared.error.Error.TheVariants as error;
+ghost use Rattle.transfer_copy.specs.declared.copy_error.CopyError.TheVariants as copy_error;
+ghost use Rattle.transfer_copy.specs.Refusals.{IsOkStatus, faulted_by, is_failure, refusal_of};
 
 use crate::copy_error::CopyError;
-use sftp_model::numbers::SSH_FX_OK;
+use sftp_model::numbers::{SSH_FX_FAILURE, SSH_FX_OK};
 use sftp_model::{Error, Fault, Reply};
 use sftp_values::ByteText;
 
 /// Returns the failure for a fault that the session keeps.
-pub(crate) fn faulted(fault: Fault) -> CopyError {
+pub(crate) fn faulted(fault: Fault) -> CopyError
+    ensures { result ≡ faulted_by fault }
+{
     CopyError::Remote(Error::BackgroundTaskFailure(fault))
 }
 
 /// Returns the failure for an unexpected status.
-pub(crate) fn status_failure(code: u32, message: ByteText, language: ByteText) -> CopyError {
+pub(crate) fn status_failure(code: u32, message: ByteText, language: ByteText) -> CopyError
+    ensures { result ≡ copy_error.Remote (error.SftpError code message language) }
+{
     CopyError::Remote(Error::SftpError {
         code,
         message,
@@ -24,7 +29,9 @@ pub(crate) fn status_failure(code: u32, message: ByteText, language: ByteText) -
 }
 
 /// Returns the failure for a reply that a request of the file had in place of the expected one.
-pub(crate) fn refused(reply: Reply) -> CopyError {
+pub(crate) fn refused(reply: Reply) -> CopyError
+    ensures { result ≡ refusal_of reply }
+{
     match reply {
         Reply::Status {
             code,
@@ -39,6 +46,7 @@ pub(crate) fn refused(reply: Reply) -> CopyError {
 pub(crate) fn settled(reply: Reply) -> Result<(), CopyError>
     ensures ok { OnOk result (IsOkStatus reply) }
     ensures err { OnErr result (IsOkStatus reply → ⊥) }
+    ensures why { IfErr result (λ e. e ≡ refusal_of reply) }
 {
     match reply {
         Reply::Status {
@@ -52,5 +60,26 @@ pub(crate) fn settled(reply: Reply) -> Result<(), CopyError>
             Err(status_failure(code, message, language))
         }
         other => Err(refused(other)),
+    }
+}
+
+/// Returns `Ok` exactly if the reply is ATTRS.
+pub(crate) fn found(reply: Reply) -> Result<(), CopyError>
+    ensures ok { OnOk result (is_attrs reply ≡ true) }
+    ensures err { OnErr result (is_attrs reply ≡ false) }
+{
+    match reply {
+        Reply::Attrs(_attrs) => Ok(()),
+        other => Err(refused(other)),
+    }
+}
+
+/// Returns true if the server answered with the status FAILURE, which names no cause.
+pub(crate) fn is_failure(e: &CopyError) -> bool
+    ensures { result ≡ is_failure e.now }
+{
+    match e {
+        CopyError::Remote(Error::SftpError { code, .. }) => *code == SSH_FX_FAILURE,
+        _ => false,
     }
 }

@@ -1,9 +1,10 @@
 //! Submits the requests of a copy.
-ghost use Rattle.std.specs.Prelude.{◌≡◌, [], ◌∷◌, true, IfOk, OnErr, IsSome};
+ghost use Rattle.std.specs.Prelude.{◌≡◌, [], ◌∷◌, true, IfErr, IfOk, OnErr, IsSome};
 ghost use Rattle.sftp_core.specs.Core.{is_call};
 ghost use Rattle.sftp_core.specs.Info.{info_of};
 ghost use Rattle.plan_state.specs.Asked.{SubmitsAsking};
 ghost use Rattle.plan_state.specs.declared.submission.Asking.TheVariants.{Whole, Parts};
+ghost use Rattle.transfer_copy.specs.Refusals.{IsUnasked, unsubmitted_by};
 
 use crate::copy_error::CopyError;
 use bytes::Bytes;
@@ -12,7 +13,9 @@ use sftp_model::{Error, Handle, IoKind, Request};
 use std::slice;
 
 /// Returns the failure of a copy whose request was not submitted.
-fn unsubmitted(e: SubmitError) -> CopyError {
+fn unsubmitted(e: SubmitError) -> CopyError
+    ensures { result ≡ unsubmitted_by e }
+{
     match e {
         SubmitError::Failed(fault) => CopyError::Remote(Error::BackgroundTaskFailure(fault)),
         SubmitError::TooLong => CopyError::Remote(Error::IOError(IoKind::PathTooLong)),
@@ -26,6 +29,7 @@ pub(crate) fn submit(core: &mut Core, request: &Request) -> Result<Ticket, CopyE
     requires call { is_call request.now ≡ true }
     ensures ok { IfOk result (λ ticket. SubmitsAsking core.old (Whole request.now) ticket core.new) }
     ensures unchanged { OnErr result (core.new ≡ core.old) }
+    ensures refused { IfErr result (λ e. IsUnasked core.old request.now e) }
 {
     if core.kept() >= MAX_IDS {
         return Err(CopyError::OutOfMemory);

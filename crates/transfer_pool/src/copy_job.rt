@@ -21,7 +21,7 @@ pub struct CopyJob {
     pub part: String,
     pub to: String,
     /// The number of bytes that the part file has already; the copy continues after them. With 0 the part file is
-    /// created or truncated.
+    /// created, and must not exist before.
     pub begins_at: u64,
     /// The permissions with which the part file is created, if they are known; the umask of its side may remove some.
     pub mode: Option<u32>,

@@ -1,27 +1,30 @@
 //! The end of a copy to the server: its file is closed and renamed.
-ghost use Rattle.std.specs.Prelude.{◌≡◌, Bool, true};
+ghost use Rattle.std.specs.Prelude.{◌≡◌, true, Some};
 ghost use Rattle.sftp_core.specs.Core.{is_call};
 ghost use Rattle.sftp_model.specs.Answers.{expected_of};
 ghost use Rattle.sftp_model.specs.declared.answers.Expected.TheVariants as expected;
 ghost use Rattle.sftp_model.specs.declared.request.Request.TheVariants as request;
 ghost use Rattle.transfer_copy.specs.declared.put.PutStage.TheVariants as stage;
 ghost use Rattle.transfer_copy.specs.Holdings.{IsOnly};
-ghost use Rattle.transfer_copy.specs.Puts.{AsksAt, AwaitsStatus, EndsWriting, IsBetween, IsClosedAt, MayPut, NamedOrRemoves, PutHasEnded, PutLeaves, PutNamed, RemovesTarget, rename_of, rename_stage};
+ghost use Rattle.transfer_copy.specs.Puts.{AsksAt, AwaitsStatus, ChecksOrFails, EndsWriting, FindsPart, IsBetween, IsClosedAt, MayPut, NamedOrChecks, PutHasEnded, PutLeaves, PutNamed, RemovesTarget, offers_rename, rename_of, rename_stage};
 
 use super::{FilePut, PutStage};
 use crate::copy_error::CopyError;
 use crate::holding::StatusAnswer;
-use crate::paths::{remove_request, rename_request};
+use crate::paths::{lstat_request, remove_request, rename_request};
 use crate::progress::Progress;
+use crate::refusals::is_failure;
 use bitflags::Flags;
 use sftp_core::Core;
 use sftp_model::{Extensions, Request};
 use ssh_encoding::OutOfMemory;
 
 /// Returns true if the server can replace a file by a rename (OpenSSH's PROTOCOL, section 4.3).
-fn replaces(core: &Core) -> bool {
+fn replaces(core: &Core) -> bool
+    ensures { result ≡ offers_rename core.now }
+{
     match core.info() {
-        Some(info) => info.extensions.contains(Extensions::POSIX_RENAME),
+        Some(info) => info.extensions.bits() & Extensions::POSIX_RENAME.bits() != 0,
         None => false,
     }
 }
@@ -66,7 +69,7 @@ impl FilePut {
     /// Asks for the part file to be renamed. The rename replaces a file that has the name, if the server can do that.
     fn name(&mut self, core: &mut Core, part: &str, remote: &str) -> Progress
         requires { IsBetween core.old self.old }
-        ensures did { (replaces : Bool) × AsksAt (rename_of part.now remote.now replaces) (rename_stage replaces) core.old self.old core.new self.new result }
+        ensures did { AsksAt (rename_of part.now remote.now (offers_rename core.old)) (rename_stage (offers_rename core.old)) core.old self.old core.new self.new result }
         ensures leaves { PutLeaves core.old self.old core.new self.new }
         ensures ended { PutHasEnded self.new.stage result }
     {
@@ -141,10 +144,10 @@ impl FilePut {
         }
     }
 
-    /// Continues with the status of a plain RENAME. If it is not OK, the file that has the name is removed first.
-    pub(super) fn rename(&mut self, core: &mut Core, remote: &str) -> Progress
+    /// Continues with the status of a plain RENAME.
+    pub(super) fn rename(&mut self, core: &mut Core, part: &str) -> Progress
         requires { MayPut core.old self.old × (self.old.stage ≡ stage.Renaming) }
-        ensures did { NamedOrRemoves remote.now core.old self.old core.new self.new result }
+        ensures did { NamedOrChecks part.now core.old self.old core.new self.new result }
         ensures leaves { PutLeaves core.old self.old core.new self.new }
         ensures ended { PutHasEnded self.new.stage result }
     {
@@ -154,7 +157,70 @@ impl FilePut {
                 self.stage = PutStage::Ended;
                 Progress::Ended(Ok(self.offset))
             }
-            StatusAnswer::NotDone(_e) => self.ask_remove(core, remote),
+            StatusAnswer::NotDone(e) => self.check_or_fail(core, part, e),
+        }
+    }
+
+    /// Continues after a plain RENAME was refused. If the refusal is FAILURE, which names no cause, a file may have the
+    /// name: the part file is looked for before that file is removed. Otherwise the copy ends.
+    fn check_or_fail(&mut self, core: &mut Core, part: &str, e: CopyError) -> Progress
+        requires { IsBetween core.old self.old }
+        ensures did { ChecksOrFails e part.now core.old self.old core.new self.new result }
+        ensures leaves { PutLeaves core.old self.old core.new self.new }
+        ensures ended { PutHasEnded self.new.stage result }
+    {
+        if is_failure(&e) {
+            self.failure = Some(e);
+            return self.ask_part(core, part);
+        }
+        self.stage = PutStage::Ended;
+        Progress::Ended(Err(e))
+    }
+
+    /// Asks for the attributes of the part file, without following a link.
+    fn ask_part(&mut self, core: &mut Core, part: &str) -> Progress
+        requires { IsBetween core.old self.old }
+        ensures did { AsksAt (request.Lstat part.now) stage.Checking core.old self.old core.new self.new result }
+        ensures leaves { PutLeaves core.old self.old core.new self.new }
+        ensures ended { PutHasEnded self.new.stage result }
+    {
+        let request = match lstat_request(core.alloc(), part) {
+            Ok(request) => request,
+            Err(OutOfMemory) => {
+                self.stage = PutStage::Ended;
+                return Progress::Ended(Err(CopyError::OutOfMemory));
+            }
+        };
+        match self.holding.ask(core, &request) {
+            Ok(()) => {
+                self.stage = PutStage::Checking;
+                Progress::Moved
+            }
+            Err(e) => {
+                self.stage = PutStage::Ended;
+                Progress::Ended(Err(e))
+            }
+        }
+    }
+
+    /// Continues with the attributes of the part file. If it is still there, the file that has the name is removed.
+    /// Otherwise the copy ends with the refusal of the RENAME.
+    pub(super) fn check(&mut self, core: &mut Core, remote: &str) -> Progress
+        requires { MayPut core.old self.old × (self.old.stage ≡ stage.Checking) }
+        ensures did { FindsPart remote.now core.old self.old core.new self.new result }
+        ensures leaves { PutLeaves core.old self.old core.new self.new }
+        ensures ended { PutHasEnded self.new.stage result }
+    {
+        match self.holding.settle_attrs(core) {
+            StatusAnswer::Missing => Progress::Waits,
+            StatusAnswer::Done => self.ask_remove(core, remote),
+            StatusAnswer::NotDone(e) => {
+                self.stage = PutStage::Ended;
+                match self.failure.take() {
+                    Some(first) => Progress::Ended(Err(first)),
+                    None => Progress::Ended(Err(e)),
+                }
+            }
         }
     }
 
