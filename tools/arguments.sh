@@ -95,7 +95,7 @@ expect 2 'sftp_serve: word 2 hex' sftp_serve 'dir 64' 'dir x'
 # A word is one line: a line feed within it separates no words.
 expect 2 'sftp_serve: word 1 count' sftp_serve "$(printf 'file 61 -\ndir 62')"
 
-refuse "unknown link 'no-such-argument', which is not unix:PATH, tcp:HOST:PORT or stdio" sftp_transfer no-such-argument
+refuse "unknown link 'no-such-argument', which is not ssh:PATH, unix:PATH, tcp:HOST:PORT, files:IN:OUT or stdio" sftp_transfer no-such-argument
 refuse "get, put or list is missing after 'unix:s'" sftp_transfer unix:s
 refuse "unknown command 'gte', which is not get, put or list" sftp_transfer unix:s gte a b
 refuse "unknown option '--resum'" sftp_transfer unix:s get --resum a b
@@ -104,13 +104,16 @@ refuse "unknown option '-rx'" sftp_transfer unix:s get -rx a b
 refuse "unknown option '--resume=1'" sftp_transfer unix:s get --resume=1 a b
 refuse "the number of '--files' is from 1 to 256, not '300'" sftp_transfer unix:s get --files=300 a b
 refuse "the number of '--limit' is from 1 to 1073741824, not '2G'" sftp_transfer unix:s get --limit 2G a b
-refuse "option '--files' needs a number" sftp_transfer unix:s put -r --files
+refuse "option '--files' needs a value" sftp_transfer unix:s put -r --files
 refuse "the number of '--window' is from 1 to 1024, not '1025'" sftp_transfer unix:s get --window 1025 a b
 refuse "the number of '--limit' is from 1 to 1073741824, not 'a'" sftp_transfer unix:s get --limit a b
 refuse "the number of '--timeout' is from 0 to 86400, not '86401'" sftp_transfer unix:s get --timeout 86401 a b
 refuse "the number of '--timeout' is from 0 to 86400, not ''" sftp_transfer unix:s list --timeout ''
 refuse "unknown option '--window'" sftp_transfer unix:s list --window 8
 refuse "unknown option '-l'" sftp_transfer unix:s get -l a b
+refuse "unknown link 'files:in', which is not ssh:PATH, unix:PATH, tcp:HOST:PORT, files:IN:OUT or stdio" sftp_transfer files:in get a b
+refuse "unknown option '-x'" sftp_transfer unix:s get a b -x
+refuse "the value of '--links' is as-is, not 'follow'" sftp_transfer unix:s get --links follow a b
 refuse "'get' needs a source and a target" sftp_transfer unix:s get -r a
 refuse "'put' needs a source and a target" sftp_transfer unix:s put -- -r
 refuse "'list' takes no argument 'b'" sftp_transfer unix:s list -l a b

@@ -1,22 +1,32 @@
 -- The last of some words.
-use Rattle.std.proofs.Common.{◌≡◌, ◌<◌, ◌-◌, ◌+◌, ℕ, List, [], ◌∷◌, ◌++◌, Some, length, map, take, refl, sym, ap, ◌∙◌, arith, get_or}
+use Rattle.std.proofs.Common.{◌≡◌, ◌<◌, ℕ, List, [], ◌∷◌, ◌++◌, Some, length, map, refl, ap, ◌∙◌, arith}
 use Rattle.std.specs.Option.{option_map}
-use Rattle.std.proofs.lemmas.List.{map-append, take_all, take_more}
-use Rattle.transfer_args.specs.Words.{split_last}
+use Rattle.std.proofs.lemmas.List.{map-append}
+use Rattle.transfer_args.specs.Words.{Copies, copy_of, copy_to, split_last}
+use Rattle.transfer_args.specs.declared.asked.Direction.{Direction}
+use Rattle.transfer_args.specs.declared.options.Options.{Options}
 
 split_snoc : (words : List (List ℕ)) (word : List ℕ) → split_last (words ++ word ∷ []) ≡ Some (words, word)
 split_snoc [] word = refl
 split_snoc (first ∷ []) word = refl
 split_snoc (first ∷ next ∷ words) word = ap (option_map (λ s. (first ∷ s.0, s.1))) (split_snoc (next ∷ words) word)
 
-pub split_mapped : {A : Type 0} (f : A → List ℕ) (words : List A) (d : A) → 0 < length words
-    → split_last (map f words) ≡ Some (map f (take (length words - 1) words), f (get_or words (length words - 1) d))
-split_mapped {A = A} f words d some =
-    let k : ℕ = length words - 1 in
-    let len : length words ≡ length words - 1 + 1 = omega (arith, some) in
-    let all : words ≡ take (length words - 1) words ++ get_or words (length words - 1) d ∷ [] =
-    sym (take_all (length words - 1 + 1) words (omega (arith, len)))
-    ∙ take_more words (length words - 1) d (omega (arith, some)) in
-    ap (λ (l : List A). split_last (map f l)) all
-    ∙ ap split_last (map-append f (take (length words - 1) words) (get_or words (length words - 1) d ∷ []))
-    ∙ split_snoc (map f (take (length words - 1) words)) (f (get_or words (length words - 1) d))
+copied_some : {A : Type 0} (way : Direction) (o : Options) (f : A → List ℕ) (sources : List A) (target : List ℕ)
+    → 0 < length sources → copy_to way o (Some (map f sources, target)) ≡ Some (Copies way o (map f sources) target)
+copied_some way o f [] target some = absurd (omega (arith, some))
+copied_some way o f (source ∷ sources) target some = refl
+
+-- The words before the last one are copied to it.
+pub copied_to : {A : Type 0} (way : Direction) (o : Options) (f : A → List ℕ) (all sources : List A) (target : A)
+    → all ≡ sources ++ target ∷ [] → 0 < length sources
+    → copy_of way o (map f all) ≡ Some (Copies way o (map f sources) (f target))
+copied_to {A = A} way o f all sources target last some =
+    ap (λ (l : List A). copy_of way o (map f l)) last
+    ∙ ap (copy_of way o) (map-append f sources (target ∷ []))
+    ∙ ap (copy_to way o) (split_snoc (map f sources) (f target))
+    ∙ copied_some way o f sources (f target) some
+
+-- One more word at the end.
+pub map_push : {A : Type 0} (f : A → List ℕ) (words : List A) (word : A)
+    → map f (words ++ word ∷ []) ≡ map f words ++ f word ∷ []
+map_push f words word = map-append f words (word ∷ [])

@@ -1,6 +1,7 @@
--- believed, except link_seen, work_seen, asked_seen
+-- believed, except link_seen, work_seen, asked_seen, Reads
 -- The meaning of a transfer's command line.
 use Rattle.std.specs.Prelude.{
+  ◌≡◌,
   ◌+◌,
   ◌-◌,
   ◌*◌,
@@ -13,6 +14,7 @@ use Rattle.std.specs.Prelude.{
   List,
   [],
   ◌∷◌,
+  ◌++◌,
   codes,
   drop,
   length,
@@ -22,12 +24,16 @@ use Rattle.std.specs.Prelude.{
   Option,
   Some,
   None,
+  Result,
+  Ok,
+  Err,
   if◌then◌else◌,
 }
 use Rattle.std.specs.List.{after_first, before_first, position_or_len, starts_with}
 use Rattle.std.specs.Option.{option_and_then, option_map}
 use Rattle.std.specs.Str.{bytes_eq}
-use Rattle.std.specs.String.{string_bytes}
+use Rattle.transfer_args.specs.declared.args_error.ArgsError.{ArgsError}
+use Rattle.transfer_args.specs.declared.args_error.ArgsError.TheVariants as args_error
 use Rattle.transfer_args.specs.declared.asked.Asked.{Asked}
 use Rattle.transfer_args.specs.declared.asked.LinkAt.{LinkAt}
 use Rattle.transfer_args.specs.declared.asked.LinkAt.TheVariants as link
@@ -35,9 +41,9 @@ use Rattle.transfer_args.specs.declared.asked.Direction.{Direction}
 use Rattle.transfer_args.specs.declared.asked.Direction.TheVariants.{Get, Put}
 use Rattle.transfer_args.specs.declared.asked.Work.{Work}
 use Rattle.transfer_args.specs.declared.asked.Work.TheVariants as work
-use Rattle.transfer_args.specs.declared.options.Counted.{Counted}
-use Rattle.transfer_args.specs.declared.options.Counted.TheVariants as counted
 use Rattle.transfer_args.specs.declared.options.Options.{Options}
+use Rattle.transfer_args.specs.declared.options.Valued.{Valued}
+use Rattle.transfer_args.specs.declared.options.Valued.TheVariants as valued
 use Rattle.transfer_args.specs.declared.options.Verb.{Verb}
 use Rattle.transfer_args.specs.declared.options.Verb.TheVariants as verb
 
@@ -100,6 +106,7 @@ plain_options = record {
   progress = false;
   resume = false;
   verify = false;
+  links_as_is = false;
   window = 64;
   files = 32;
   limit = 16777216;
@@ -136,46 +143,71 @@ flag_of verb o (hyphen ∷ []) = None
 flag_of verb o (hyphen ∷ letter ∷ letters) =
     if letter == 45 then long_flag_of verb o (hyphen ∷ letter ∷ letters) else letters_of verb o (letter ∷ letters)
 
--- The option of a copy that a number follows, if the word is one.
-abbrev pub copy_counted_by : List ℕ → Option Counted
-copy_counted_by word =
-    if bytes_eq word (codes "--window") then Some counted.Window
-    else if bytes_eq word (codes "--files") then Some counted.Files
-    else if bytes_eq word (codes "--limit") then Some counted.Limit
+-- The option of a copy that a value follows, if the word is one.
+abbrev pub copy_valued_by : List ℕ → Option Valued
+copy_valued_by word =
+    if bytes_eq word (codes "--window") then Some valued.Window
+    else if bytes_eq word (codes "--files") then Some valued.Files
+    else if bytes_eq word (codes "--limit") then Some valued.Limit
+    else if bytes_eq word (codes "--links") then Some valued.Links
     else None
 
--- The option that a number follows, if the word is one. Only the time limit is one of a listing too.
-abbrev pub counted_by : Verb → List ℕ → Option Counted
-counted_by verb.Copy word =
-    if bytes_eq word (codes "--timeout") then Some counted.Timeout else copy_counted_by word
-counted_by verb.List word = if bytes_eq word (codes "--timeout") then Some counted.Timeout else None
+-- The option that a value follows, if the word is one. Only the time limit is one of a listing too.
+abbrev pub valued_by : Verb → List ℕ → Option Valued
+valued_by verb.Copy word =
+    if bytes_eq word (codes "--timeout") then Some valued.Timeout else copy_valued_by word
+valued_by verb.List word = if bytes_eq word (codes "--timeout") then Some valued.Timeout else None
 
--- The options with the number that a word writes: a window of at most 1024, at most 256 files at once, at most
--- 1073741824 bytes in flight, or a time limit of at most 86400 seconds, where 0 is none.
-abbrev pub with_count : Options → Counted → List ℕ → Option Options
-with_count o counted.Window word = option_map (λ n. record o { window = n }) (number_in 1 1024 word)
-with_count o counted.Files word = option_map (λ n. record o { files = n }) (number_in 1 256 word)
-with_count o counted.Limit word = option_map (λ n. record o { limit = n }) (size_in 1 1073741824 word)
-with_count o counted.Timeout word = option_map (λ n. record o { timeout = n }) (number_in 0 86400 word)
+-- The options with the value that a word writes: links as they are, a window of at most 1024, at most 256 files at
+-- once, at most 1073741824 bytes in flight, or a time limit of at most 86400 seconds, where 0 is none.
+abbrev pub with_value : Options → Valued → List ℕ → Option Options
+with_value o valued.Links word = if bytes_eq word (codes "as-is") then Some (record o { links_as_is = true }) else None
+with_value o valued.Window word = option_map (λ n. record o { window = n }) (number_in 1 1024 word)
+with_value o valued.Files word = option_map (λ n. record o { files = n }) (number_in 1 256 word)
+with_value o valued.Limit word = option_map (λ n. record o { limit = n }) (size_in 1 1073741824 word)
+with_value o valued.Timeout word = option_map (λ n. record o { timeout = n }) (number_in 0 86400 word)
 
 -- ---- The address of the server
 
--- The address at which the server listens, or standard input and output.
+-- The control socket of an ssh connection, the address at which the server listens, the files that carry replies and
+-- requests, or standard input and output.
 pub data LinkWord : Type 0 where
+  AtSsh : List ℕ → LinkWord
   AtUnix : List ℕ → LinkWord
   AtTcp : List ℕ → LinkWord
+  AtFiles : List ℕ → List ℕ → LinkWord
   AtStdio : LinkWord
 
-abbrev pub link_at : List ℕ → Option LinkWord
-link_at word =
-    if bytes_eq word (codes "stdio") then Some AtStdio
+-- True for a colon.
+abbrev pub is_colon : ℕ → Bool
+is_colon b = b == 58
+
+-- The names of two files, with the first colon between them.
+abbrev pub files_at : List ℕ → Option LinkWord
+files_at word =
+    if nat_lt (position_or_len is_colon word) (length word) then
+    Some (AtFiles (before_first is_colon word) (after_first is_colon word))
+    else None
+
+-- The address of a socket.
+abbrev pub socket_at : List ℕ → Option LinkWord
+socket_at word =
+    if starts_with ◌==◌ word (codes "ssh:") then Some (AtSsh (drop 4 word))
     else if starts_with ◌==◌ word (codes "unix:") then Some (AtUnix (drop 5 word))
     else if starts_with ◌==◌ word (codes "tcp:") then Some (AtTcp (drop 4 word))
     else None
 
+abbrev pub link_at : List ℕ → Option LinkWord
+link_at word =
+    if bytes_eq word (codes "stdio") then Some AtStdio
+    else if starts_with ◌==◌ word (codes "files:") then files_at (drop 6 word)
+    else socket_at word
+
 abbrev pub link_seen : LinkAt → LinkWord
+link_seen (link.Ssh path) = AtSsh path.now
 link_seen (link.Unix path) = AtUnix path.now
 link_seen (link.Tcp address) = AtTcp address.now
+link_seen (link.Files replies requests) = AtFiles replies.now requests.now
 link_seen link.Stdio = AtStdio
 
 -- ---- Options and operands
@@ -184,36 +216,37 @@ link_seen link.Stdio = AtStdio
 abbrev pub is_option : List ℕ → Bool
 is_option word = starts_with ◌==◌ word (codes "-")
 
--- The value for an option that a number follows, or the other value if there is no such option.
-abbrev pub by_counted : {A : Type 0} → (Counted → A) → A → Option Counted → A
-by_counted with_number other None = other
-by_counted with_number other (Some counted) = with_number counted
+-- The result for an option that a value follows, or the other result if there is no such option.
+abbrev pub by_valued : {A : Type 0} → (Valued → A) → A → Option Valued → A
+by_valued valued_one other None = other
+by_valued valued_one other (Some option) = valued_one option
 
 -- True for an equals sign.
 abbrev pub is_equals : ℕ → Bool
 is_equals b = b == 61
 
--- The options after an option that is one word: its name and its number with an equals sign between them, or a flag.
+-- The options after an option that is one word: its name and its value with an equals sign between them, or a flag.
 abbrev pub option_of : Verb → Options → List ℕ → Option Options
 option_of verb o word =
     if nat_lt (position_or_len is_equals word) (length word) then
-    by_counted (λ counted. with_count o counted (after_first is_equals word)) None
-    (counted_by verb (before_first is_equals word))
+    by_valued (λ option. with_value o option (after_first is_equals word)) None
+    (valued_by verb (before_first is_equals word))
     else flag_of verb o word
 
--- The options at the front, and the words after them. A word that begins with "-" is an option, and "--" ends the
--- options. An option that takes a number has it after an equals sign, or as the next word.
-abbrev pub options_by : Verb → Options → Option Counted → List (List ℕ) → Option (Options × List (List ℕ))
-options_by verb o None [] = Some (o, [])
-options_by verb o (Some counted) [] = None
-options_by verb o (Some counted) (word ∷ words) = option_and_then (λ more. options_by verb more None words)
-    (with_count o counted word)
-options_by verb o None (word ∷ words) =
-    if bytes_eq word (codes "--") then Some (o, words)
-    else by_counted (λ counted. options_by verb o (Some counted) words)
-    (if is_option word then option_and_then (λ more. options_by verb more None words) (option_of verb o word)
-    else Some (o, word ∷ words))
-    (counted_by verb word)
+-- The options among the words, and the operands: those before, and then the words that are neither options nor their
+-- values. A word that begins with "-" is an option, and after "--" each word is an operand. An option that takes a value
+-- has it after an equals sign, or as the next word.
+abbrev pub options_by : Verb → Options → Option Valued → List (List ℕ) → List (List ℕ) → Option (Options × List (List ℕ))
+options_by verb o None before [] = Some (o, before)
+options_by verb o (Some option) before [] = None
+options_by verb o (Some option) before (word ∷ words) =
+    option_and_then (λ more. options_by verb more None before words) (with_value o option word)
+options_by verb o None before (word ∷ words) =
+    if bytes_eq word (codes "--") then Some (o, before ++ words)
+    else by_valued (λ option. options_by verb o (Some option) before words)
+    (if is_option word then option_and_then (λ more. options_by verb more None before words) (option_of verb o word)
+    else options_by verb o None (before ++ word ∷ []) words)
+    (valued_by verb word)
 
 -- ---- The work
 
@@ -229,13 +262,17 @@ pub data WorkWords : Type 0 where
   Lists : Options → List ℕ → WorkWords
 
 -- One source or more, and the target.
-abbrev pub copy_of : Direction → Options → Option (List (List ℕ) × List ℕ) → Option WorkWords
-copy_of way o None = None
-copy_of way o (Some ([], target)) = None
-copy_of way o (Some (source ∷ sources, target)) = Some (Copies way o (source ∷ sources) target)
+abbrev pub copy_to : Direction → Options → Option (List (List ℕ) × List ℕ) → Option WorkWords
+copy_to way o None = None
+copy_to way o (Some ([], target)) = None
+copy_to way o (Some (source ∷ sources, target)) = Some (Copies way o (source ∷ sources) target)
+
+-- The last operand is the target.
+abbrev pub copy_of : Direction → Options → List (List ℕ) → Option WorkWords
+copy_of way o operands = copy_to way o (split_last operands)
 
 abbrev pub copy_by : Direction → List (List ℕ) → Option WorkWords
-copy_by way words = option_and_then (λ r. copy_of way r.0 (split_last r.1)) (options_by verb.Copy plain_options None words)
+copy_by way words = option_and_then (λ r. copy_of way r.0 r.1) (options_by verb.Copy plain_options None [] words)
 
 -- A directory. Without one it is the directory in which the session starts.
 abbrev pub list_at : Options → List (List ℕ) → Option WorkWords
@@ -244,7 +281,7 @@ list_at o (path ∷ []) = Some (Lists o path)
 list_at o (path ∷ another ∷ words) = None
 
 abbrev pub list_by : List (List ℕ) → Option WorkWords
-list_by words = option_and_then (λ r. list_at r.0 r.1) (options_by verb.List plain_options None words)
+list_by words = option_and_then (λ r. list_at r.0 r.1) (options_by verb.List plain_options None [] words)
 
 abbrev pub work_by : List ℕ → List (List ℕ) → Option WorkWords
 work_by verb words =
@@ -271,8 +308,14 @@ asked_by (word ∷ verb ∷ words) = option_and_then (λ at. option_and_then (as
 -- ---- The values of the code
 
 abbrev pub work_seen : Work → WorkWords
-work_seen (work.Copy t) = Copies t.way t.options (map string_bytes t.sources.now) t.target.now
+work_seen (work.Copy t) = Copies t.way t.options (map (λ w. w.now) t.sources.items) t.target.now
 work_seen (work.List l) = Lists l.options l.path.now
 
 abbrev pub asked_seen : Asked → LinkWord × WorkWords
 asked_seen a = (link_seen a.link, work_seen a.work)
+
+-- The command line is read as the definition says, unless an allocation fails.
+abbrev pub Reads : {A B : Type 0} → (A → B) → Result A ArgsError → Option B → Type 0
+Reads seen (Ok value) expected = expected ≡ Some (seen value)
+Reads seen (Err args_error.Refused) expected = expected ≡ None
+Reads seen (Err args_error.OutOfMemory) expected = Unit {0}

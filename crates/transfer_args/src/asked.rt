@@ -17,10 +17,14 @@ pub enum Direction {
 /// Used in `crates/sftp_transfer/src/terminal.rt`.
 #[derive(Clone, Copy, Debug, PartialEq, Eq)]
 pub enum LinkAt<'a> {
+    /// A channel of the ssh connection whose control socket is at this path.
+    Ssh(&'a str),
     /// The Unix socket at this path.
     Unix(&'a str),
     /// This host and port, separated by a colon.
     Tcp(&'a str),
+    /// Two files, such as named pipes: the first carries the replies, and the second the requests.
+    Files(&'a str, &'a str),
     /// Standard input, which carries its replies, and standard output, which carries the requests.
     Stdio,
 }
@@ -28,14 +32,14 @@ pub enum LinkAt<'a> {
 /// Files to copy.
 ///
 /// Used in `crates/transfer_args/src/parser.rt`.
-#[derive(Clone, Copy)]
+#[derive(Drop)]
 pub struct Transfer<'a> {
     /// The direction.
     pub way: Direction,
     /// The options of the copy.
     pub options: Options,
     /// The files to copy; with `-r` also directories.
-    pub sources: &'a [String],
+    pub sources: Vec<&'a str>,
     /// The file or directory to copy to.
     pub target: &'a str,
 }
@@ -54,7 +58,7 @@ pub struct Listing<'a> {
 /// The work that a command line asks for.
 ///
 /// Used in `crates/sftp_transfer/src/terminal.rt`.
-#[derive(Clone, Copy)]
+#[derive(Drop)]
 pub enum Work<'a> {
     /// Copies files.
     Copy(Transfer<'a>),
@@ -75,7 +79,7 @@ impl<'a> Work<'a> {
 /// The request of a command line: a server and the work to do there.
 ///
 /// Used in `crates/transfer_args/src/parser.rt`.
-#[derive(Clone, Copy)]
+#[derive(Drop)]
 pub struct Asked<'a> {
     /// The address of the server.
     pub link: LinkAt<'a>,

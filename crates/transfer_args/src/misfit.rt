@@ -1,6 +1,7 @@
 //! The reason why a command line can't be used.
-use crate::options::{Counted, Verb};
-use crate::parser::{counted_by, link_at, options_by, plain_options, with_count, with_option};
+use crate::options::{Valued, Verb};
+use crate::parser::{link_at, options_by, plain_options, valued_by, with_option, with_value};
+use std::alloc::Global;
 use std::fmt;
 
 /// The reason why a command line can't be used.
@@ -18,11 +19,13 @@ pub enum Misfit<'a> {
     UnknownVerb(&'a str),
     /// An argument begins with `-`, and is no option.
     UnknownOption(&'a str),
-    /// Nothing follows this option, which a number has to follow.
-    NoNumber(&'a str),
+    /// Nothing follows this option, which a value has to follow.
+    NoValue(&'a str),
     /// What follows this option is not a number in this range.
     BadNumber(&'a str, (u32, u32), &'a str),
-    /// Fewer than two operands follow this verb and its options.
+    /// What follows this option is not `as-is`.
+    BadLinks(&'a str),
+    /// Fewer than two operands follow this verb, besides its options.
     FewOperands(&'a str),
     /// This argument follows the directory to list.
     ManyOperands(&'a str),
@@ -30,69 +33,73 @@ pub enum Misfit<'a> {
     ListsStdio,
 }
 
-/// Returns the least and the greatest number of an option.
-fn range_of(counted: Counted) -> (u32, u32) {
-    match counted {
-        Counted::Window => (1, 1024),
-        Counted::Files => (1, 256),
-        Counted::Limit => (1, 1073741824),
-        Counted::Timeout => (0, 86400),
-    }
+/// Returns the reason why a word is no value of an option.
+fn bad_value<'a>(option: &'a str, valued: Valued, word: &'a str) -> Misfit<'a> {
+    let range = match valued {
+        Valued::Links => return Misfit::BadLinks(word),
+        Valued::Window => (1, 1024),
+        Valued::Files => (1, 256),
+        Valued::Limit => (1, 1073741824),
+        Valued::Timeout => (0, 86400),
+    };
+    Misfit::BadNumber(option, range, word)
 }
 
 /// Returns the reason why a word can't be used that begins with `-`.
 fn bad_word(verb: Verb, word: &str) -> Misfit<'_> {
-    if let Some((name, number)) = word.split_once('=') {
-        if let Some(counted) = counted_by(verb, name) {
-            return Misfit::BadNumber(name, range_of(counted), number);
+    if let Some((name, value)) = word.split_once('=') {
+        if let Some(valued) = valued_by(verb, name) {
+            return bad_value(name, valued, value);
         }
     }
     Misfit::UnknownOption(word)
 }
 
-/// Returns the reason why the options at the front can't be used, if it is one of them.
+/// Returns the reason why the options among these words can't be used, if it is one of them.
 fn bad_option(verb: Verb, words: &[String]) -> Option<Misfit<'_>> {
     let options = plain_options();
     let mut awaited = None;
     for word in words {
         let word = word.as_str();
-        if let Some((option, counted)) = awaited {
-            if with_count(options, counted, word).is_none() {
-                return Some(Misfit::BadNumber(option, range_of(counted), word));
+        if let Some((option, valued)) = awaited {
+            if with_value(options, valued, word).is_none() {
+                return Some(bad_value(option, valued, word));
             }
             awaited = None;
-        } else if let Some(counted) = counted_by(verb, word) {
-            awaited = Some((word, counted));
-        } else if word == "--" || !word.starts_with('-') {
+        } else if let Some(valued) = valued_by(verb, word) {
+            awaited = Some((word, valued));
+        } else if word == "--" {
             return None;
-        } else if with_option(verb, options, word).is_none() {
+        } else if word.starts_with('-') && with_option(verb, options, word).is_none() {
             return Some(bad_word(verb, word));
         }
     }
     match awaited {
-        Some((option, _)) => Some(Misfit::NoNumber(option)),
+        Some((option, _)) => Some(Misfit::NoValue(option)),
         None => None,
     }
 }
 
 /// Returns the reason why the arguments after the verb of a copy can't be used, or `None` if they can.
-fn copy_misfit<'a>(verb: &'a str, words: &'a [String]) -> Option<Misfit<'a>> {
+fn copy_misfit<'a>(alloc: Global, verb: &'a str, words: &'a [String]) -> Option<Misfit<'a>> {
     if let Some(found) = bad_option(Verb::Copy, words) {
         return Some(found);
     }
-    match options_by(Verb::Copy, words) {
-        Some((_, [_, _, ..])) => None,
-        _ => Some(Misfit::FewOperands(verb)),
+    match options_by(alloc, Verb::Copy, words) {
+        Ok((_, operands)) if operands.len() < 2 => Some(Misfit::FewOperands(verb)),
+        _ => None,
     }
 }
 
 /// Returns the reason why the arguments after `list` can't be used, or `None` if they can.
-fn list_misfit<'a>(link: &str, words: &'a [String]) -> Option<Misfit<'a>> {
+fn list_misfit<'a>(alloc: Global, link: &str, words: &'a [String]) -> Option<Misfit<'a>> {
     if let Some(found) = bad_option(Verb::List, words) {
         return Some(found);
     }
-    if let Some((_, [_, word, ..])) = options_by(Verb::List, words) {
-        return Some(Misfit::ManyOperands(word.as_str()));
+    if let Ok((_, operands)) = options_by(alloc, Verb::List, words) {
+        if let [_, word, ..] = operands.as_slice() {
+            return Some(Misfit::ManyOperands(*word));
+        }
     }
     if link == "stdio" {
         return Some(Misfit::ListsStdio);
@@ -100,8 +107,8 @@ fn list_misfit<'a>(link: &str, words: &'a [String]) -> Option<Misfit<'a>> {
     None
 }
 
-/// Returns the reason why a command line can't be used, or `None` if it can.
-pub fn misfit_of(words: &[String]) -> Option<Misfit<'_>> {
+/// Returns the reason why a command line can't be used, or `None` if it can or an allocation fails.
+pub fn misfit_of(alloc: Global, words: &[String]) -> Option<Misfit<'_>> {
     let [link, later @ ..] = words else {
         return Some(Misfit::Missing);
     };
@@ -114,9 +121,9 @@ pub fn misfit_of(words: &[String]) -> Option<Misfit<'_>> {
     };
     let verb = verb.as_str();
     if verb == "get" || verb == "put" {
-        copy_misfit(verb, rest)
+        copy_misfit(alloc, verb, rest)
     } else if verb == "list" {
-        list_misfit(link, rest)
+        list_misfit(alloc, link, rest)
     } else {
         Some(Misfit::UnknownVerb(verb))
     }
@@ -128,19 +135,20 @@ impl fmt::Display for Misfit<'_> {
             Misfit::Missing => write!(f, "missing argument"),
             Misfit::UnknownLink(word) => write!(
                 f,
-                "unknown link '{word}', which is not unix:PATH, tcp:HOST:PORT or stdio"
+                "unknown link '{word}', which is not ssh:PATH, unix:PATH, tcp:HOST:PORT, files:IN:OUT or stdio"
             ),
             Misfit::NoVerb(link) => write!(f, "get, put or list is missing after '{link}'"),
             Misfit::UnknownVerb(word) => {
                 write!(f, "unknown command '{word}', which is not get, put or list")
             }
             Misfit::UnknownOption(word) => write!(f, "unknown option '{word}'"),
-            Misfit::NoNumber(option) => write!(f, "option '{option}' needs a number"),
+            Misfit::NoValue(option) => write!(f, "option '{option}' needs a value"),
             Misfit::BadNumber(option, range, word) => write!(
                 f,
                 "the number of '{option}' is from {} to {}, not '{word}'",
                 range.0, range.1
             ),
+            Misfit::BadLinks(word) => { write!(f, "the value of '--links' is as-is, not '{word}'") }
             Misfit::FewOperands(verb) => write!(f, "'{verb}' needs a source and a target"),
             Misfit::ManyOperands(word) => write!(f, "'list' takes no argument '{word}'"),
             Misfit::ListsStdio => write!(

@@ -19,6 +19,8 @@ pub struct Options {
     pub resume: bool,
     /// `--verify`: reads files back from the server and compares them.
     pub verify: bool,
+    /// `--links as-is`: also copies symbolic links that lead out of the tree that is copied.
+    pub links_as_is: bool,
     /// `--window N`: the requests in flight for one file, from 1 to 1024.
     pub window: u32,
     /// `--files N`: the files copied at the same time, from 1 to 256.
@@ -38,9 +40,11 @@ pub(crate) enum Verb {
     List,
 }
 
-/// An option that a number follows.
+/// An option that a value follows: a number, except for `--links`.
 #[derive(Clone, Copy, Debug, PartialEq, Eq)]
-pub(crate) enum Counted {
+pub(crate) enum Valued {
+    /// `--links`.
+    Links,
     /// `--window`.
     Window,
     /// `--files`.
