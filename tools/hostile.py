@@ -127,6 +127,8 @@ class Server:
         return self.status(id, OK)
 
     def opened(self, id, path, flags):
+        if flags & 32 and path in self.files:
+            return self.status(id, FAILURE)
         if flags & 8:
             self.files.setdefault(path, b"")
         if flags & 16:
@@ -188,6 +190,15 @@ class Twice(Tree):
 
 class LeftPart(Tree):
     names = [(b".a.part", FILE), (b"a", FILE)]
+
+
+class LongName(Tree):
+    names = [(b"n" * 256, FILE), (b"a", FILE)]
+
+
+class EndlessDots(Tree):
+    def entries(self, path, asked):
+        return [(b".", FOLDER), (b"..", FOLDER)] * 1000
 
 
 class LinkAndFolder(Tree):
@@ -399,6 +410,8 @@ def put_file(program, server, status, cause, wanted):
         expect(case, ended == status, f"status {ended}, {status} wanted: {told[:200]}")
         expect(case, cause in told, f"{cause!r} isn't told: {told[:200]}")
         expect(case, server.files.get(b"/up") == wanted, "there are other bytes under the name")
+        if status == 1:
+            expect(case, not server.files.keys() - {b"/up", b"/a"}, f"a part is left: {sorted(server.files)}")
 
 
 def put_tree(program, server, status, cause, wanted):
@@ -420,13 +433,13 @@ def break_everywhere(program):
     whole = Counts()
     get_file(program, whole, 0, "", whole.files[b"/a"])
     for left in range(1, whole.sent):
-        get_file(program, Breaks(left), 1, "sftp_transfer:", None)
+        get_file(program, Breaks(left), 7, "sftp_transfer:", None)
     whole = Counts()
     put_file(program, whole, 0, "", b"abc" * 100)
     for left in range(1, whole.sent):
         server = Breaks(left)
         # the rename may have been done before its status was cut off
-        put_file(program, server, 1, "sftp_transfer:", server_left(server, left, whole.sent))
+        put_file(program, server, 7, "sftp_transfer:", server_left(server, left, whole.sent))
 
 
 def server_left(server, left, whole):
@@ -449,7 +462,9 @@ def main():
     get_tree(program, LeadsOut(), 1, "skipped: the name leads out of its directory", {"in/t/a": line(b"a"), "in/t/b": line(b"b")})
     found = get_tree(program, Twice(), 1, "another file is copied to the same path", {"in/t/a": None, "in/t/b": None})
     expect("Twice", len(set(found.get("in/t/a", b"").split(b"/"))) <= 3, "the bytes of two files are mixed")
-    get_tree(program, LeftPart(), 1, "another file is written under this name", {"in/t/a": line(b"a")})
+    get_tree(program, LeftPart(), 0, "", {"in/t/a": line(b"a"), "in/t/.a.part": line(b".a.part")})
+    get_tree(program, LongName(), 1, "skipped: the name has more than 255 bytes", {"in/t/a": line(b"a")})
+    get_tree(program, EndlessDots(), 1, "more than 1000000 entries", {})
     get_tree(program, LinkAndFolder(), 1, "sftp_transfer:", {"in/t/d/x": b"x"})
     get_tree(program, Endless(), 1, "more than 1000000 entries", {})
     get_tree(program, EndlessDepth(), 1, "more than 64 nested directories", {})

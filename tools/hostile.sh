@@ -1,5 +1,6 @@
 #!/bin/sh
-# Runs sftp_transfer over the servers of tools/hostile.py, which misbehave, one a case. Where python3 is missing it says so, and passes.
+# Runs sftp_transfer over the servers of tools/hostile.py, which misbehave, and of tools/scenes.py, which are odd, one a
+# case. If python3 is missing it says so, and passes.
 # Another program than the one that `rt ci` built may be given as an argument.
 set -u
 case ${1-} in
@@ -17,4 +18,4 @@ if ! [ -x "$program" ]; then
     echo "hostile: $program is missing: run 'rt ci' first, or 'rt run' in crates/sftp_transfer"
     exit 1
 fi
-exec python3 tools/hostile.py "$program"
+python3 tools/hostile.py "$program" && exec python3 -B tools/scenes.py "$program"

@@ -1,8 +1,9 @@
 #!/bin/sh
-# Runs sftp_transfer over OpenSSH's SFTP server: files of several sizes and trees down and up, and compares them; what is listed;
-# what stands where a file is missing, a name can't be used, or the server ends in the middle; what goes on behind a part that is
-# there, and what is read back; and what comes of a server whose names lead out of their folder. It installs nothing: where the server or socat is missing it says which, and passes. Another
-# program than the one that `rt ci` built may be given as an argument.
+# Runs sftp_transfer over OpenSSH's SFTP server: files of several sizes and trees down and up, and compares them; what is
+# listed; what is left if a file is missing, a name can't be used, a disk is full, or the server ends in the middle; what
+# continues after a part, and what is read back; two runs at once on one target; links, pipes and long names; and a server
+# whose names lead out of their directory. It installs nothing: if the server or socat is missing it says which, and
+# passes. Another program than the one that `rt ci` built may be given as an argument.
 set -u
 cd "$(dirname "$0")/.." || exit 1
 
@@ -125,6 +126,32 @@ tell 'pipes block again after the program' $?
 exec 5>&- 6>&-
 rm -f "$room/near/file" "$room/requests" "$room/replies"
 
+# two pipes by their names; the server may open its ends in any order
+mkfifo "$room/requests" "$room/replies"
+for order in 1 2; do
+    case $order in
+    1) sh -c "timeout 60 $server <'$room/requests' >'$room/replies'" 2>/dev/null & ;;
+    2) sh -c "timeout 60 $server >'$room/replies' <'$room/requests'" 2>/dev/null & ;;
+    esac
+    timeout 60 "$program" "files:$room/replies:$room/requests" get "$room/far/file" "$room/near/file" 2>"$room/err"
+    status=$?
+    wait $!
+    [ $status -eq 0 ] && cmp "$room/far/file" "$room/near/file" && ! [ -s "$room/err" ]
+    tell "a file down over two named pipes, order $order" $?
+    rm -f "$room/near/file"
+done
+sh -c "timeout 60 $server <'$room/requests' >'$room/replies'" 2>/dev/null &
+timeout 60 "$program" "files:$room/replies:$room/requests" list "$room/far" >"$room/out" 2>"$room/err"
+status=$?
+wait $!
+[ $status -eq 0 ] && grep -qx file "$room/out" && ! [ -s "$room/err" ]
+tell 'a listing over two named pipes' $?
+rm -f "$room/requests" "$room/replies"
+timeout 60 "$program" "files:$room/far/file:$room/far/file" list >"$room/out" 2>"$room/err"
+status=$?
+[ $status -eq 6 ] && [ "$(wc -l <"$room/err")" -eq 1 ]
+tell 'files that are no pipes' $?
+
 timeout 60 "$program" stdio get "$room/far/file" "$room/near/file" </dev/null >"$room/out" 2>"$room/err"
 status=$?
 [ $status -eq 6 ] && grep -q '^sftp_transfer: stdio: ' "$room/err" && [ "$(wc -l <"$room/err")" -eq 1 ]
@@ -137,7 +164,7 @@ for work in "get $room/far/file $room/near/file" "list $room/far"; do
     # shellcheck disable=SC2086
     timeout 20 "$program" "unix:$room/silent" "${work%% *}" --timeout 1 $words >"$room/out" 2>"$room/err"
     status=$?
-    [ $status -eq 1 ] && [ "$(tail -n 1 "$room/err")" = 'sftp_transfer: the server was silent for 1 seconds' ] &&
+    [ $status -eq 7 ] && [ "$(tail -n 1 "$room/err")" = 'sftp_transfer: the server was silent for 1 seconds' ] &&
         ! [ -s "$room/out" ]
     tell "a silent server, for ${work%% *}" $?
 done
@@ -157,7 +184,7 @@ fifth=$!
 port=
 tries=0
 while [ -z "$port" ] && [ $tries -lt 100 ]; do
-    port=$(sed -n 's/.*listening on AF=2 127.0.0.1:\([0-9]*\)$/\1/p' "$room/heard")
+    port=$(sed -n 's/.*listening on AF=2 127.0.0.1:\([0-9]*\)$/\1/p' "$room/heard" 2>/dev/null)
     [ -n "$port" ] || sleep 0.1
     tries=$((tries + 1))
 done
@@ -171,6 +198,16 @@ timeout 60 "$program" "tcp:127.0.0.1:$port" get "$room/far/file" "$room/near/fil
 status=$?
 [ $status -eq 6 ] && [ "$(wc -l <"$room/err")" -eq 1 ] && [ -z "$(ls -A "$room/near")" ]
 tell 'nobody at a TCP port' $?
+socat "UNIX-LISTEN:$room/banner" "SYSTEM:echo SSH-2.0-OpenSSH_9.2; sleep 1" 2>/dev/null &
+socat "TCP-LISTEN:$port,bind=127.0.0.1,reuseaddr" "UNIX-CONNECT:$room/banner,retry=20,interval=0.1" 2>/dev/null &
+fifth=$!
+sleep 0.5
+timeout 60 "$program" "tcp:127.0.0.1:$port" list >"$room/out" 2>"$room/err"
+status=$?
+kill $fifth 2>/dev/null
+[ $status -eq 1 ] && [ "$(sed -n 2p "$room/err")" = \
+    'sftp_transfer: an ssh server is reached by ssh:PATH, the control socket of its connection' ]
+tell 'an ssh server at a TCP port' $?
 
 # ---- what is refused, with the cause and the file on one line
 
@@ -195,15 +232,18 @@ tell 'a word too few' $?
 
 printf old >"$room/near/file"
 run reads get "$room/far/other" "$room/near/file"
-[ $status -eq 1 ] && [ "$(cat "$room/near/file")" = old ] && [ "$(wc -l <"$room/err")" -eq 1 ]
+[ $status -eq 7 ] && [ "$(cat "$room/near/file")" = old ] &&
+    [ "$(cat "$room/err")" = 'sftp_transfer: the session: the link ended while a reply was due' ]
 tell 'a server that ends while a file comes down' $?
+rm -f "$room"/near/.file.*.part
 head -c 8000000 /dev/urandom >"$room/near/big"
 printf old >"$room/far/big"
 run writes put "$room/near/big" "$room/far/big"
-[ $status -eq 1 ] && [ "$(cat "$room/far/big")" = old ] && [ "$(wc -l <"$room/err")" -eq 1 ]
+[ $status -eq 7 ] && [ "$(cat "$room/far/big")" = old ] && [ "$(wc -l <"$room/err")" -eq 1 ]
 tell 'a server that ends while a file goes up' $?
+rm -f "$room"/far/.big.*.part
 run socket put "$room/near/big" "$room/far/big"
-[ $status -eq 0 ] && cmp "$room/near/big" "$room/far/big" && ! [ -e "$room/far/.big.part" ]
+[ $status -eq 0 ] && cmp "$room/near/big" "$room/far/big" && ! ls "$room"/far/.big* >"$room/out" 2>&1
 tell 'the same file once more' $?
 
 # ---- what goes on behind a part, and what is read back
@@ -221,13 +261,19 @@ cp "$room/far/file" "$room/near/other"
 mixed "$room/far/file" 40000 "$room/mixed"
 for way in down up; do
     case $way in
-    down) set -- get "$room/far/file" "$room/near/got" "$room/near/.got.part" ;;
-    up) set -- put "$room/near/other" "$room/far/got" "$room/far/.got.part" ;;
+    down) set -- get "$room/far/file" "$room/near/got" "$room/near/.got.0123456789abcdef.part" ;;
+    up) set -- put "$room/near/other" "$room/far/got" "$room/far/.got.fedcba9876543210.part" ;;
     esac
+    head -c 40000 /dev/zero >"${4%/*}/.got.part"
+    run socket $1 --resume "$2" "$3"
+    [ $status -eq 0 ] && cmp "$room/mixed" "$3" && ! [ -e "${4%/*}/.got.part" ] && ! [ -s "$room/err" ]
+    tell "a file $way goes on behind a part of an earlier version" $?
+    head -c 30000 /dev/zero >"${4%/*}/.got.part"
     head -c 40000 /dev/zero >"$4"
     run socket $1 --resume "$2" "$3"
-    [ $status -eq 0 ] && cmp "$room/mixed" "$3" && ! [ -e "$4" ] && ! [ -s "$room/err" ]
-    tell "a file $way goes on behind what its part has" $?
+    [ $status -eq 0 ] && cmp "$room/mixed" "$3" && ! [ -e "$4" ] && ! [ -s "$room/err" ] && [ -e "${4%/*}/.got.part" ]
+    tell "a file $way goes on behind its longest part" $?
+    rm -f "${4%/*}/.got.part"
     head -c 40000 /dev/zero >"$4"
     run socket $1 --resume --verify "$2" "$3"
     [ $status -eq 1 ] && cmp "$room/mixed" "$3" && ! [ -e "$4" ] && differs "$2"
@@ -242,36 +288,46 @@ for way in down up; do
     tell "a file $way whose part is whole" $?
     head -c 100002 /dev/zero >"$4"
     run socket $1 --resume "$2" "$3"
-    [ $status -eq 0 ] && cmp "$room/far/file" "$3" && ! [ -e "$4" ]
+    [ $status -eq 0 ] && cmp "$room/far/file" "$3" && [ -e "$4" ]
     tell "a file $way whose part is longer begins anew" $?
+    rm -f "$4"
     mkdir "$4"
     run socket $1 --resume "$2" "$3"
-    [ $status -eq 1 ] && [ -d "$4" ] && [ "$(wc -l <"$room/err")" -eq 1 ]
-    tell "a file $way whose part is a folder" $?
+    [ $status -eq 0 ] && cmp "$room/far/file" "$3" && [ -d "$4" ]
+    tell "a folder with the name of a part is passed over, $way" $?
     rmdir "$4"
     head -c 40000 /dev/zero >"$4"
     run socket $1 --verify "$2" "$3"
-    [ $status -eq 0 ] && cmp "$room/far/file" "$3" && ! [ -e "$4" ] && ! [ -s "$room/err" ]
+    [ $status -eq 0 ] && cmp "$room/far/file" "$3" && [ -e "$4" ] && ! [ -s "$room/err" ]
     tell "without --resume a file $way begins anew" $?
+    rm -f "$4"
 done
 mkdir "$room/aside"
 head -c 40000 /dev/zero >"$room/aside/file"
-ln -s "$room/aside/file" "$room/near/.got.part"
-run socket get --resume "$room/far/file" "$room/near/got"
-[ $status -eq 0 ] && cmp "$room/far/file" "$room/near/got" && cmp -n 40000 /dev/zero "$room/aside/file" &&
-    [ "$(wc -c <"$room/aside/file")" -eq 40000 ]
-tell 'a link in the place of a part is not gone on behind' $?
-run reads get "$room/far/other" "$room/near/got"
-[ $status -eq 1 ] && [ -s "$room/near/.got.part" ]
+for place in near far; do
+    case $place in near) set -- get "$room/far/file" ;; far) set -- put "$room/near/other" ;; esac
+    ln -s "$room/aside/file" "$room/$place/.got.0123456789abcdef.part"
+    run socket $1 --resume "$2" "$room/$place/got"
+    [ $status -eq 0 ] && cmp "$room/far/file" "$room/$place/got" && cmp -n 40000 /dev/zero "$room/aside/file" &&
+        [ "$(wc -c <"$room/aside/file")" -eq 40000 ]
+    tell "a link in the place of a part is not gone on behind, $1" $?
+    rm -f "$room/$place/.got.0123456789abcdef.part"
+done
+# the sizes of the parts of a name in a directory
+parts() {
+    find "$1" -maxdepth 1 -type f -name ".$2.????????????????.part" -printf '%s\n'
+}
+run reads get --resume "$room/far/other" "$room/near/got"
+[ $status -eq 7 ] && [ "$(parts "$room/near" got)" -gt 0 ]
 tell 'a server that ends, once more' $?
 run socket get --resume --verify "$room/far/other" "$room/near/got"
-[ $status -eq 0 ] && cmp "$room/far/other" "$room/near/got" && ! [ -e "$room/near/.got.part" ]
+[ $status -eq 0 ] && cmp "$room/far/other" "$room/near/got" && [ -z "$(parts "$room/near" got)" ]
 tell 'a file that was cut off goes on' $?
 run writes put "$room/near/big" "$room/far/got"
-[ $status -eq 1 ] && [ -s "$room/far/.got.part" ]
+[ $status -eq 7 ] && [ "$(parts "$room/far" got)" -gt 0 ]
 tell 'a server that ends while a file goes up, once more' $?
 run socket put --resume --verify "$room/near/big" "$room/far/got"
-[ $status -eq 0 ] && cmp "$room/near/big" "$room/far/got" && ! [ -e "$room/far/.got.part" ]
+[ $status -eq 0 ] && cmp "$room/near/big" "$room/far/got" && [ -z "$(parts "$room/far" got)" ]
 tell 'a file that was cut off on its way up goes on' $?
 rm -f "$room/near/got" "$room/far/got" "$room/near/other"
 
@@ -359,21 +415,21 @@ run socket put -r -q --files 1 --window 1 --limit 1 "$room/near/many" "$room/far
 [ $status -eq 0 ] && same "$room/near/many" "$room/far/one" && ! [ -s "$room/err" ]
 tell '1,000 files up, one after another' $?
 rm -rf "$room/far/back" "$room/far/one" "$room/near/many"
-mkdir -p "$room/near/many/.file 500.part/x" "$room/far/back/.file 500.part/x"
+mkdir -p "$room/near/many/file 500/x" "$room/far/back/file 500/x"
 run socket get -r -q "$room/far/many/." "$room/near/many"
 [ $status -eq 1 ] && [ "$(wc -l <"$room/err")" -eq 1 ] && grep -q "^sftp_transfer: $room/far/many/\./file 500: " "$room/err" &&
-    [ "$(diff -r "$room/far/many" "$room/near/many" | wc -l)" -eq 2 ] && ! [ -e "$room/near/many/file 500" ]
+    [ "$(diff -r "$room/far/many" "$room/near/many" | wc -l)" -eq 1 ] && [ -d "$room/near/many/file 500" ]
 tell 'one of many files down is refused' $?
-rm -rf "$room/near/many/.file 500.part"
+rm -rf "$room/near/many/file 500"
 run socket get -r -q "$room/far/many/." "$room/near/many"
 [ $status -eq 0 ] && same "$room/far/many" "$room/near/many"
 tell 'and then it is not' $?
 run socket put -r -q "$room/near/many/." "$room/far/back"
-[ $status -eq 1 ] && [ "$(wc -l <"$room/err")" -eq 1 ] && grep -q "^sftp_transfer: $room/near/many/\./file 500: " "$room/err" &&
-    [ "$(diff -r "$room/near/many" "$room/far/back" | wc -l)" -eq 2 ] && ! [ -e "$room/far/back/file 500" ]
+[ $status -eq 1 ] && [ "$(wc -l <"$room/err")" -eq 1 ] && grep -q "^sftp_transfer: $room/far/back/file 500: " "$room/err" &&
+    [ "$(diff -r "$room/near/many" "$room/far/back" | wc -l)" -eq 1 ] && [ -d "$room/far/back/file 500" ]
 tell 'one of many files up is refused' $?
 
-# a server that ends in the middle: what has a name has all its bytes, and each file that was under way is told with the cause
+# a server that ends in the middle: what has a name has all its bytes, and the session is told once
 whole() {
     find "$1" -type f ! -name '.*.part' -printf '%P\n' >"$room/want"
     while read -r name; do
@@ -382,15 +438,16 @@ whole() {
 }
 rm -rf "$room/near/many" "$room/far/back"
 run ends get -r -q "$room/far/many" "$room/near/many"
-[ $status -eq 1 ] && whole "$room/near/many" "$room/far/many" && [ -s "$room/err" ] &&
-    [ "$(ls "$room/near/many" | wc -l)" -lt 1000 ] && ! grep -v "^sftp_transfer: $room/far/many/[^:]*: ." "$room/err"
+rest='^sftp_transfer: [0-9]* more files were not copied$'
+[ $status -eq 7 ] && whole "$room/near/many" "$room/far/many" && [ "$(ls "$room/near/many" | wc -l)" -lt 1000 ] &&
+    [ "$(head -n 1 "$room/err")" = 'sftp_transfer: the session: the link ended while a reply was due' ] &&
+    [ "$(wc -l <"$room/err")" -eq 2 ] && grep -q "$rest" "$room/err"
 tell 'a server that ends while many files come down' $?
 run socket get -r -q "$room/far/many/." "$room/near/many"
 [ $status -eq 0 ] && same "$room/far/many" "$room/near/many"
 tell 'and once more' $?
 run ends put -r -q "$room/near/many" "$room/far/back"
-[ $status -eq 1 ] && whole "$room/far/back" "$room/far/many" && [ -s "$room/err" ] &&
-    ! grep -v "^sftp_transfer: $room/near/many/" "$room/err"
+[ $status -eq 7 ] && whole "$room/far/back" "$room/far/many" && grep -q '^sftp_transfer: the session: ' "$room/err"
 tell 'a server that ends while many files go up' $?
 
 # ---- permissions and times
@@ -433,11 +490,22 @@ for way in get put; do
     head -c 8000000 /dev/urandom >"$room/$there/secret"
     chmod 600 "$room/$there/secret"
     case $way in get) cut=reads ;; put) cut=writes ;; esac
-    run $cut $way -p "$room/$there/secret" "$room/$here/secret"
-    [ $status -eq 1 ] && [ "$(stat -c %a "$room/$here/.secret.part")" = 600 ]
+    run $cut $way -p --resume "$room/$there/secret" "$room/$here/secret"
+    [ $status -eq 7 ] && [ "$(stat -c %a "$room/$here"/.secret.*.part)" = 600 ]
     tell "permissions of a part, $way" $?
-    rm -f "$room/$here/.secret.part" "$room/$there/secret"
+    rm -f "$room/$here"/.secret.*.part "$room/$there/secret"
 done
+for mode in 700 750 755 777; do
+    mkdir -m "$mode" "$room/far/modes/d$mode" "$room/near/modes/d$mode"
+done
+run socket get -r -q "$room/far/modes" "$room/near/folders"
+[ $status -eq 0 ] &&
+    [ "$(cd "$room/near/folders" && stat -c '%a %n' d*)" = "$(printf '700 d700\n750 d750\n755 d755\n755 d777')" ]
+tell 'permissions of directories without -p, down' $?
+run socket put -r -q "$room/near/modes" "$room/far/folders"
+[ $status -eq 0 ] &&
+    [ "$(cd "$room/far/folders" && stat -c '%a %n' d*)" = "$(printf '700 d700\n750 d750\n755 d755\n755 d777')" ]
+tell 'permissions of directories without -p, up' $?
 
 # ---- what is listed
 
@@ -461,12 +529,123 @@ ln -s "$room/outside" "$room/near/trap/sub"
 run socket get -r "$room/far/trap/." "$room/near/trap"
 [ $status -eq 1 ] && [ "$(ls -A "$room/outside")" = x ] && [ "$(cat "$room/outside/x")" = safe ]
 tell 'a link in the place of a folder' $?
-rm "$room/near/trap/sub"
+run socket get -r "$room/far/trap/sub" "$room/near/trap"
+[ $status -eq 1 ] && [ "$(ls -A "$room/outside")" = x ] && [ "$(cat "$room/outside/x")" = safe ]
+tell 'a link in the place of the directory that is copied' $?
+run socket get -r -q "$room/far/trap/sub" "$room/near/trap/sub/"
+[ $status -eq 0 ] && [ "$(cat "$room/outside/sub/x")" = new ]
+tell 'a link to a directory as the target' $?
+rm -rf "$room/outside/sub" "$room/near/trap/sub"
 mkdir "$room/near/trap/sub"
 ln -s "$room/outside/x" "$room/near/trap/sub/.x.part"
 run socket get -r -q "$room/far/trap/." "$room/near/trap"
 [ $status -eq 0 ] && [ "$(cat "$room/outside/x")" = safe ] && [ "$(cat "$room/near/trap/sub/x")" = new ]
 tell 'a link in the place of a part' $?
+mkdir "$room/far/shared"
+ln -s "$room/outside/x" "$room/far/shared/.x.part"
+run socket put -q "$room/near/trap/sub/x" "$room/far/shared/x"
+[ $status -eq 0 ] && [ "$(cat "$room/outside/x")" = safe ] && [ "$(cat "$room/far/shared/x")" = new ] &&
+    ! [ -L "$room/far/shared/x" ]
+tell 'a link in the place of a part on the server' $?
+
+# ---- links that lead out of the tree
+
+mkdir "$room/far/links" "$room/far/links/sub"
+echo x >"$room/far/links/file"
+ln -s file "$room/far/links/within"
+ln -s ../file "$room/far/links/sub/within"
+ln -s ../file "$room/far/links/out"
+ln -s ../../links/file "$room/far/links/sub/out"
+ln -s "$room/outside/x" "$room/far/links/absolute"
+run socket get -r -q "$room/far/links" "$room/near/links"
+[ $status -eq 1 ] && [ "$(readlink "$room/near/links/within" "$room/near/links/sub/within" | tr '\n' ' ')" = 'file ../file ' ] &&
+    [ "$(find "$room/near/links" -type l | wc -l)" -eq 2 ] && [ "$(wc -l <"$room/err")" -eq 3 ] &&
+    [ "$(grep -c ': skipped: the link leads out of the tree (--links as-is copies it)$' "$room/err")" -eq 3 ]
+tell 'links that lead out of the tree' $?
+run socket get -r -q "$room/far/links/." "$room/near/links" --links as-is
+[ $status -eq 0 ] && same "$room/far/links" "$room/near/links"
+tell 'links as they are' $?
+
+# ---- targets that are no files, long names, full disks
+
+mkfifo "$room/near/pipe" "$room/far/pipe"
+run socket get "$room/far/file" "$room/near/pipe"
+[ $status -eq 1 ] && [ -p "$room/near/pipe" ] && grep -q 'neither a file nor a link to one' "$room/err"
+tell 'a pipe as the local target' $?
+run socket put "$room/near/big" "$room/far/pipe"
+[ $status -eq 1 ] && [ -p "$room/far/pipe" ] && grep -q 'neither a file nor a directory' "$room/err"
+tell 'a pipe as the target on the server' $?
+mkdir "$room/far/long"
+for size in 228 232 233 249 255; do
+    echo $size >"$room/far/long/$(printf "%0${size}d" $size)"
+done
+printf x >"$room/far/long/$(printf '\303\274%.0s' $(seq 127))"
+run socket get -r -q "$room/far/long" "$room/near/long"
+[ $status -eq 0 ] && same "$room/far/long" "$room/near/long" && ! [ -s "$room/err" ]
+tell 'long names down' $?
+run socket put -r -q "$room/near/long" "$room/far/long"
+[ $status -eq 0 ] && same "$room/near/long" "$room/far/long/long" && ! [ -s "$room/err" ]
+tell 'long names up' $?
+mkdir "$room/full" "$room/far/forty"
+if mount -t tmpfs -o size=8m tmpfs "$room/full" 2>"$room/err"; then
+    for n in $(seq 40); do
+        head -c 500000 /dev/urandom >"$room/far/forty/$n"
+    done
+    run socket get -r -q "$room/far/forty" "$room/full/forty" --files 4
+    [ $status -eq 1 ] && [ "$(ls -A "$room/full/forty" | wc -l)" -ge 10 ] && whole "$room/full/forty" "$room/far/forty" &&
+        [ -z "$(find "$room/full" -name '*.part')" ] && grep -q "$rest" "$room/err" && [ "$(wc -l <"$room/err")" -le 6 ]
+    tell 'a full local disk' $?
+    rm -rf "$room/full/forty"
+    run socket put -r -q "$room/far/forty" "$room/full/forty" --files 4
+    [ $status -eq 1 ] && [ "$(ls -A "$room/full/forty" | wc -l)" -ge 10 ] && whole "$room/full/forty" "$room/far/forty" &&
+        [ -z "$(find "$room/full" -name '*.part')" ]
+    tell 'a full disk of the server' $?
+    umount "$room/full"
+fi
+
+# ---- two runs at once on one target: in the end it is one of the two files, whole
+
+head -c 30000000 /dev/zero >"$room/near/zeros"
+head -c 30000000 /dev/zero | tr '\0' x >"$room/near/letters"
+cp "$room/near/zeros" "$room/near/letters" "$room/far"
+# whether a file is one of the two
+is_one() {
+    cmp -s "$1" "$room/near/zeros" || cmp -s "$1" "$room/near/letters"
+}
+socat "UNIX-LISTEN:$room/plain,fork" "EXEC:$server -P posix-rename" 2>/dev/null &
+eighth=$!
+tries=0
+while ! [ -S "$room/plain" ] && [ $tries -lt 100 ]; do
+    sleep 0.1
+    tries=$((tries + 1))
+done
+for case in 'socket get far near' 'socket put near far' 'plain put near far'; do
+    # shellcheck disable=SC2086
+    set -- $case
+    timeout 60 "$program" "unix:$room/$1" "$2" "$room/$3/zeros" "$room/$4/twice" >"$room/out" 2>&1 &
+    one=$!
+    run "$1" "$2" "$room/$3/letters" "$room/$4/twice" --window 2
+    wait $one
+    first=$?
+    [ $first -le 1 ] && [ $status -le 1 ] && [ $((first + status)) -le 1 ] && is_one "$room/$4/twice" &&
+        ! ls "$room/$4"/.twice* >"$room/out" 2>&1
+    tell "two runs at once, $1 $2" $?
+done
+# a run that is killed leaves the name to the other
+for case in 'get far near' 'put near far'; do
+    # shellcheck disable=SC2086
+    set -- $case
+    timeout 60 "$program" "unix:$room/socket" "$1" "$room/$2/zeros" "$room/$3/killed" --window 1 --limit 1 >"$room/out" 2>&1 &
+    one=$!
+    sleep 0.1
+    run socket "$1" "$room/$2/letters" "$room/$3/killed"
+    kill -9 $one 2>/dev/null
+    wait $one 2>/dev/null
+    [ $status -eq 0 ] && is_one "$room/$3/killed"
+    tell "a run beside one that is killed, $1" $?
+done
+kill $eighth 2>/dev/null
+rm -f "$room/near/zeros" "$room/near/letters" "$room/far/zeros" "$room/far/letters"
 
 # ---- a server whose names lead out of their folder
 

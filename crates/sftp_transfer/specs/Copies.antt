@@ -40,14 +40,19 @@ GivesKept way keeps all given = given ≡ None
 abbrev pub part_mode : ℕ → ℕ
 part_mode mode = bit_or (nine_bits mode) 0o200
 
--- The copy goes from its source to its target. It is written as a part file beside the target, after the bytes that the
--- part file has. A part file that is created has permissions of the source, and the file is given the permissions and
--- times that are preserved.
-pub record IsCopyOf (way : Direction) (keeps : Bool) (begins : ℕ) (found : Found) (job : CopyJob) : Type 0 where
+-- A directory has the permissions of its source, and its owner may do anything in it.
+abbrev pub folder_mode : ℕ → ℕ
+folder_mode mode = bit_or (nine_bits mode) 0o700
+
+-- The copy goes from its source to its target. It is written as the part file of this run beside the target, after the
+-- bytes that the part file has. A part file that is created has permissions of the source, and the file is given the
+-- permissions and times that are preserved.
+pub record IsCopyOf (way : Direction) (keeps : Bool) (begins : ℕ) (run : List ℕ) (found : Found) (job : CopyJob) :
+    Type 0 where
   pub way_is : job.way ≡ way
   pub from : string_bytes job.from ≡ found.source
   pub to : string_bytes job.to ≡ found.target
-  pub beside : string_bytes job.part ≡ part_of found.target
+  pub beside : string_bytes job.part ≡ part_of found.target run
   pub begins_is : job.begins_at ≡ begins
   pub mode : job.mode ≡ option_map part_mode found.attrs.permissions
   pub attrs : GivesKept way keeps found.attrs job.attrs

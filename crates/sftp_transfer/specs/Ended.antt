@@ -1,8 +1,10 @@
 -- believed, except ended_by
 -- The effects of a run of the program on its environment, and its exit status.
-use Rattle.std.specs.Prelude.{◌≡◌, ◌&&◌, ◌||◌, ℕ, Bool, true, false, List, [], ◌∷◌, codes, Option, Some, None, if◌then◌else◌}
+use Rattle.std.specs.Prelude.{◌≡◌, ◌⊎◌, ◌&&◌, ◌||◌, ℕ, Bool, true, false, List, [], ◌∷◌, codes, Option, Some, None, if◌then◌else◌}
 use Rattle.std.specs.Str.{bytes_eq}
 use Rattle.transfer_args.specs.Words.{LinkWord, WorkWords, asked_by}
+use Rattle.transfer_args.specs.declared.args_error.ArgsError.{ArgsError}
+use Rattle.transfer_args.specs.declared.args_error.ArgsError.TheVariants as args_error
 use Rattle.sftp_transfer.specs.declared.ended.Reach.{Reach}
 use Rattle.sftp_transfer.specs.declared.ended.Reach.TheVariants as reach
 use Rattle.sftp_transfer.specs.declared.ended.Text.{Text}
@@ -12,11 +14,11 @@ use Rattle.sftp_transfer.specs.declared.ended.Text.TheVariants as text
 abbrev pub TransferRequest : Type 0
 TransferRequest = LinkWord × WorkWords
 
--- An event in the environment. A text was written, or could not be; the command line was refused; the local side let
--- the work start, or did not; or the work was done over a link, with this result.
+-- An event in the environment. A text was written, or could not be; the command line gave no request, for this reason;
+-- the local side let the work start, or did not; or the work was done over a link, with this result.
 pub data OutsideAct : Type 0 where
   Wrote : Text → Bool → OutsideAct
-  Refused : OutsideAct
+  Refused : ArgsError → OutsideAct
   Looked : WorkWords → Bool → OutsideAct
   Went : TransferRequest → Reach → OutsideAct
 
@@ -25,14 +27,18 @@ pub data OutsideAct : Type 0 where
 abbrev pub status_of : Reach → ℕ
 status_of reach.Done = 0
 status_of reach.NotDone = 1
+status_of reach.Lost = 7
 status_of reach.OutOfMemory = 5
 status_of reach.NoLink = 6
 status_of reach.NoOutput = 3
 
 -- The result of the jobs. Everything was done only if each source contributed all its jobs and all of these were done.
-abbrev pub ended_by : Bool → Bool → Bool → Reach
-ended_by starved complete all_done =
-    if starved then reach.OutOfMemory else if complete && all_done then reach.Done else reach.NotDone
+abbrev pub ended_by : Bool → Bool → Bool → Bool → Reach
+ended_by starved lost complete all_done =
+    if starved then reach.OutOfMemory
+    else if complete && all_done then reach.Done
+    else if lost then reach.Lost
+    else reach.NotDone
 
 -- ---- The effects of a run
 
@@ -61,12 +67,17 @@ EndsAsked done asked status before after = (may : Bool)
     × EndsLooked done asked may status (done (Looked (asked.1) may) before) after
 
 abbrev pub EndsRead : {H : Type 0} → (OutsideAct → H → H) → Option TransferRequest → ℕ → H → H → Type 0
-EndsRead done None status before after = (after ≡ done Refused before) × (status ≡ 2)
+EndsRead done None status before after = (after ≡ done (Refused args_error.Refused) before) × (status ≡ 2)
 EndsRead done (Some asked) status before after = EndsAsked done asked status before after
+
+-- The command line could not be read, because an allocation failed.
+abbrev pub EndsUnread : {H : Type 0} → (OutsideAct → H → H) → ℕ → H → H → Type 0
+EndsUnread done status before after = (after ≡ done (Refused args_error.OutOfMemory) before) × (status ≡ 5)
 
 abbrev pub EndsBy : {H : Type 0} → (OutsideAct → H → H) → Option Text → List (List ℕ) → ℕ → H → H → Type 0
 EndsBy done (Some t) words status before after = EndsText done t status before after
 EndsBy done None words status before after = EndsRead done (asked_by words) status before after
+    ⊎ EndsUnread done status before after
 
 -- A text is written if the single argument asks for it. Otherwise the command line is refused, or its request is
 -- carried out: the local side is checked, and then the link is opened. Nothing else is done, and each status has its

@@ -3,14 +3,16 @@ ghost use Rattle.std.specs.Prelude.{◌≡◌};
 ghost use Rattle.transfer_pool.specs.Jobs.{NotesOver};
 
 use crate::copy::copy_of;
-use crate::local_side::keep_local;
+use crate::local_side::{keep_local, may_be_replaced};
 use crate::system::SystemFile;
-use crate::transfer_error::{TransferError, ends_all, is_starved, no_text, tell_of};
+use crate::transfer_error::{
+    TransferError, is_full, is_session_failure, is_starved, no_text, tell, tell_of,
+};
 use crate::verdicts::Verdicts;
 use std::str;
 use transfer_args::{Direction, Options};
 use transfer_plan::{Found, JobVerdict, Tally, Task};
-use transfer_pool::{Copied, CopyJobs, Wanted};
+use transfer_pool::{Copied, CopyError, CopyJob, CopyJobs, LocalError, Wanted};
 
 /// The number of files and bytes copied, and a flag that is true if an allocation failed.
 #[derive(Clone, Copy)]
@@ -20,23 +22,35 @@ pub(crate) struct Totals {
     pub(crate) starved: bool,
 }
 
-/// The files that are to be copied: those among the jobs except the ones that the tally skips. The copy of a file
+/// The files that a run is to copy: those among the jobs except the ones that the tally skips. The copy of a file
 /// continues after the number of bytes at the index of its job in `starts`, and starts at 0 if there is none.
 #[derive(Clone, Copy)]
 pub(crate) struct Files<'a> {
     pub(crate) jobs: &'a [Found],
+    pub(crate) run: &'a [u8],
     pub(crate) tally: &'a Tally,
     pub(crate) starts: &'a [u64],
 }
 
 impl<'a> Files<'a> {
     /// Returns the file that the job at an index copies, or `None` if it copies none.
-    fn get(&self, job: usize) -> Option<&'a Found> {
+    pub(crate) fn get(&self, job: usize) -> Option<&'a Found> {
         let jobs = self.jobs;
         match jobs.get(job) {
             Some(found) if found.task == Task::CopyFile && !self.tally.skips(found) => Some(found),
             _ => None,
         }
+    }
+
+    /// Returns the number of files whose jobs are at this index or after it.
+    pub(crate) fn count_from(&self, first: usize) -> usize {
+        let mut count: usize = 0;
+        for job in first..self.jobs.len() {
+            if self.get(job).is_some() {
+                count = count.saturating_add(1);
+            }
+        }
+        count
     }
 
     /// Returns the number of bytes after which the copy of a job continues.
@@ -55,10 +69,25 @@ pub(crate) struct Batch<'a> {
     way: Direction,
     options: Options,
     files: Files<'a>,
+    /// The index of the next job.
     next: usize,
+    /// True if no further copy is started.
     ended: bool,
+    /// True if the failure of the session was reported.
+    lost: bool,
+    /// True if the progress is on a line of standard error that has no end yet.
+    line: bool,
     totals: Totals,
     verdicts: Verdicts,
+}
+
+/// What a `Batch` leaves.
+#[derive(Drop)]
+pub(crate) struct BatchEnd {
+    pub(crate) totals: Totals,
+    pub(crate) verdicts: Verdicts,
+    /// The index of the first job whose copy was not started.
+    pub(crate) next: usize,
 }
 
 /// Gives a local file that was copied its permissions and times, if that is asked for.
@@ -74,6 +103,15 @@ pub(crate) fn keep_file(
     match str::from_utf8(found.target.as_slice()) {
         Ok(path) => Ok(keep_local(rt, path, &found.attrs)?),
         Err(_) => Err(no_text()),
+    }
+}
+
+/// Returns the path of the side on which a copy failed.
+fn failed_path<'b>(copy: &'b CopyJob, error: &CopyError) -> &'b str {
+    match (copy.way, error) {
+        (Direction::Get, CopyError::Local(LocalError::Failed(_)))
+        | (Direction::Put, CopyError::Remote(_)) => copy.to.as_str(),
+        _ => copy.from.as_str(),
     }
 }
 
@@ -94,37 +132,85 @@ impl<'a> Batch<'a> {
             files,
             next: 0,
             ended: false,
+            lost: false,
+            line: false,
             totals,
             verdicts,
         }
     }
 
-    /// Returns the totals, and the verdict on each file.
-    pub(crate) fn into_parts(self) -> (Totals, Verdicts) {
+    /// Returns what is left.
+    pub(crate) fn into_end(self) -> BatchEnd {
         let Batch {
             totals,
             verdicts,
+            next,
             ..
         } = self;
-        (totals, verdicts)
+        BatchEnd {
+            totals,
+            verdicts,
+            next,
+        }
     }
 
-    /// Reports why an entry was not done, and returns its verdict.
+    /// Ends the line of the progress, so that a message is on a line of its own.
+    fn end_line(&mut self) {
+        if self.line {
+            let _ = eprintln!(self.rt; "");
+            self.line = false;
+        }
+    }
+
+    /// Reports why an entry was not done, and returns its verdict. The failure of the session is reported once. If a
+    /// disk is full, no further copy is started.
     fn refuse(&mut self, path: &[u8], reason: &TransferError) -> JobVerdict {
-        tell_of(self.rt, path, reason);
-        self.totals.starved = self.totals.starved || is_starved(reason);
-        if ends_all(reason) {
+        self.end_line();
+        if is_session_failure(reason) {
+            if !self.lost {
+                tell(self.rt, "the session", reason);
+            }
+            self.lost = true;
             self.ended = true;
             return JobVerdict::Stop;
         }
+        tell_of(self.rt, path, reason);
+        if is_starved(reason) {
+            self.totals.starved = true;
+            self.ended = true;
+            return JobVerdict::Stop;
+        }
+        self.ended = self.ended || is_full(reason);
         JobVerdict::NotDone
+    }
+
+    /// Returns the copy of a file.
+    ///
+    /// # Errors
+    ///
+    /// A `TransferError` if a path can't be used, or if what has the local target can't be replaced.
+    fn job_of(&self, job: usize, found: &Found) -> Result<CopyJob, TransferError> {
+        let keeps = self.options.preserve;
+        let begins_at = self.files.start(job);
+        let copy = copy_of(
+            self.rt.alloc(),
+            self.way,
+            keeps,
+            begins_at,
+            self.files.run,
+            found,
+        )?;
+        if self.way == Direction::Get && !may_be_replaced(self.rt, copy.to.as_str()) {
+            return Err(TransferError::Refused(
+                "not copied: its target is neither a file nor a link to one",
+            ));
+        }
+        Ok(copy)
     }
 
     /// Returns the copy of a job's file, or `None` if it can't be started; the reason is reported then.
     fn begin(&mut self, job: usize, found: &Found) -> Option<Wanted<SystemFile<'a>>> {
-        let keeps = self.options.preserve;
-        let begins_at = self.files.start(job);
-        match copy_of(self.rt.alloc(), self.way, keeps, begins_at, found) {
+        match self.job_of(job, found) {
             Ok(copy) => Some(Wanted {
                 local: SystemFile::new(self.rt, job, copy.mode),
                 job: copy,
@@ -155,6 +241,7 @@ impl<'a> Batch<'a> {
     /// Reports the progress of the transfer, on a line that the next report replaces.
     fn show_progress(&mut self) {
         if self.options.progress && !self.options.quiet {
+            self.line = true;
             let _ = eprint!(self.rt;
                 "\r{} files, {} bytes",
                 self.totals.files, self.totals.bytes
@@ -203,7 +290,10 @@ impl<'a> CopyJobs for Batch<'a> {
         };
         let verdict = match result {
             Ok(len) => self.finish(found, len.saturating_sub(copy.begins_at)),
-            Err(e) => self.refuse(copy.from.as_str().as_bytes(), &TransferError::from(e)),
+            Err(e) => {
+                let path = failed_path(&copy, &e);
+                self.refuse(path.as_bytes(), &TransferError::from(e))
+            }
         };
         self.verdicts.set(job, verdict);
     }

@@ -2,10 +2,57 @@
 ghost use Rattle.std.specs.Prelude.{◌≡◌, IfOk};
 
 use link_duplex::{DuplexLink, StdioWire, StreamWire, UnixWire, over_stdio, over_unix};
-use std::io::{self, ErrorKind};
+use sftp_client::Sftp;
+use sftp_link::Link;
+use sftp_model::Fault;
+use ssh_channel::SshChannel;
+use std::fs::{File, OpenOptions};
+use std::io::{self, ErrorKind, Read, Write};
 use std::net::{TcpStream, ToSocketAddrs};
+use std::os::fd::{AsFd, AsRawFd};
 use std::os::unix::net::UnixStream;
 use std::time::Duration;
+
+/// A link that reports why it failed.
+pub(crate) trait Connection: Link {
+    /// Reports what the link knows of its failure and the session does not. `seconds` is the time limit.
+    fn report(&self, rt: &HostRuntime, seconds: u32);
+}
+
+impl<R: Read + AsRawFd + Drop, W: Write + AsRawFd + Drop> Connection
+    for DuplexLink<StreamWire<R, W>> {
+    fn report(&self, rt: &HostRuntime, seconds: u32) {
+        if self.wire().is_silent() {
+            let _ = eprintln!(rt; "sftp_transfer: the server was silent for {seconds} seconds");
+        }
+    }
+}
+
+impl<L: Connection> Connection for SshChannel<L> {
+    fn report(&self, rt: &HostRuntime, seconds: u32) {
+        self.inner().report(rt, seconds);
+        if let Some(why) = self.refusal() {
+            let _ = eprintln!(rt; "sftp_transfer: ssh: {why}");
+        }
+        if let Some(status) = self.exit_status() {
+            if status != 0 {
+                let _ = eprintln!(rt;
+                    "sftp_transfer: the server's sftp program ended with status {status}"
+                );
+            }
+        }
+    }
+}
+
+/// Returns true if the connection of a session failed or ended.
+pub(crate) fn is_lost<L: Link>(sftp: &mut Sftp<L>) -> bool
+    ensures { sftp.new ≡ sftp.old }
+{
+    match sftp.core().fault() {
+        Some(Fault::Link | Fault::Ended) => true,
+        _ => false,
+    }
+}
 
 /// The number of bytes up to which a link reads ahead while it sends.
 const MAX_AHEAD: usize = 8388608;
@@ -82,4 +129,36 @@ pub(crate) fn stdio_link(
 {
     let wire = over_stdio(rt, rt.alloc(), timeout)?;
     Ok(DuplexLink::new(rt.alloc(), wire, MAX_AHEAD))
+}
+
+/// Opens two files that carry the replies and the requests, such as named pipes. The server may open its ends of two
+/// pipes in any order. If there is a timeout, the link fails if the server does nothing for that long.
+///
+/// # Errors
+///
+/// The error of the system, for example if one of them is a regular file, for which nothing ever has to wait.
+pub(crate) fn files_link(
+    rt: &HostRuntime,
+    replies: &str,
+    requests: &str,
+    timeout: Option<Duration>,
+) -> io::Result<DuplexLink<StreamWire<File, File>>>
+    ensures { IfOk result (λ link. link.wire.faults ≡ 0) }
+{
+    // As long as a pipe is open for reading and writing here, the server can open it for writing.
+    let held = OpenOptions::new().read(true).write(true).open(rt, replies);
+    let output = OpenOptions::new().write(true).open(rt, requests)?;
+    drop(held);
+    let input = File::open(rt, replies)?;
+    stop_blocking(&input)?;
+    stop_blocking(&output)?;
+    let wire = StreamWire::new(rt, rt.alloc(), input, output, timeout)?;
+    Ok(DuplexLink::new(rt.alloc(), wire, MAX_AHEAD))
+}
+
+/// Lets calls on a file not wait. A Unix socket is the one type of std that sets this mode of any descriptor.
+fn stop_blocking(file: &File) -> io::Result<()> {
+    let descriptor = file.as_fd();
+    let handle = UnixStream::from(descriptor.try_clone_to_owned()?);
+    handle.set_nonblocking(true)
 }

@@ -2,7 +2,7 @@
 ghost use Rattle.std.specs.Prelude.{◌≡◌, IfOk};
 ghost use Rattle.std.specs.Option.{option_map};
 ghost use Rattle.std.specs.String.{string_bytes};
-ghost use Rattle.sftp_transfer.specs.Copies.{AreKeptOf, GivesKept, IsCopyOf, IsReadBackOf, local_of, nine_bits, part_mode, remote_of, resumed_at};
+ghost use Rattle.sftp_transfer.specs.Copies.{AreKeptOf, GivesKept, IsCopyOf, IsReadBackOf, folder_mode, local_of, nine_bits, part_mode, remote_of, resumed_at};
 
 use crate::transfer_error::{TransferError, no_text};
 use sftp_model::FileAttrs;
@@ -89,19 +89,30 @@ fn part_mode(permissions: Option<u32>) -> Option<u32>
     }
 }
 
-/// Returns the copy of a file that was found. It is written as a part file beside its target, after the bytes that the
-/// part file has. The part file is created with the permissions of its source. With `keeps` the file of the server is
-/// given permissions and times. Fails if a path isn't UTF-8.
+/// Returns the permissions of a directory that is created: those of its source, and its owner may do anything in it.
+pub(crate) fn folder_mode(permissions: Option<u32>) -> Option<u32>
+    ensures { result ≡ option_map folder_mode permissions }
+{
+    match nine_bits(permissions) {
+        Some(mode) => Some(mode | 0o700),
+        None => None,
+    }
+}
+
+/// Returns the copy of a file that was found. It is written as the part file of this run beside its target, after the
+/// bytes that the part file has. The part file is created with the permissions of its source. With `keeps` the file of
+/// the server is given permissions and times. Fails if a path isn't UTF-8.
 pub(crate) fn copy_of(
     alloc: Global,
     way: Direction,
     keeps: bool,
     begins_at: u64,
+    run: &[u8],
     found: &Found,
 ) -> Result<CopyJob, TransferError>
-    ensures { IfOk result (IsCopyOf way keeps begins_at found.now) }
+    ensures { IfOk result (IsCopyOf way keeps begins_at run.now found.now) }
 {
-    let part = part_path(alloc, found.target.as_slice())?;
+    let part = part_path(alloc, found.target.as_slice(), run)?;
     let from = text_of(alloc, found.source.as_slice())?;
     let part = text_of(alloc, part.as_slice())?;
     let to = text_of(alloc, found.target.as_slice())?;

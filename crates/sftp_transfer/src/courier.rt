@@ -2,9 +2,10 @@
 ghost use Rattle.std.specs.Prelude.{◌≡◌};
 ghost use Rattle.transfer_pool.specs.Sessions.{IsGoing};
 
-use crate::batch::{Batch, Files, Totals};
-use crate::copy::kept_attrs;
+use crate::batch::{Batch, BatchEnd, Files, Totals};
+use crate::copy::{folder_mode, kept_attrs};
 use crate::local_side::{keep_local, make_local_folder, make_local_link};
+use crate::run_number::RunNumber;
 use crate::transfer_error::{
     TransferError, ends_all, is_starved, no_text, refusal_of, tell, tell_of,
 };
@@ -15,10 +16,11 @@ use sftp_client::Sftp;
 use sftp_link::Link;
 use std::{fs, mem, str};
 use transfer_args::{Direction, Options};
-use transfer_plan::{Found, Hand, JobVerdict, Tally, Task};
+use transfer_plan::{Found, Hand, JobVerdict, Tally, Task, leads_out, part_path};
 use transfer_pool::{CopyError, copy_all};
 use transfer_remote::{
-    make_remote_folder, make_remote_link, read_remote_link, remote_metadata, set_remote_attrs,
+    make_remote_folder, make_remote_link, read_remote_link, remote_metadata, remove_remote,
+    set_remote_attrs,
 };
 
 /// A session, and the results of the copies over it.
@@ -26,8 +28,11 @@ use transfer_remote::{
 pub(crate) struct Courier<'a, L> {
     pub(crate) rt: &'a HostRuntime,
     pub(crate) sftp: Sftp<L>,
+    pub(crate) run: RunNumber,
     pub(crate) way: Direction,
     pub(crate) options: Options,
+    /// True if the root of a tree is the target of the command line, so that a local symbolic link there is followed.
+    pub(crate) is_root_followed: bool,
     pub(crate) totals: Totals,
     pub(crate) verdicts: Verdicts,
 }
@@ -52,11 +57,15 @@ impl<'a, L: Link> Courier<'a, L> {
         ensures { IsGoing L.LinkState.state self.new.sftp }
     {
         let target = found.target.as_slice();
+        let mode = folder_mode(found.attrs.permissions);
         match self.way {
-            Direction::Get => Ok(make_local_folder(self.rt, text_of(target)?, found.depth == 0)?),
+            Direction::Get => {
+                let is_followed = found.depth == 0 && self.is_root_followed;
+                Ok(make_local_folder(self.rt, text_of(target)?, mode, is_followed)?)
+            }
             Direction::Put => {
                 let alloc = self.rt.alloc();
-                let Err(e) = make_remote_folder(alloc, &mut self.sftp, target) else {
+                let Err(e) = make_remote_folder(alloc, &mut self.sftp, target, mode) else {
                     return Ok(());
                 };
                 match remote_metadata(alloc, &mut self.sftp, target) {
@@ -80,8 +89,58 @@ impl<'a, L: Link> Courier<'a, L> {
         window_for(self.options.window, self.options.limit, files, len)
     }
 
+    /// Removes a part file of this run. If that fails, it stays.
+    pub(crate) fn remove_part(&mut self, part: &[u8])
+        requires { IsGoing L.LinkState.state self.old.sftp }
+        ensures { IsGoing L.LinkState.state self.new.sftp }
+    {
+        match self.way {
+            Direction::Get => {
+                if let Ok(part) = str::from_utf8(part) {
+                    let _ = fs::remove_file(self.rt, part);
+                }
+            }
+            Direction::Put => {
+                let _ = remove_remote(self.rt.alloc(), &mut self.sftp, part);
+            }
+        }
+    }
+
+    /// Removes the part files of the copies that were started and failed, unless a later run may continue them.
+    fn remove_parts(&mut self, files: Files<'_>, started: usize)
+        requires { IsGoing L.LinkState.state self.old.sftp }
+        ensures { IsGoing L.LinkState.state self.new.sftp }
+    {
+        if self.options.resume {
+            return;
+        }
+        for job in 0..started {
+            if self.way == Direction::Put && self.sftp.core().fault().is_some() {
+                return;
+            }
+            if let (Some(found), true) = (
+                files.get(job),
+                self.verdicts.of(job) != JobVerdict::Done,
+            ) {
+                if let Ok(part) = part_path(self.rt.alloc(), found.target.as_slice(), files.run) {
+                    self.remove_part(&part);
+                }
+            }
+        }
+    }
+
+    /// Reports how many of the files were not started.
+    fn tell_rest(&mut self, files: Files<'_>, started: usize)
+        ensures { self.new ≡ self.old }
+    {
+        let left = files.count_from(started);
+        if left > 0 {
+            let _ = eprintln!(self.rt; "sftp_transfer: {left} more files were not copied");
+        }
+    }
+
     /// Copies the files among the jobs except those that the tally skips, many at once, and keeps the result of each.
-    fn copy_files(&mut self, jobs: &[Found], tally: &Tally)
+    fn copy_files(&mut self, jobs: &[Found], run: &[u8], tally: &Tally)
         requires { IsGoing L.LinkState.state self.old.sftp }
         ensures { IsGoing L.LinkState.state self.new.sftp }
     {
@@ -95,6 +154,7 @@ impl<'a, L: Link> Courier<'a, L> {
         let starts = self.starts(jobs, tally);
         let files = Files {
             jobs,
+            run,
             tally,
             starts: starts.as_slice(),
         };
@@ -107,10 +167,16 @@ impl<'a, L: Link> Courier<'a, L> {
             verdicts,
         );
         let copied = copy_all(alloc, &mut self.sftp, &mut batch, count as usize, window);
-        let (totals, verdicts) = batch.into_parts();
+        let BatchEnd {
+            totals,
+            verdicts,
+            next,
+        } = batch.into_end();
         self.totals = totals;
         self.verdicts = verdicts;
         self.tell_stop(copied);
+        self.tell_rest(files, next);
+        self.remove_parts(files, next);
         if self.options.verify {
             self.verify_files(jobs, count as usize, window);
         }
@@ -142,15 +208,28 @@ impl<'a, L: Link> Courier<'a, L> {
         }
     }
 
-    /// Creates a local symbolic link with the target of the server's, or accepts an existing one.
+    /// Creates a local symbolic link with the target of the server's, or accepts an existing one. A link that leads out
+    /// of the tree is refused, unless links are copied as they are.
     fn link_down(&mut self, found: &Found) -> Result<(), TransferError>
         requires { IsGoing L.LinkState.state self.old.sftp }
         ensures { IsGoing L.LinkState.state self.new.sftp }
     {
-        match read_remote_link(self.rt.alloc(), &mut self.sftp, found.source.as_slice()) {
-            Ok(names) => link_here(self.rt, names.as_bytes(), found.target.as_slice()),
-            Err(e) => Err(e.into()),
+        let names = match read_remote_link(
+            self.rt.alloc(),
+            &mut self.sftp,
+            found.source.as_slice(),
+        ) {
+            Ok(names) => names,
+            Err(e) => return Err(e.into()),
+        };
+        if !self.options.links_as_is
+            && leads_out(found.depth.saturating_sub(1) as usize, names.as_bytes())
+        {
+            return Err(TransferError::Refused(
+                "skipped: the link leads out of the tree (--links as-is copies it)",
+            ));
         }
+        link_here(self.rt, names.as_bytes(), found.target.as_slice())
     }
 
     /// Returns true if the server has a symbolic link at a path with this target.
@@ -220,7 +299,7 @@ impl<'a, L: Link> Courier<'a, L> {
         match found.task {
             Task::MakeFolder => self.make_folder(found),
             Task::CopyLink => self.copy_link(found),
-            other => Err(TransferError::Refused(refusal_of(other))),
+            _ => Err(TransferError::Refused(refusal_of(found))),
         }
     }
 
@@ -263,8 +342,8 @@ impl<'a, L: Link> Hand for Courier<'a, L> {
 
     ghost may = { λ courier. IsGoing L.LinkState.state courier.sftp };
 
-    fn copy(&mut self, jobs: &[Found], tally: &Tally) {
-        self.copy_files(jobs, tally);
+    fn copy(&mut self, jobs: &[Found], run: &[u8], tally: &Tally) {
+        self.copy_files(jobs, run, tally);
     }
 
     fn work(&mut self, job: usize, found: &Found) -> JobVerdict {

@@ -13,6 +13,8 @@ pub enum Reach {
     Done,
     /// Something was not done, or the session failed.
     NotDone,
+    /// Something was not done, because the connection to the server failed or ended.
+    Lost,
     /// Out of memory.
     OutOfMemory,
     /// Nothing answers at the address.
@@ -41,6 +43,9 @@ pub(crate) const LOCAL: u8 = 3;
 /// The status if an allocation failed.
 pub(crate) const OUT_OF_MEMORY: u8 = 5;
 
+/// The status if the connection to the server was lost.
+const LOST: u8 = 7;
+
 /// Returns the status of work over a link.
 pub(crate) fn status_of(reach: Reach) -> u8
     ensures { result ≡ status_of reach }
@@ -48,21 +53,24 @@ pub(crate) fn status_of(reach: Reach) -> u8
     match reach {
         Reach::Done => 0,
         Reach::NotDone => 1,
+        Reach::Lost => LOST,
         Reach::OutOfMemory => OUT_OF_MEMORY,
         Reach::NoLink => 6,
         Reach::NoOutput => LOCAL,
     }
 }
 
-/// Returns the result of the jobs, where `starved` is true if an allocation failed, `complete` if each source
-/// contributed all its jobs, and `all_done` if all jobs were done.
-pub(crate) fn ended_by(starved: bool, complete: bool, all_done: bool) -> Reach
-    ensures { result ≡ ended_by starved complete all_done }
+/// Returns the result of the jobs, where `starved` is true if an allocation failed, `lost` if the connection was lost,
+/// `complete` if each source contributed all its jobs, and `all_done` if all jobs were done.
+pub(crate) fn ended_by(starved: bool, lost: bool, complete: bool, all_done: bool) -> Reach
+    ensures { result ≡ ended_by starved lost complete all_done }
 {
     if starved {
         Reach::OutOfMemory
     } else if complete && all_done {
         Reach::Done
+    } else if lost {
+        Reach::Lost
     } else {
         Reach::NotDone
     }

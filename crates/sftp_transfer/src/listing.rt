@@ -1,6 +1,7 @@
 //! Lists a directory of the server.
 ghost use Rattle.transfer_pool.specs.Sessions.{IsGoing};
 
+use crate::connection::is_lost;
 use crate::ended::{Reach, ended_by};
 use crate::printable::printable;
 use crate::transfer_error::{TransferError, is_starved, tell};
@@ -70,7 +71,7 @@ pub(crate) fn list<L: Link>(rt: &HostRuntime, sftp: &mut Sftp<L>, listing: &List
         }
         Err(reason) => {
             tell(rt, listing.path, &reason);
-            ended_by(is_starved(&reason), false, false)
+            ended_by(is_starved(&reason), is_lost(sftp), false, false)
         }
     }
 }

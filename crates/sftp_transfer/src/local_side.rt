@@ -1,12 +1,12 @@
 //! Directories, links and attributes of the local side.
 use crate::transfer_error::{TransferError, no_text, tell_of};
 use sftp_model::FileAttrs;
-use std::fs::{File, FileTimes, Metadata, OpenFile, Permissions};
+use std::fs::{DirBuilder, DirEntry, File, FileTimes, Metadata, OpenFile, Permissions};
 use std::io::ErrorKind;
-use std::os::unix::fs::{MetadataExt, PermissionsExt};
+use std::os::unix::fs::{DirBuilderExt, MetadataExt, PermissionsExt};
 use std::time::{Duration, SystemTime};
 use std::{fs, io, str};
-use transfer_plan::{EntryKind, Walk, WalkError};
+use transfer_plan::{EntryKind, Walk, WalkError, path_in};
 
 /// Returns the file attributes for the metadata of a local file.
 pub(crate) fn attrs_of(metadata: &Metadata) -> FileAttrs {
@@ -46,13 +46,21 @@ pub(crate) fn is_folder(rt: &HostRuntime, path: &str) -> bool {
     }
 }
 
-/// Creates a directory, or accepts an existing one. An existing symbolic link is no directory, except for the root of a
-/// tree.
-pub(crate) fn make_local_folder(rt: &HostRuntime, path: &str, is_root: bool) -> io::Result<()> {
-    let Err(e) = fs::create_dir(rt, path) else {
+/// Creates a directory with these permissions, as far as the umask permits them, or accepts an existing one. An existing
+/// symbolic link is a directory only if it is followed.
+pub(crate) fn make_local_folder(
+    rt: &HostRuntime,
+    path: &str,
+    mode: Option<u32>,
+    is_followed: bool,
+) -> io::Result<()> {
+    let Err(e) = DirBuilder::new()
+        .mode(mode.unwrap_or(0o777))
+        .create(rt, path)
+    else {
         return Ok(());
     };
-    let there = if is_root {
+    let there = if is_followed {
         fs::metadata(rt, path)
     } else {
         fs::symlink_metadata(rt, path)
@@ -94,6 +102,47 @@ pub(crate) fn keep_local(rt: &HostRuntime, path: &str, attrs: &FileAttrs) -> io:
     Ok(())
 }
 
+/// Returns true if a file can get this name: nothing has it, or a file or a symbolic link to one, which is replaced.
+pub(crate) fn may_be_replaced(rt: &HostRuntime, path: &str) -> bool {
+    match fs::symlink_metadata(rt, path) {
+        Ok(metadata) if metadata.is_symlink() => match fs::metadata(rt, path) {
+            Ok(metadata) => metadata.is_file(),
+            Err(e) => e.kind() == ErrorKind::NotFound,
+        },
+        Ok(metadata) => metadata.is_file(),
+        Err(_) => true,
+    }
+}
+
+/// Adds an entry of a local directory to a walk. An entry that can't be examined, for example because it was removed in
+/// the meantime, is reported.
+///
+/// # Errors
+///
+/// A `TransferError` if the walk can't continue.
+fn add_local(
+    rt: &HostRuntime,
+    walk: &mut Walk,
+    entry: &DirEntry,
+    complete: &mut bool,
+) -> Result<(), TransferError> {
+    let name = entry.file_name().as_bytes();
+    let metadata = match entry.metadata() {
+        Ok(metadata) => metadata,
+        Err(e) => {
+            *complete = false;
+            let path = path_in(rt.alloc(), walk.folder().source.as_slice(), name)?;
+            tell_of(rt, &path, &TransferError::from(e));
+            return Ok(());
+        }
+    };
+    match walk.add(rt.alloc(), name, kind_of(&metadata), attrs_of(&metadata)) {
+        Ok(()) => Ok(()),
+        Err(WalkError::TooMany) => Err(TransferError::TooManyEntries),
+        Err(WalkError::OutOfMemory) => Err(TransferError::OutOfMemory),
+    }
+}
+
 /// Adds the entries of a local directory to a walk. A name that isn't UTF-8 can't be opened: it is reported, and the
 /// walk isn't complete.
 pub(crate) fn list_local(
@@ -107,17 +156,7 @@ pub(crate) fn list_local(
     let entries = fs::read_dir(rt, path)?;
     for entry in entries {
         match entry {
-            Ok(entry) => {
-                let metadata = entry.metadata()?;
-                let name = entry.file_name().as_bytes();
-                match walk.add(rt.alloc(), name, kind_of(&metadata), attrs_of(&metadata)) {
-                    Ok(()) => {}
-                    Err(WalkError::TooMany) => {
-                        return Err(TransferError::TooManyEntries);
-                    }
-                    Err(WalkError::OutOfMemory) => return Err(TransferError::OutOfMemory),
-                }
-            }
+            Ok(entry) => add_local(rt, walk, &entry, complete)?,
             Err(e) if e.kind() == ErrorKind::InvalidFilename => {
                 *complete = false;
                 tell_of(

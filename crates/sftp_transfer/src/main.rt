@@ -13,6 +13,7 @@ mod local_side;
 mod printable;
 mod resume;
 mod run;
+mod run_number;
 mod sources;
 mod system;
 mod terminal;
@@ -49,7 +50,7 @@ fn main(rt: HostRuntime) -> ExitCode {
         let _ = eprintln!(rt; "sftp_transfer: out of memory");
         ended::OUT_OF_MEMORY
     } else {
-        run(&mut Terminal::new(&rt, &words), &words)
+        run(&mut Terminal::new(&rt, &words), rt.alloc(), &words)
     };
     ExitCode::from(status)
 }

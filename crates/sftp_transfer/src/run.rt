@@ -4,8 +4,9 @@ ghost use Rattle.std.specs.String.{string_bytes};
 ghost use Rattle.transfer_args.specs.Words.{asked_seen, work_seen};
 ghost use Rattle.sftp_transfer.specs.Ended.{EndsAsked, ProgramEnds, Looked, OutsideAct, Refused, Went, Wrote};
 
-use crate::ended::{LOCAL, Reach, Text, WORDS, status_of, text_of};
-use transfer_args::{Asked, Work, read_words};
+use crate::ended::{LOCAL, OUT_OF_MEMORY, Reach, Text, WORDS, status_of, text_of};
+use std::alloc::Global;
+use transfer_args::{ArgsError, Asked, Work, read_words};
 
 /// The program's environment: standard output, local files and the network.
 ///
@@ -24,9 +25,9 @@ pub trait Outside {
     fn write(&mut self, text: Text) -> bool
         ensures { Self.history self.new ≡ Self.done (Wrote text result) (Self.history self.old) };
 
-    /// Reports that the command line can't be used.
-    fn refuse(&mut self)
-        ensures { Self.history self.new ≡ Self.done Refused (Self.history self.old) };
+    /// Reports why the command line gives no request.
+    fn refuse(&mut self, why: ArgsError)
+        ensures { Self.history self.new ≡ Self.done (Refused why) (Self.history self.old) };
 
     /// Returns true if the local side lets the work start; otherwise the reason is reported.
     fn look(&mut self, work: &Work<'_>) -> bool
@@ -51,21 +52,25 @@ fn run_asked<O: Outside>(outside: &mut O, asked: &Asked<'_>) -> u8
 ///
 /// - 0: a text was written, or everything that was asked for was done.
 /// - 1: something was not done.
-/// - 2: exactly if the command line is refused.
+/// - 2: the command line is refused.
 /// - 3: a text or a listing could not be written, or the local side didn't let the work start.
 /// - 5: an allocation failed.
-/// - 6: exactly if the command line asks for a link at which no server could be reached.
-pub fn run<O: Outside>(outside: &mut O, words: &[String]) -> u8
+/// - 6: the command line asks for a link at which no server could be reached.
+/// - 7: something was not done, because the connection to the server failed or ended.
+pub fn run<O: Outside>(outside: &mut O, alloc: Global, words: &[String]) -> u8
     ensures { ProgramEnds O.done (map string_bytes words.now) result (O.history outside.old) (O.history outside.new) }
 {
     if let Some(text) = text_of(words) {
         return if outside.write(text) { 0 } else { LOCAL };
     }
-    match read_words(words) {
-        Some(asked) => run_asked(outside, &asked),
-        None => {
-            outside.refuse();
-            WORDS
+    match read_words(alloc, words) {
+        Ok(asked) => run_asked(outside, &asked),
+        Err(why) => {
+            outside.refuse(why);
+            match why {
+                ArgsError::Refused => WORDS,
+                ArgsError::OutOfMemory => OUT_OF_MEMORY,
+            }
         }
     }
 }

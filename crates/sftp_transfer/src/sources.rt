@@ -181,12 +181,7 @@ impl<'a, L: Link> Courier<'a, L> {
     }
 
     /// Returns the jobs of all sources. Returns `None` if they can't be gathered, and reports the reason.
-    pub(crate) fn gather(
-        &mut self,
-        sources: &[String],
-        target: &str,
-        into: bool,
-    ) -> Option<Gathered>
+    pub(crate) fn gather(&mut self, sources: &[&str], target: &str, into: bool) -> Option<Gathered>
         requires { IsGoing L.LinkState.state self.old.sftp }
         ensures { IsGoing L.LinkState.state self.new.sftp }
     {
@@ -195,7 +190,7 @@ impl<'a, L: Link> Courier<'a, L> {
             complete: true,
         };
         for path in sources {
-            let path = path.as_str();
+            let path = *path;
             if let Err(reason) = self.gather_source(path, target, into, &mut gathered) {
                 tell_of(self.rt, path.as_bytes(), &reason);
                 gathered.complete = false;

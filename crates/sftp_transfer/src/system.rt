@@ -2,7 +2,7 @@
 use crate::comparison::read_some;
 use bytes::Bytes;
 use std::alloc::Global;
-use std::fs::{File, OpenFile, OpenOptions};
+use std::fs::{File, Metadata, OpenFile, OpenOptions};
 use std::io::{ErrorKind, Seek, SeekFrom, Write};
 use std::marker::Model;
 use std::os::unix::fs::{MetadataExt, OpenOptionsExt};
@@ -55,7 +55,7 @@ impl<'a> LocalFile for SystemFile<'a> {
     }
 
     fn create(&mut self, name: &str) -> Result<(), LocalError> {
-        self.file = Some(create_anew(self.runtime, name, self.mode)?);
+        self.file = Some(create_file(self.runtime, name, self.mode)?);
         Ok(())
     }
 
@@ -87,11 +87,21 @@ impl<'a> LocalFile for SystemFile<'a> {
     }
 
     fn rename(&mut self, from: &str, to: &str) -> Result<(), LocalError> {
+        let Some(file) = &self.file else {
+            return Err(LocalError::Failed(ErrorKind::NotFound.into()));
+        };
+        if !is_same_file(
+            &file.metadata()?,
+            &fs::symlink_metadata(self.runtime, from)?,
+        ) {
+            return Err(LocalError::Failed(changed()));
+        }
         Ok(fs::rename(self.runtime, from, to)?)
     }
 }
 
-/// Creates a file that does not exist, with these permissions under the umask; without any, with 0666.
+/// Creates a file that does not exist, with these permissions under the umask; without any, with 0666. An entry with the
+/// name, such as a symbolic link, is an error.
 fn create_file(rt: &HostRuntime, name: &str, mode: Option<u32>) -> io::Result<File> {
     OpenOptions::new()
         .write(true)
@@ -100,15 +110,9 @@ fn create_file(rt: &HostRuntime, name: &str, mode: Option<u32>) -> io::Result<Fi
         .open(rt, name)
 }
 
-/// Creates a file. An existing entry with the name is removed, so that a symbolic link there isn't followed.
-fn create_anew(rt: &HostRuntime, name: &str, mode: Option<u32>) -> io::Result<File> {
-    match create_file(rt, name, mode) {
-        Err(e) if e.kind() == ErrorKind::AlreadyExists => {
-            fs::remove_file(rt, name)?;
-            create_file(rt, name, mode)
-        }
-        made => made,
-    }
+/// Returns true if these are metadata of one file.
+fn is_same_file(one: &Metadata, other: &Metadata) -> bool {
+    one.dev() == other.dev() && one.ino() == other.ino()
 }
 
 /// Returns the error for a file that is not the one that was found.
@@ -128,7 +132,7 @@ fn open_behind(rt: &HostRuntime, name: &str, len: u64) -> io::Result<File> {
     }
     let file = OpenOptions::new().append(true).open(rt, name)?;
     let now = file.metadata()?;
-    if now.dev() != seen.dev() || now.ino() != seen.ino() || now.len() != len {
+    if !is_same_file(&now, &seen) || now.len() != len {
         return Err(changed());
     }
     Ok(file)

@@ -12,15 +12,21 @@ Usage: sftp_transfer LINK get [OPTIONS] REMOTE.. LOCAL
 Copies files and directory trees from or to an SFTP server, many files at once and with
 many requests in flight for each, or lists a directory on the server.
 
-LINK is unix:PATH, a Unix socket on which the server listens, tcp:HOST:PORT, or stdio, if
-standard input and output are the connection. With ssh:
+LINK is one of
 
-  socat UNIX-LISTEN:sftp.socket,fork EXEC:'ssh -s HOST sftp' &
-  sftp_transfer unix:sftp.socket get -r /etc/ssh copies
+  ssh:PATH       the control socket of an ssh connection (ssh -fNM -S PATH HOST)
+  unix:PATH      a Unix socket on which an SFTP server listens
+  tcp:HOST:PORT  an SFTP server without ssh
+  files:IN:OUT   two named pipes: IN carries the replies, and OUT the requests
+  stdio          standard input and output
+
+The command tilfrjon starts the ssh connection itself: tilfrjon get -r HOST:/etc/ssh copies
 
   -r           copy directories with their contents; symbolic links are copied as links
+  --links as-is  copy links of the server that lead out of the tree, too
   -p           keep permissions exactly, whatever the umask, and times
-  --resume     continue files from the bytes that an earlier run left in their part files
+  --resume     continue files from the bytes that an earlier run left in their part files, and
+               keep the part files of copies that fail
   --verify     read copied files back from the server, and compare them
   -q           report only what was not done
   --progress   report the progress on standard error
@@ -32,11 +38,13 @@ standard input and output are the connection. With ssh:
                and 0 is no limit
   -l           list types and sizes
 
-Options of one letter may share a word, as in -rp, and numbers may follow as in --files=8.
+Options may come before and after files. Options of one letter may share a word, as in -rp,
+and values may follow as in --files=8.
 
 If the target is a directory, or if there are several sources, each source is copied into
-the target. A file NAME is written as .NAME.part beside it, and gets its name once all its
-bytes have arrived; it replaces a file of that name. Failures are reported on standard error.
+the target. A file NAME is written as .NAME.RUN.part beside it, where RUN is the number of
+the run, and gets its name once all its bytes have arrived; it replaces a file of that name.
+Failures are reported on standard error.
 
 Exit status:
   0  everything was done
@@ -45,6 +53,7 @@ Exit status:
   3  the local side failed before anything was done
   5  out of memory
   6  no server could be reached at LINK
+  7  something was not done, because the connection to the server was lost
 "
 }
 

@@ -4,7 +4,7 @@ use sftp_model::Error;
 use ssh_encoding::OutOfMemory;
 use std::io;
 use std::io::ErrorKind;
-use transfer_plan::Task;
+use transfer_plan::{Found, Task};
 use transfer_pool::{CopyError, LocalError};
 use transfer_remote::RemoteError;
 
@@ -80,9 +80,20 @@ pub(crate) fn no_text() -> TransferError {
     TransferError::Refused("a local file can't have this name: it is not UTF-8")
 }
 
-/// Returns the reason why a task does nothing.
-pub(crate) fn refusal_of(task: Task) -> &'static str {
-    match task {
+/// Returns true if the last component of a path is longer than file systems allow.
+fn has_long_name(path: &[u8]) -> bool {
+    match path.iter().rposition(|byte| *byte == b'/') {
+        Some(slash) => path.len().saturating_sub(slash) > 256,
+        None => path.len() > 255,
+    }
+}
+
+/// Returns the reason why an entry that was found is not copied.
+pub(crate) fn refusal_of(found: &Found) -> &'static str {
+    match found.task {
+        Task::RefuseName if has_long_name(found.source.as_slice()) => {
+            "skipped: the name has more than 255 bytes"
+        }
         Task::RefuseName => "skipped: the name leads out of its directory",
         Task::RefuseText => "skipped: the name is not UTF-8, and a local file can't have it",
         Task::RefuseDepth => "skipped: more than 64 nested directories",
@@ -96,6 +107,9 @@ pub(crate) fn refusal_of(task: Task) -> &'static str {
 pub(crate) fn tell(rt: &HostRuntime, name: &str, reason: &TransferError) {
     let _ = match reason {
         TransferError::Refused(why) => eprintln!(rt; "sftp_transfer: {name}: {why}"),
+        TransferError::Remote(Error::BackgroundTaskFailure(fault)) => eprintln!(rt;
+            "sftp_transfer: {name}: {fault}"
+        ),
         TransferError::Remote(e) => eprintln!(rt; "sftp_transfer: {name}: {e}"),
         TransferError::Local(e) => eprintln!(rt; "sftp_transfer: {name}: {e}"),
         TransferError::TooLong => eprintln!(rt; "sftp_transfer: {name}: too many steps"),
@@ -122,10 +136,26 @@ pub(crate) fn is_starved(reason: &TransferError) -> bool {
     }
 }
 
-/// Returns true if nothing else can be done: an allocation failed, or the session keeps a fault.
-pub(crate) fn ends_all(reason: &TransferError) -> bool {
+/// Returns true if the session failed, so that nothing else can be done over it.
+pub(crate) fn is_session_failure(reason: &TransferError) -> bool {
     match reason {
-        TransferError::OutOfMemory | TransferError::Remote(Error::BackgroundTaskFailure(_)) => true,
+        TransferError::Remote(Error::BackgroundTaskFailure(_)) => true,
+        _ => false,
+    }
+}
+
+/// Returns true if nothing else can be done: an allocation failed, or the session did.
+pub(crate) fn ends_all(reason: &TransferError) -> bool {
+    is_starved(reason) || is_session_failure(reason)
+}
+
+/// Returns true if a local disk has no space left for files.
+pub(crate) fn is_full(reason: &TransferError) -> bool {
+    match reason {
+        TransferError::Local(e) => match e.kind() {
+            ErrorKind::StorageFull | ErrorKind::QuotaExceeded => true,
+            _ => false,
+        },
         _ => false,
     }
 }

@@ -5,7 +5,7 @@ ghost use Rattle.transfer_pool.specs.Jobs.{NotesOver};
 use crate::batch::keep_file;
 use crate::compared::ComparedFile;
 use crate::copy::read_back_of;
-use crate::transfer_error::{TransferError, ends_all, is_starved, tell_of};
+use crate::transfer_error::{TransferError, is_session_failure, is_starved, tell, tell_of};
 use crate::verdicts::Verdicts;
 use transfer_args::{Direction, Options};
 use transfer_plan::{Found, JobVerdict};
@@ -56,11 +56,19 @@ impl<'a> Checks<'a> {
         (starved, verdicts)
     }
 
-    /// Reports why a file was not compared, or that it differs, and returns its verdict.
+    /// Reports why a file was not compared, or that it differs, and returns its verdict. The failure of the session is
+    /// reported once.
     fn refuse(&mut self, found: &Found, reason: &TransferError) -> JobVerdict {
+        if is_session_failure(reason) {
+            if !self.ended {
+                tell(self.rt, "the session", reason);
+            }
+            self.ended = true;
+            return JobVerdict::Stop;
+        }
         tell_of(self.rt, found.source.as_slice(), reason);
         self.starved = self.starved || is_starved(reason);
-        if ends_all(reason) {
+        if is_starved(reason) {
             self.ended = true;
             return JobVerdict::Stop;
         }

@@ -3,19 +3,18 @@ ghost use Rattle.std.specs.Prelude.{◌<◌, ◌-◌, ◌^◌};
 ghost use Rattle.transfer_pool.specs.Sessions.{IsGoing};
 
 use crate::batch::Totals;
+use crate::connection::{Connection, is_lost};
 use crate::courier::Courier;
 use crate::ended::{Reach, ended_by};
 use crate::listing::list;
 use crate::local_side::{is_folder, make_local_folder};
+use crate::run_number::RunNumber;
 use crate::transfer_error::{TransferError, is_starved, tell, tell_of};
 use crate::verdicts::Verdicts;
-use link_duplex::{DuplexLink, StreamWire};
 use sftp_client::Sftp;
 use sftp_link::Link;
-use sftp_model::SftpOptions;
+use sftp_model::{Error, SftpOptions};
 use std::fs;
-use std::io::{Read, Write};
-use std::os::fd::AsRawFd;
 use transfer_args::{Direction, Transfer, Work};
 use transfer_plan::{carry_out, keep_apart};
 use transfer_remote::{make_remote_folder, remote_metadata};
@@ -24,21 +23,21 @@ use transfer_remote::{make_remote_folder, remote_metadata};
 /// Otherwise reports the reason.
 pub(crate) fn can_begin(rt: &HostRuntime, transfer: &Transfer<'_>) -> bool {
     match transfer.way {
-        Direction::Put => has_source(rt, transfer.sources),
+        Direction::Put => has_source(rt, &transfer.sources),
         Direction::Get => has_target(rt, transfer.target, transfer.sources.len() > 1),
     }
 }
 
 /// Returns true if one of the sources exists. If none does, the reason is reported for each.
-fn has_source(rt: &HostRuntime, sources: &[String]) -> bool {
+fn has_source(rt: &HostRuntime, sources: &[&str]) -> bool {
     for source in sources {
-        if fs::metadata(rt, source.as_str()).is_ok() {
+        if fs::metadata(rt, *source).is_ok() {
             return true;
         }
     }
     for source in sources {
-        if let Err(e) = fs::metadata(rt, source.as_str()) {
-            tell(rt, source.as_str(), &TransferError::from(e));
+        if let Err(e) = fs::metadata(rt, *source) {
+            tell(rt, source, &TransferError::from(e));
         }
     }
     false
@@ -51,7 +50,7 @@ fn has_target(rt: &HostRuntime, target: &str, several: bool) -> bool {
         return true;
     }
     let made = if several {
-        make_local_folder(rt, target, true)
+        make_local_folder(rt, target, None, true)
     } else {
         match fs::metadata(rt, folder_of(target)) {
             Ok(_) => Ok(()),
@@ -76,58 +75,87 @@ fn folder_of(path: &str) -> &str {
     }
 }
 
-/// Reports that the server was silent, if the wire was given up for that.
-fn tell_silence<R: Read + AsRawFd + Drop, W: Write + AsRawFd + Drop>(
+/// Copies files over a session, and returns the result.
+fn copy_over<L: Connection + Drop>(
     rt: &HostRuntime,
-    link: &DuplexLink<StreamWire<R, W>>,
-    seconds: u32,
-) {
-    if link.wire().is_silent() {
-        let _ = eprintln!(rt; "sftp_transfer: the server was silent for {seconds} seconds");
-    }
+    sftp: Sftp<L>,
+    transfer: &Transfer<'_>,
+) -> Reach
+    requires { IsGoing L.LinkState.state sftp }
+{
+    let run = match RunNumber::random(rt) {
+        Ok(run) => run,
+        Err(e) => {
+            tell(rt, "the number of the run", &TransferError::from(e));
+            return Reach::NotDone;
+        }
+    };
+    let mut courier = Courier {
+        rt,
+        sftp,
+        run,
+        way: transfer.way,
+        options: transfer.options,
+        is_root_followed: false,
+        totals: Totals {
+            files: 0,
+            bytes: 0,
+            starved: false,
+        },
+        verdicts: Verdicts::none(rt.alloc()),
+    };
+    let reach = copy(&mut courier, transfer);
+    courier.sftp.link().report(rt, transfer.options.timeout);
+    reach
 }
 
-/// Does the requested work over a link, which is dropped at the end, and returns the result.
-pub(crate) fn over<R: Read + AsRawFd + Drop, W: Write + AsRawFd + Drop>(
+/// Reports that there is no session, and returns the result. `advice` is added if the server does not speak the protocol.
+fn without_session<L: Connection>(
     rt: &HostRuntime,
-    link: DuplexLink<StreamWire<R, W>>,
-    work: Work<'_>,
+    error: Error,
+    link: &L,
+    seconds: u32,
+    advice: Option<&str>,
+) -> Reach {
+    let is_lost = match error {
+        Error::LinkFault | Error::LinkEnded => true,
+        _ => false,
+    };
+    let is_other = match error {
+        Error::FormatError(_) => true,
+        _ => false,
+    };
+    let reason = TransferError::from(error);
+    tell(rt, "the session", &reason);
+    if let (Some(advice), true) = (advice, is_other) {
+        let _ = eprintln!(rt; "sftp_transfer: {advice}");
+    }
+    link.report(rt, seconds);
+    ended_by(is_starved(&reason), is_lost, false, false)
+}
+
+/// Does the requested work over a link, which is dropped at the end, and returns the result. `advice` is added if the
+/// server does not speak the protocol.
+pub(crate) fn over<L: Connection + Drop>(
+    rt: &HostRuntime,
+    link: L,
+    work: &Work<'_>,
+    advice: Option<&str>,
 ) -> Reach
-    requires { link.wire.faults < 2 ^ 64 - 1 }
+    requires { (L.LinkState.state link).faults < 2 ^ 64 - 1 }
 {
     let seconds = work.timeout();
     match Sftp::new(rt.alloc(), link, &SftpOptions::new()) {
         Ok(sftp) => match work {
-            Work::Copy(transfer) => {
-                let mut courier = Courier {
-                    rt,
-                    sftp,
-                    way: transfer.way,
-                    options: transfer.options,
-                    totals: Totals {
-                        files: 0,
-                        bytes: 0,
-                        starved: false,
-                    },
-                    verdicts: Verdicts::none(rt.alloc()),
-                };
-                let reach = copy(&mut courier, &transfer);
-                tell_silence(rt, courier.sftp.link(), seconds);
-                reach
-            }
+            Work::Copy(transfer) => copy_over(rt, sftp, transfer),
             Work::List(listing) => {
                 let mut sftp = sftp;
-                let reach = list(rt, &mut sftp, &listing);
-                tell_silence(rt, sftp.link(), seconds);
+                let reach = list(rt, &mut sftp, listing);
+                sftp.link().report(rt, seconds);
                 reach
             }
         },
-        Err((e, link)) => {
-            let reason = TransferError::from(e);
-            tell(rt, "the session", &reason);
-            tell_silence(rt, &link, seconds);
-            ended_by(is_starved(&reason), false, false)
-        }
+        Err((e, link)) => without_session(rt, e, &link, seconds, advice),
     }
 }
 
@@ -148,11 +176,14 @@ fn goes_into<L: Link>(
             match remote_metadata(courier.rt.alloc(), &mut courier.sftp, target) {
                 Ok(metadata) if metadata.file_type().is_some_and(|kind| kind.is_dir()) => Ok(true),
                 _ if several => {
-                    match make_remote_folder(courier.rt.alloc(), &mut courier.sftp, target) {
+                    match make_remote_folder(courier.rt.alloc(), &mut courier.sftp, target, None) {
                         Ok(()) => Ok(true),
                         Err(e) => Err(e.into()),
                     }
                 }
+                Ok(metadata) if metadata.file_type().is_some_and(|kind| !kind.is_file()) => Err(
+                    TransferError::Refused("not replaced: it is neither a file nor a directory"),
+                ),
                 _ => Ok(false),
             }
         }
@@ -167,20 +198,37 @@ fn copy<L: Link>(courier: &mut Courier<'_, L>, transfer: &Transfer<'_>) -> Reach
         Ok(into) => into,
         Err(reason) => {
             tell_of(courier.rt, transfer.target.as_bytes(), &reason);
-            return ended_by(is_starved(&reason), false, false);
+            let is_lost = is_lost(&mut courier.sftp);
+            return ended_by(is_starved(&reason), is_lost, false, false);
         }
     };
-    let Some(gathered) = courier.gather(transfer.sources, transfer.target, into) else {
-        return ended_by(courier.totals.starved, false, false);
+    courier.is_root_followed = !into;
+    let Some(gathered) = courier.gather(&transfer.sources, transfer.target, into) else {
+        return ended_by(
+            courier.totals.starved,
+            is_lost(&mut courier.sftp),
+            false,
+            false,
+        );
     };
     let alloc = courier.rt.alloc();
-    let Ok(jobs) = keep_apart(alloc, gathered.jobs) else {
+    let number = courier.run;
+    let run = number.as_bytes();
+    let Ok(jobs) = keep_apart(alloc, gathered.jobs, run) else {
         return Reach::OutOfMemory;
     };
-    let carried = carry_out(alloc, courier, &jobs, transfer.options.preserve);
+    let carried = carry_out(alloc, courier, &jobs, run, transfer.options.preserve);
     courier.tell_end(jobs.len() > 1);
     match carried {
-        Ok(tally) => ended_by(courier.totals.starved, gathered.complete, tally.all_done()),
+        Ok(tally) => {
+            let is_lost = is_lost(&mut courier.sftp);
+            ended_by(
+                courier.totals.starved,
+                is_lost,
+                gathered.complete,
+                tally.all_done(),
+            )
+        }
         Err(_) => Reach::OutOfMemory,
     }
 }
