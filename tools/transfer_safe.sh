@@ -116,8 +116,8 @@ for case in 'socket get far near' 'socket put near far' 'plain put near far'; do
     one=$!
     run "$1" "$2" "$room/$3/letters" "$room/$4/twice" --window 2
     wait $one
-    first=$?
-    [ $first -le 1 ] && [ $status -le 1 ] && [ $((first + status)) -le 1 ] && is_one "$room/$4/twice" &&
+    other=$?
+    [ $other -le 1 ] && [ $status -le 1 ] && [ $((other + status)) -le 1 ] && is_one "$room/$4/twice" &&
         ! ls "$room/$4"/.twice* >"$room/out" 2>&1
     tell "two runs at once, $1 $2" $?
 done
