@@ -1,0 +1,6 @@
+pub mod Patterns
+pub mod Matches
+pub mod Filters
+pub mod Rows
+pub mod Rules
+pub mod FilterRows

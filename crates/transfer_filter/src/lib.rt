@@ -1,0 +1,14 @@
+//! Leaves out entries of a tree by patterns.
+#![tactic(auto)]
+
+mod effect;
+mod filter;
+mod filter_error;
+mod matcher;
+mod pattern;
+mod rule;
+
+pub use effect::Effect;
+pub use filter::Filter;
+pub use filter_error::FilterError;
+pub use pattern::is_pattern;

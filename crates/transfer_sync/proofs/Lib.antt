@@ -1,0 +1,17 @@
+pub mod PathLaws
+pub mod LoopSteps
+pub mod ListingLaws
+pub mod SweepLaws
+pub mod BlockedLaws
+pub mod InSyncLaws
+pub mod CountLaws
+pub mod InterruptLaws
+pub mod ExcludedLaws
+pub mod FinalTreeLaws
+pub mod RemovalLaws
+pub mod AbsentLaws
+pub mod OrderLaws
+pub mod MirrorLaws
+pub mod UpToDateLaws
+pub mod InsideLaws
+pub mod SyncLaws

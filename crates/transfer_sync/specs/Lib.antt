@@ -1,0 +1,12 @@
+pub mod Rules
+pub mod Paths
+pub mod PathMaps
+pub mod Entries
+pub mod Listings
+pub mod Verdicts
+pub mod Actions
+pub mod Sweeps
+pub mod Plans
+pub mod Trees
+pub mod Theorems
+pub mod PlanRows
