@@ -96,8 +96,8 @@ expect 2 'sftp_serve: word 2 hex' sftp_serve 'dir 64' 'dir x'
 expect 2 'sftp_serve: word 1 count' sftp_serve "$(printf 'file 61 -\ndir 62')"
 
 refuse "unknown link 'no-such-argument', which is not ssh:PATH, unix:PATH, tcp:HOST:PORT, files:IN:OUT or stdio" sftp_transfer no-such-argument
-refuse "get, put or list is missing after 'unix:s'" sftp_transfer unix:s
-refuse "unknown command 'gte', which is not get, put or list" sftp_transfer unix:s gte a b
+refuse "get, put, pull, push, list, remove, mkdir, move, link or chmod is missing after 'unix:s'" sftp_transfer unix:s
+refuse "unknown command 'gte', which is not get, put, pull, push, list, remove, mkdir, move, link or chmod" sftp_transfer unix:s gte a b
 refuse "unknown option '--resum'" sftp_transfer unix:s get --resum a b
 refuse "unknown option '-x'" sftp_transfer unix:s list -x
 refuse "unknown option '-rx'" sftp_transfer unix:s get -rx a b
@@ -118,6 +118,18 @@ refuse "'get' needs a source and a target" sftp_transfer unix:s get -r a
 refuse "'put' needs a source and a target" sftp_transfer unix:s put -- -r
 refuse "'list' takes no argument 'b'" sftp_transfer unix:s list -l a b
 refuse "'list' can't be used with stdio, since standard output is the connection" sftp_transfer stdio list
+refuse "unknown option '-r'" sftp_transfer unix:s push -r a b
+refuse "unknown option '--delete'" sftp_transfer unix:s put --delete a b
+refuse "'push' needs a source and a target" sftp_transfer unix:s push a
+refuse "'pull' takes no argument 'c' after its target" sftp_transfer unix:s pull a b c
+refuse "the number of '--delete-at-most' is from 0 to 1000000, not '-1'" sftp_transfer unix:s push --delete-at-most=-1 a b
+pattern="it needs a name, and '[', '\\' and '***' have no meaning here"
+refuse "the pattern of '--exclude' can't be used: '[a]' ($pattern)" sftp_transfer unix:s push --exclude '[a]' a b
+refuse "the pattern of '--include' can't be used: '/' ($pattern)" sftp_transfer unix:s pull --include=/ a b
+refuse "the mode of 'chmod' is 1 to 4 octal digits, not '8'" sftp_transfer unix:s chmod 8 a
+refuse "the mode of 'chmod' is 1 to 4 octal digits, not '07755'" sftp_transfer unix:s chmod 07755 a
+refuse "a path of 'remove' is empty" sftp_transfer unix:s remove ''
+refuse "unknown option '-r'" sftp_transfer unix:s mkdir -r a
 
 # Arguments that are right, and an input that is not.
 printf 'no-such-line\n' >"$room/input"

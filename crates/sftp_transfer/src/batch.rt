@@ -2,7 +2,7 @@
 ghost use Rattle.std.specs.Prelude.{◌≡◌};
 ghost use Rattle.transfer_pool.specs.Jobs.{NotesOver};
 
-use crate::copy::copy_of;
+use crate::copy::{Kept, Manner, copy_of, kept_attrs};
 use crate::local_side::{keep_local, may_be_replaced};
 use crate::system::SystemFile;
 use crate::transfer_error::{
@@ -10,15 +10,17 @@ use crate::transfer_error::{
 };
 use crate::verdicts::Verdicts;
 use std::str;
-use transfer_args::{Direction, Options};
+use transfer_args::Direction;
 use transfer_plan::{Found, JobVerdict, Tally, Task};
 use transfer_pool::{Copied, CopyError, CopyJob, CopyJobs, LocalError, Wanted};
 
-/// The number of files and bytes copied, and a flag that is true if an allocation failed.
+/// The number of files and bytes copied and of entries removed, and a flag that is true if an allocation failed.
 #[derive(Clone, Copy)]
 pub(crate) struct Totals {
     pub(crate) files: u64,
     pub(crate) bytes: u64,
+    /// The entries of the target that were removed.
+    pub(crate) removed: u64,
     pub(crate) starved: bool,
 }
 
@@ -66,8 +68,7 @@ impl<'a> Files<'a> {
 #[derive(Drop)]
 pub(crate) struct Batch<'a> {
     rt: &'a HostRuntime,
-    way: Direction,
-    options: Options,
+    manner: Manner,
     files: Files<'a>,
     /// The index of the next job.
     next: usize,
@@ -90,18 +91,17 @@ pub(crate) struct BatchEnd {
     pub(crate) next: usize,
 }
 
-/// Gives a local file that was copied its permissions and times, if that is asked for.
+/// Gives a local file that was copied the attributes that are kept.
 pub(crate) fn keep_file(
     rt: &HostRuntime,
-    way: Direction,
-    options: Options,
+    manner: Manner,
     found: &Found,
 ) -> Result<(), TransferError> {
-    if !options.preserve || way == Direction::Put {
+    if manner.kept == Kept::Nothing || manner.way == Direction::Put {
         return Ok(());
     }
     match str::from_utf8(found.target.as_slice()) {
-        Ok(path) => Ok(keep_local(rt, path, &found.attrs)?),
+        Ok(path) => Ok(keep_local(rt, path, &kept_attrs(manner.kept, &found.attrs))?),
         Err(_) => Err(no_text()),
     }
 }
@@ -119,16 +119,14 @@ impl<'a> Batch<'a> {
     /// Returns a queue of these files. `verdicts` has a place for each of their jobs.
     pub(crate) fn new(
         rt: &'a HostRuntime,
-        way: Direction,
-        options: Options,
+        manner: Manner,
         files: Files<'a>,
         totals: Totals,
         verdicts: Verdicts,
     ) -> Batch<'a> {
         Batch {
             rt,
-            way,
-            options,
+            manner,
             files,
             next: 0,
             ended: false,
@@ -190,17 +188,15 @@ impl<'a> Batch<'a> {
     ///
     /// A `TransferError` if a path can't be used, or if what has the local target can't be replaced.
     fn job_of(&self, job: usize, found: &Found) -> Result<CopyJob, TransferError> {
-        let keeps = self.options.preserve;
         let begins_at = self.files.start(job);
         let copy = copy_of(
             self.rt.alloc(),
-            self.way,
-            keeps,
+            self.manner,
             begins_at,
             self.files.run,
             found,
         )?;
-        if self.way == Direction::Get && !may_be_replaced(self.rt, copy.to.as_str()) {
+        if self.manner.way == Direction::Get && !may_be_replaced(self.rt, copy.to.as_str()) {
             return Err(TransferError::Refused(
                 "not copied: its target is neither a file nor a link to one",
             ));
@@ -229,10 +225,10 @@ impl<'a> Batch<'a> {
         self.totals.files = self.totals.files.saturating_add(1);
         self.totals.bytes = self.totals.bytes.saturating_add(len);
         self.show_progress();
-        if self.options.verify {
+        if self.manner.options.verify {
             return JobVerdict::Done;
         }
-        match keep_file(self.rt, self.way, self.options, found) {
+        match keep_file(self.rt, self.manner, found) {
             Ok(()) => JobVerdict::Done,
             Err(reason) => self.refuse(found.source.as_slice(), &reason),
         }
@@ -240,7 +236,7 @@ impl<'a> Batch<'a> {
 
     /// Reports the progress of the transfer, on a line that the next report replaces.
     fn show_progress(&mut self) {
-        if self.options.progress && !self.options.quiet {
+        if self.manner.options.progress && !self.manner.options.quiet {
             self.line = true;
             let _ = eprint!(self.rt;
                 "\r{} files, {} bytes",

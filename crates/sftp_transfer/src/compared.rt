@@ -68,10 +68,18 @@ impl<'a> LocalFile for ComparedFile<'a> {
         compare_next(self.runtime.alloc(), file, bytes)
     }
 
+    fn sync(&mut self) -> Result<(), LocalError> {
+        Ok(())
+    }
+
     fn rename(&mut self, _from: &str, _to: &str) -> Result<(), LocalError> {
         let Some(file) = &mut self.file else {
             return Err(unopened());
         };
         compare_end(file)
+    }
+
+    fn sync_parent(&mut self, _name: &str) -> Result<(), LocalError> {
+        Ok(())
     }
 }

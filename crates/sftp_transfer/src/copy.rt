@@ -2,15 +2,37 @@
 ghost use Rattle.std.specs.Prelude.{◌≡◌, IfOk};
 ghost use Rattle.std.specs.Option.{option_map};
 ghost use Rattle.std.specs.String.{string_bytes};
-ghost use Rattle.sftp_transfer.specs.Copies.{AreKeptOf, GivesKept, IsCopyOf, IsReadBackOf, folder_mode, local_of, nine_bits, part_mode, remote_of, resumed_at};
+ghost use Rattle.sftp_transfer.specs.Copies.{IsCopyOf, IsReadBackOf, attrs_given, folder_mode, kept_attrs, local_of, nine_bits, part_mode, remote_of, resumed_at};
 
 use crate::transfer_error::{TransferError, no_text};
 use sftp_model::FileAttrs;
 use std::alloc::Global;
 use std::str;
-use transfer_args::Direction;
+use transfer_args::{Direction, Options};
 use transfer_plan::{Found, part_path};
 use transfer_pool::CopyJob;
+
+/// The attributes that a copy is given besides its bytes.
+#[derive(Clone, Copy, Debug, PartialEq, Eq)]
+pub(crate) enum Kept {
+    /// None: its permissions are those that it was created with.
+    Nothing,
+    /// The times of its source.
+    Times,
+    /// The permissions and times of its source.
+    All,
+}
+
+/// How a run copies files.
+#[derive(Clone, Copy)]
+pub(crate) struct Manner {
+    /// The direction.
+    pub(crate) way: Direction,
+    /// The options of the command line.
+    pub(crate) options: Options,
+    /// The attributes that copies are given.
+    pub(crate) kept: Kept,
+}
 
 /// Returns a path as text. Fails if it isn't UTF-8.
 fn text_of(alloc: Global, path: &[u8]) -> Result<String, TransferError>
@@ -35,31 +57,31 @@ fn nine_bits(permissions: Option<u32>) -> Option<u32>
     }
 }
 
-/// Returns the permissions and times of these attributes.
-pub(crate) fn kept_attrs(attrs: &FileAttrs) -> FileAttrs
-    ensures { AreKeptOf attrs.now result }
+/// Returns the attributes that a copy of an entry with these attributes is given.
+pub(crate) fn kept_attrs(kept: Kept, attrs: &FileAttrs) -> FileAttrs
+    ensures { result ≡ kept_attrs kept attrs.now }
 {
     FileAttrs {
         size: None,
         id: None,
-        permissions: nine_bits(attrs.permissions),
-        time: attrs.time,
+        permissions: match kept {
+            Kept::All => nine_bits(attrs.permissions),
+            _ => None,
+        },
+        time: match kept {
+            Kept::Nothing => None,
+            _ => attrs.time,
+        },
     }
 }
 
-/// Returns the attributes that a copy gives the file of the server before it is closed: permissions and times, if they
-/// are preserved.
-fn attrs_given(way: Direction, keeps: bool, attrs: &FileAttrs) -> Option<FileAttrs>
-    ensures { GivesKept way keeps attrs.now result }
+/// Returns the attributes that a copy gives the file of the server before it is closed, or `None` if it gives none.
+fn attrs_given(way: Direction, kept: Kept, attrs: &FileAttrs) -> Option<FileAttrs>
+    ensures { result ≡ attrs_given way kept attrs.now }
 {
-    match way {
-        Direction::Put => {
-            if keeps {
-                return Some(kept_attrs(attrs));
-            }
-            None
-        }
-        Direction::Get => None,
+    match (way, kept) {
+        (Direction::Get, _) | (Direction::Put, Kept::Nothing) => None,
+        (Direction::Put, _) => Some(kept_attrs(kept, attrs)),
     }
 }
 
@@ -100,30 +122,31 @@ pub(crate) fn folder_mode(permissions: Option<u32>) -> Option<u32>
 }
 
 /// Returns the copy of a file that was found. It is written as the part file of this run beside its target, after the
-/// bytes that the part file has. The part file is created with the permissions of its source. With `keeps` the file of
-/// the server is given permissions and times. Fails if a path isn't UTF-8.
+/// bytes that the part file has. The part file is created with the permissions of its source. The file of the server is
+/// given the attributes that are kept. It is written through to the disk if that is asked for. Fails if a path isn't
+/// UTF-8.
 pub(crate) fn copy_of(
     alloc: Global,
-    way: Direction,
-    keeps: bool,
+    manner: Manner,
     begins_at: u64,
     run: &[u8],
     found: &Found,
 ) -> Result<CopyJob, TransferError>
-    ensures { IfOk result (IsCopyOf way keeps begins_at run.now found.now) }
+    ensures { IfOk result (IsCopyOf manner begins_at run.now found.now) }
 {
     let part = part_path(alloc, found.target.as_slice(), run)?;
     let from = text_of(alloc, found.source.as_slice())?;
     let part = text_of(alloc, part.as_slice())?;
     let to = text_of(alloc, found.target.as_slice())?;
     Ok(CopyJob {
-        way,
+        way: manner.way,
         from,
         part,
         to,
         begins_at,
         mode: part_mode(found.attrs.permissions),
-        attrs: attrs_given(way, keeps, &found.attrs),
+        attrs: attrs_given(manner.way, manner.kept, &found.attrs),
+        sync: manner.options.sync,
     })
 }
 
@@ -167,5 +190,6 @@ pub(crate) fn read_back_of(
         begins_at: 0,
         mode: None,
         attrs: None,
+        sync: false,
     })
 }

@@ -3,8 +3,8 @@ ghost use Rattle.std.specs.Prelude.{◌≡◌};
 ghost use Rattle.transfer_pool.specs.Sessions.{IsGoing};
 
 use crate::batch::{Batch, BatchEnd, Files, Totals};
-use crate::copy::{folder_mode, kept_attrs};
-use crate::local_side::{keep_local, make_local_folder, make_local_link};
+use crate::copy::{Kept, Manner, folder_mode, kept_attrs};
+use crate::local_side::{is_local_link, keep_local, make_local_folder, make_local_link};
 use crate::run_number::RunNumber;
 use crate::transfer_error::{
     TransferError, ends_all, is_starved, no_text, refusal_of, tell, tell_of,
@@ -14,14 +14,19 @@ use crate::verify::Checks;
 use crate::window::{count_files, window_for};
 use sftp_client::Sftp;
 use sftp_link::Link;
+use sftp_model::{Error, FileAttrs};
 use std::{fs, mem, str};
-use transfer_args::{Direction, Options};
+use transfer_args::Direction;
 use transfer_plan::{Found, Hand, JobVerdict, Tally, Task, leads_out, part_path};
 use transfer_pool::{CopyError, copy_all};
 use transfer_remote::{
-    make_remote_folder, make_remote_link, read_remote_link, remote_metadata, remove_remote,
-    set_remote_attrs,
+    RemoteError, make_remote_folder, make_remote_link, read_remote_link, remote_link_metadata, remote_metadata,
+    remove_remote, rename_remote, set_remote_attrs,
 };
+
+/// The status of a request that failed for a reason that no other status says (draft-ietf-secsh-filexfer-02, section
+/// 7).
+const FAILURE: u32 = 4;
 
 /// A session, and the results of the copies over it.
 #[derive(Drop)]
@@ -29,25 +34,29 @@ pub(crate) struct Courier<'a, L> {
     pub(crate) rt: &'a HostRuntime,
     pub(crate) sftp: Sftp<L>,
     pub(crate) run: RunNumber,
-    pub(crate) way: Direction,
-    pub(crate) options: Options,
+    pub(crate) manner: Manner,
     /// True if the root of a tree is the target of the command line, so that a local symbolic link there is followed.
     pub(crate) is_root_followed: bool,
+    /// True if a symbolic link replaces another one that has its name.
+    pub(crate) replaces_links: bool,
     pub(crate) totals: Totals,
     pub(crate) verdicts: Verdicts,
 }
 
 /// Returns a local path as text.
-fn text_of(path: &[u8]) -> Result<&str, TransferError> {
+pub(crate) fn text_of(path: &[u8]) -> Result<&str, TransferError> {
     match str::from_utf8(path) {
         Ok(text) => Ok(text),
         Err(_) => Err(no_text()),
     }
 }
 
-/// Creates a local symbolic link, or accepts an existing one with the same target.
-fn link_here(rt: &HostRuntime, names: &[u8], path: &[u8]) -> Result<(), TransferError> {
-    Ok(make_local_link(rt, text_of(names)?, text_of(path)?)?)
+/// Returns true if the server refused a request with FAILURE.
+fn is_failure(done: &Result<(), RemoteError>) -> bool {
+    match done {
+        Err(RemoteError::Remote(Error::SftpError { code, .. })) => *code == FAILURE,
+        _ => false,
+    }
 }
 
 impl<'a, L: Link> Courier<'a, L> {
@@ -58,7 +67,7 @@ impl<'a, L: Link> Courier<'a, L> {
     {
         let target = found.target.as_slice();
         let mode = folder_mode(found.attrs.permissions);
-        match self.way {
+        match self.manner.way {
             Direction::Get => {
                 let is_followed = found.depth == 0 && self.is_root_followed;
                 Ok(make_local_folder(self.rt, text_of(target)?, mode, is_followed)?)
@@ -86,7 +95,7 @@ impl<'a, L: Link> Courier<'a, L> {
             Some(info) => info.read_len.max(info.write_len),
             None => 1,
         };
-        window_for(self.options.window, self.options.limit, files, len)
+        window_for(self.manner.options.window, self.manner.options.limit, files, len)
     }
 
     /// Removes a part file of this run. If that fails, it stays.
@@ -94,7 +103,7 @@ impl<'a, L: Link> Courier<'a, L> {
         requires { IsGoing L.LinkState.state self.old.sftp }
         ensures { IsGoing L.LinkState.state self.new.sftp }
     {
-        match self.way {
+        match self.manner.way {
             Direction::Get => {
                 if let Ok(part) = str::from_utf8(part) {
                     let _ = fs::remove_file(self.rt, part);
@@ -111,11 +120,11 @@ impl<'a, L: Link> Courier<'a, L> {
         requires { IsGoing L.LinkState.state self.old.sftp }
         ensures { IsGoing L.LinkState.state self.new.sftp }
     {
-        if self.options.resume {
+        if self.manner.options.resume {
             return;
         }
         for job in 0..started {
-            if self.way == Direction::Put && self.sftp.core().fault().is_some() {
+            if self.manner.way == Direction::Put && self.sftp.core().fault().is_some() {
                 return;
             }
             if let (Some(found), true) = (
@@ -139,6 +148,19 @@ impl<'a, L: Link> Courier<'a, L> {
         }
     }
 
+    /// Reports that files are not written through to the disk of the server, if that is asked for and it offers no way.
+    fn tell_unsynced(&mut self)
+        requires { IsGoing L.LinkState.state self.old.sftp }
+        ensures { self.new ≡ self.old }
+    {
+        let manner = self.manner;
+        if manner.options.sync && manner.way == Direction::Put && !self.sftp.support_fsync() {
+            let _ = eprintln!(self.rt;
+                "sftp_transfer: --sync: the server does not offer fsync@openssh.com: its files may not be on its disk"
+            );
+        }
+    }
+
     /// Copies the files among the jobs except those that the tally skips, many at once, and keeps the result of each.
     fn copy_files(&mut self, jobs: &[Found], run: &[u8], tally: &Tally)
         requires { IsGoing L.LinkState.state self.old.sftp }
@@ -149,7 +171,7 @@ impl<'a, L: Link> Courier<'a, L> {
             self.tell_stop(Err(CopyError::OutOfMemory));
             return;
         };
-        let count = count_files(jobs, self.options.files);
+        let count = count_files(jobs, self.manner.options.files);
         let window = self.window(count);
         let starts = self.starts(jobs, tally);
         let files = Files {
@@ -160,8 +182,7 @@ impl<'a, L: Link> Courier<'a, L> {
         };
         let mut batch = Batch::new(
             self.rt,
-            self.way,
-            self.options,
+            self.manner,
             files,
             self.totals,
             verdicts,
@@ -177,7 +198,7 @@ impl<'a, L: Link> Courier<'a, L> {
         self.tell_stop(copied);
         self.tell_rest(files, next);
         self.remove_parts(files, next);
-        if self.options.verify {
+        if self.manner.options.verify {
             self.verify_files(jobs, count as usize, window);
         }
     }
@@ -190,7 +211,7 @@ impl<'a, L: Link> Courier<'a, L> {
     {
         let alloc = self.rt.alloc();
         let verdicts = mem::replace(&mut self.verdicts, Verdicts::none(alloc));
-        let mut checks = Checks::new(self.rt, self.way, self.options, jobs, verdicts);
+        let mut checks = Checks::new(self.rt, self.manner, jobs, verdicts);
         let compared = copy_all(alloc, &mut self.sftp, &mut checks, files, window);
         let (starved, verdicts) = checks.into_parts();
         self.totals.starved = self.totals.starved || starved;
@@ -222,14 +243,33 @@ impl<'a, L: Link> Courier<'a, L> {
             Ok(names) => names,
             Err(e) => return Err(e.into()),
         };
-        if !self.options.links_as_is
+        if !self.manner.options.links_as_is
             && leads_out(found.depth.saturating_sub(1) as usize, names.as_bytes())
         {
             return Err(TransferError::Refused(
                 "skipped: the link leads out of the tree (--links as-is copies it)",
             ));
         }
-        link_here(self.rt, names.as_bytes(), found.target.as_slice())
+        self.link_here(names.as_bytes(), found.target.as_slice())
+    }
+
+    /// Creates a local symbolic link, accepts an existing one with the same target, or replaces another link.
+    fn link_here(&self, names: &[u8], path: &[u8]) -> Result<(), TransferError> {
+        let (names, path) = (text_of(names)?, text_of(path)?);
+        let Err(e) = make_local_link(self.rt, names, path) else {
+            return Ok(());
+        };
+        if !self.replaces_links || !is_local_link(self.rt, path) {
+            return Err(e.into());
+        }
+        let part = part_path(self.rt.alloc(), path.as_bytes(), self.run.as_bytes())?;
+        let part = text_of(&part)?;
+        make_local_link(self.rt, names, part)?;
+        if let Err(e) = fs::rename(self.rt, part, path) {
+            let _ = fs::remove_file(self.rt, part);
+            return Err(e.into());
+        }
+        Ok(())
     }
 
     /// Returns true if the server has a symbolic link at a path with this target.
@@ -243,7 +283,43 @@ impl<'a, L: Link> Courier<'a, L> {
         }
     }
 
-    /// Creates a symbolic link on the server with the target of the local one, or accepts an existing one.
+    /// Returns true if the server has a symbolic link at a path.
+    fn is_remote_link(&mut self, path: &[u8]) -> bool
+        requires { IsGoing L.LinkState.state self.old.sftp }
+        ensures { IsGoing L.LinkState.state self.new.sftp }
+    {
+        match remote_link_metadata(self.rt.alloc(), &mut self.sftp, path) {
+            Ok(metadata) => metadata.file_type().is_some_and(|kind| kind.is_symlink()),
+            Err(_) => false,
+        }
+    }
+
+    /// Replaces a symbolic link on the server by one with another target, which is created beside it and renamed. If
+    /// the server refuses the rename with FAILURE, as one does that replaces nothing, the link is removed first.
+    fn replace_link(&mut self, names: &[u8], path: &[u8]) -> Result<(), TransferError>
+        requires { IsGoing L.LinkState.state self.old.sftp }
+        ensures { IsGoing L.LinkState.state self.new.sftp }
+    {
+        let alloc = self.rt.alloc();
+        let part = part_path(alloc, path, self.run.as_bytes())?;
+        if let Err(e) = make_remote_link(alloc, &mut self.sftp, names, &part) {
+            return Err(e.into());
+        }
+        let mut renamed = rename_remote(alloc, &mut self.sftp, &part, path);
+        if is_failure(&renamed) && remove_remote(alloc, &mut self.sftp, path).is_ok() {
+            renamed = rename_remote(alloc, &mut self.sftp, &part, path);
+        }
+        match renamed {
+            Ok(()) => Ok(()),
+            Err(e) => {
+                let _ = remove_remote(alloc, &mut self.sftp, &part);
+                Err(e.into())
+            }
+        }
+    }
+
+    /// Creates a symbolic link on the server with the target of the local one, accepts an existing one, or replaces
+    /// another link.
     fn link_up(&mut self, found: &Found) -> Result<(), TransferError>
         requires { IsGoing L.LinkState.state self.old.sftp }
         ensures { IsGoing L.LinkState.state self.new.sftp }
@@ -257,6 +333,9 @@ impl<'a, L: Link> Courier<'a, L> {
                 if self.has_link(names, target) {
                     return Ok(());
                 }
+                if self.replaces_links && self.is_remote_link(target) {
+                    return self.replace_link(names, target);
+                }
                 Err(e.into())
             }
         }
@@ -267,22 +346,25 @@ impl<'a, L: Link> Courier<'a, L> {
         requires { IsGoing L.LinkState.state self.old.sftp }
         ensures { IsGoing L.LinkState.state self.new.sftp }
     {
-        match self.way {
+        match self.manner.way {
             Direction::Get => self.link_down(found),
             Direction::Put => self.link_up(found),
         }
     }
 
-    /// Gives a directory the permissions and times of the one that it was copied from.
-    fn keep_attrs(&mut self, found: &Found) -> Result<(), TransferError>
+    /// Gives an entry of the target the permissions and times of the one that it was copied from.
+    pub(crate) fn keep_attrs(
+        &mut self,
+        target: &[u8],
+        attrs: &FileAttrs,
+    ) -> Result<(), TransferError>
         requires { IsGoing L.LinkState.state self.old.sftp }
         ensures { IsGoing L.LinkState.state self.new.sftp }
     {
-        let target = found.target.as_slice();
-        match self.way {
-            Direction::Get => Ok(keep_local(self.rt, text_of(target)?, &found.attrs)?),
+        match self.manner.way {
+            Direction::Get => Ok(keep_local(self.rt, text_of(target)?, &kept_attrs(Kept::All, attrs))?),
             Direction::Put => {
-                let attrs = kept_attrs(&found.attrs);
+                let attrs = kept_attrs(Kept::All, attrs);
                 match set_remote_attrs(self.rt.alloc(), &mut self.sftp, target, attrs) {
                     Ok(()) => Ok(()),
                     Err(e) => Err(e.into()),
@@ -304,13 +386,13 @@ impl<'a, L: Link> Courier<'a, L> {
     }
 
     /// Returns the verdict on a job, and reports the reason if it was not done.
-    fn verdict_of(&mut self, found: &Found, done: Result<(), TransferError>) -> JobVerdict
+    pub(crate) fn verdict_of(&mut self, path: &[u8], done: Result<(), TransferError>) -> JobVerdict
         ensures { self.new.sftp ≡ self.old.sftp }
     {
         let Err(reason) = done else {
             return JobVerdict::Done;
         };
-        tell_of(self.rt, found.source.as_slice(), &reason);
+        tell_of(self.rt, path, &reason);
         self.totals.starved = self.totals.starved || is_starved(&reason);
         if ends_all(&reason) || self.sftp.core().fault().is_some() {
             return JobVerdict::Stop;
@@ -322,13 +404,23 @@ impl<'a, L: Link> Courier<'a, L> {
     pub(crate) fn tell_end(&mut self, several: bool)
         ensures { self.new ≡ self.old }
     {
-        if self.options.quiet {
+        if self.manner.options.quiet {
             return;
         }
-        if self.options.progress {
+        if self.manner.options.progress {
             let _ = eprintln!(self.rt; "");
         } else if several {
-            let _ = eprintln!(self.rt; "{} files, {} bytes", self.totals.files, self.totals.bytes);
+            let Totals {
+                files,
+                bytes,
+                removed,
+                ..
+            } = self.totals;
+            let _ = if removed > 0 {
+                eprintln!(self.rt; "{files} files, {bytes} bytes, {removed} removed")
+            } else {
+                eprintln!(self.rt; "{files} files, {bytes} bytes")
+            };
         }
     }
 }
@@ -343,6 +435,7 @@ impl<'a, L: Link> Hand for Courier<'a, L> {
     ghost may = { λ courier. IsGoing L.LinkState.state courier.sftp };
 
     fn copy(&mut self, jobs: &[Found], run: &[u8], tally: &Tally) {
+        self.tell_unsynced();
         self.copy_files(jobs, run, tally);
     }
 
@@ -351,12 +444,12 @@ impl<'a, L: Link> Hand for Courier<'a, L> {
             return self.verdicts.of(job);
         }
         let done = self.do_task(found);
-        self.verdict_of(found, done)
+        self.verdict_of(found.source.as_slice(), done)
     }
 
     fn keep(&mut self, found: &Found) -> JobVerdict {
-        let done = self.keep_attrs(found);
-        self.verdict_of(found, done)
+        let done = self.keep_attrs(found.target.as_slice(), &found.attrs);
+        self.verdict_of(found.source.as_slice(), done)
     }
 
     fn skip(&mut self, found: &Found) {

@@ -45,7 +45,7 @@ fn write_entries(rt: &HostRuntime, walk: &Walk, folder_len: usize, long: bool) -
 }
 
 /// Returns the result of a listing after its output failed, and reports the reason.
-fn without_output(rt: &HostRuntime, error: io::Error) -> Reach {
+pub(crate) fn without_output(rt: &HostRuntime, error: io::Error) -> Reach {
     match TransferError::from(error) {
         TransferError::OutOfMemory => {
             tell(rt, "standard output", &TransferError::OutOfMemory);

@@ -38,6 +38,15 @@ pub(crate) fn kind_of(metadata: &Metadata) -> EntryKind {
     }
 }
 
+/// Returns the directory that contains a path.
+pub(crate) fn folder_of(path: &str) -> &str {
+    match path.trim_end_matches('/').rsplit_once('/') {
+        Some(("", _)) => "/",
+        Some((folder, _)) => folder,
+        None => ".",
+    }
+}
+
 /// Returns true if a directory exists at a path; a symbolic link is followed.
 pub(crate) fn is_folder(rt: &HostRuntime, path: &str) -> bool {
     match fs::metadata(rt, path) {
@@ -46,8 +55,8 @@ pub(crate) fn is_folder(rt: &HostRuntime, path: &str) -> bool {
     }
 }
 
-/// Creates a directory with these permissions, as far as the umask permits them, or accepts an existing one. An existing
-/// symbolic link is a directory only if it is followed.
+/// Creates a directory with these permissions, as far as the umask permits them, or accepts an existing one. An
+/// existing symbolic link is a directory only if it is followed.
 pub(crate) fn make_local_folder(
     rt: &HostRuntime,
     path: &str,
@@ -68,6 +77,14 @@ pub(crate) fn make_local_folder(
     match there {
         Ok(metadata) if metadata.is_dir() => Ok(()),
         _ => Err(e),
+    }
+}
+
+/// Returns true if a symbolic link exists at a path.
+pub(crate) fn is_local_link(rt: &HostRuntime, path: &str) -> bool {
+    match fs::symlink_metadata(rt, path) {
+        Ok(metadata) => metadata.is_symlink(),
+        Err(_) => false,
     }
 }
 

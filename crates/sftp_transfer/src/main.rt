@@ -1,6 +1,7 @@
 //! Copies files and trees from and to an SFTP server.
 #![tactic(auto)]
 
+mod acts;
 mod batch;
 mod compared;
 mod comparison;
@@ -10,6 +11,9 @@ mod courier;
 mod ended;
 mod listing;
 mod local_side;
+mod mirror;
+mod patterns;
+mod planned;
 mod printable;
 mod resume;
 mod run;
@@ -19,6 +23,7 @@ mod system;
 mod terminal;
 mod texts;
 mod transfer_error;
+mod tree;
 mod verdicts;
 mod verify;
 mod window;

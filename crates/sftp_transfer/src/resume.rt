@@ -45,7 +45,7 @@ fn is_leftover(name: &[u8], entry: &[u8]) -> bool {
 }
 
 /// Returns true if a name has the form of a part's.
-fn may_be_part(name: &[u8]) -> bool {
+pub(crate) fn may_be_part(name: &[u8]) -> bool {
     name.starts_with(b".") && name.ends_with(b".part")
 }
 
@@ -137,7 +137,7 @@ impl<'a, L: Link> Courier<'a, L> {
         let alloc = self.rt.alloc();
         let path: &[u8] = if folder.is_empty() { b"." } else { folder };
         let mut files = Vec::new(alloc);
-        match (self.way, str::from_utf8(path)) {
+        match (self.manner.way, str::from_utf8(path)) {
             (Direction::Get, Ok(path)) => list_here(self.rt, path, &mut files),
             (Direction::Get, Err(_)) => {}
             (Direction::Put, _) => self.list_there(path, &mut files),
@@ -187,7 +187,7 @@ impl<'a, L: Link> Courier<'a, L> {
         requires { IsGoing L.LinkState.state self.old.sftp }
         ensures { IsGoing L.LinkState.state self.new.sftp }
     {
-        match (self.way, str::from_utf8(left), str::from_utf8(part)) {
+        match (self.manner.way, str::from_utf8(left), str::from_utf8(part)) {
             (Direction::Put, _, _) => self.claim_there(left, part),
             (Direction::Get, Ok(left), Ok(part)) => self.claim_here(left, part),
             _ => None,
@@ -227,7 +227,7 @@ impl<'a, L: Link> Courier<'a, L> {
         ensures { IsGoing L.LinkState.state self.new.sftp }
     {
         let mut starts = Vec::new(self.rt.alloc());
-        if !self.options.resume {
+        if !self.manner.options.resume {
             return starts;
         }
         let mut leftovers: Option<Leftovers> = None;

@@ -4,6 +4,7 @@ ghost use Rattle.transfer_pool.specs.Sessions.{IsGoing};
 
 use crate::courier::Courier;
 use crate::local_side::{attrs_of, kind_of, list_local};
+use crate::tree::{Side, Untouched, path_below};
 use crate::transfer_error::{TransferError, is_starved, tell_of};
 use sftp_link::Link;
 use sftp_meta::FileType;
@@ -12,6 +13,7 @@ use sftp_values::ByteText;
 use std::alloc::Global;
 use std::fs;
 use transfer_args::Direction;
+use transfer_filter::Filter;
 use transfer_plan::{EntryKind, Found, MAX_ENTRIES, Task, Walk, last_component, path_in};
 use transfer_remote::{list_remote, remote_metadata};
 
@@ -48,7 +50,7 @@ fn target_of(
 }
 
 /// Returns a copy of a path.
-fn copied(alloc: Global, path: &[u8]) -> Result<Vec<u8>, TransferError> {
+pub(crate) fn copied(alloc: Global, path: &[u8]) -> Result<Vec<u8>, TransferError> {
     match Vec::from_slice(alloc, path) {
         Ok(copy) => Ok(copy),
         Err(_) => Err(TransferError::OutOfMemory),
@@ -70,7 +72,7 @@ impl<'a, L: Link> Courier<'a, L> {
         requires { IsGoing L.LinkState.state self.old.sftp }
         ensures { IsGoing L.LinkState.state self.new.sftp }
     {
-        match self.way {
+        match self.manner.way {
             Direction::Get => {
                 match remote_metadata(self.rt.alloc(), &mut self.sftp, path.as_bytes()) {
                     Ok(metadata) => Ok(Source {
@@ -94,16 +96,21 @@ impl<'a, L: Link> Courier<'a, L> {
 
     /// Adds the entries of the walk's current directory. An entry that can't be listed is reported, and the walk isn't
     /// complete then. Fails only if the walk can't continue.
-    fn list_folder(&mut self, walk: &mut Walk, complete: &mut bool) -> Result<(), TransferError>
+    fn list_folder(
+        &mut self,
+        side: Side,
+        walk: &mut Walk,
+        complete: &mut bool,
+    ) -> Result<(), TransferError>
         requires { IsGoing L.LinkState.state self.old.sftp }
         ensures { IsGoing L.LinkState.state self.new.sftp }
     {
-        let listed = match self.way {
-            Direction::Get => match list_remote(self.rt.alloc(), &mut self.sftp, walk) {
+        let listed = match side {
+            Side::There => match list_remote(self.rt.alloc(), &mut self.sftp, walk) {
                 Ok(()) => Ok(()),
                 Err(e) => Err(e.into()),
             },
-            Direction::Put => list_local(self.rt, walk, complete),
+            Side::Here => list_local(self.rt, walk, complete),
         };
         let Err(reason) = listed else {
             return Ok(());
@@ -116,27 +123,24 @@ impl<'a, L: Link> Courier<'a, L> {
         Ok(())
     }
 
-    /// Finds everything in a directory, each directory before its contents.
-    fn walk_tree(
+    /// Finds everything in the root of a walk, each directory before its contents. The directories that are untouched
+    /// are found, and nothing in them.
+    pub(crate) fn walk_tree(
         &mut self,
-        source: &Source<'_>,
-        target: &[u8],
+        side: Side,
+        walk: Walk,
+        untouched: &mut Untouched<'_>,
         complete: &mut bool,
     ) -> Result<Vec<Found>, TransferError>
         requires { IsGoing L.LinkState.state self.old.sftp }
         ensures { IsGoing L.LinkState.state self.new.sftp }
     {
-        let texts = self.way == Direction::Get;
-        let walk = Walk::new(
-            self.rt.alloc(),
-            source.path.as_bytes(),
-            target,
-            source.attrs,
-            texts,
-        );
-        let mut walk = walk?;
+        let mut walk = walk;
+        let root_len = path_in(self.rt.alloc(), walk.folder().source.as_slice(), b"")?.len();
         for _ in 0..MAX_ENTRIES {
-            self.list_folder(&mut walk, complete)?;
+            if !untouched.has(path_below(walk.folder(), root_len), true) {
+                self.list_folder(side, &mut walk, complete)?;
+            }
             if !walk.go_on() {
                 break;
             }
@@ -168,8 +172,14 @@ impl<'a, L: Link> Courier<'a, L> {
                 };
                 add_job(&mut gathered.jobs, found)
             }
-            EntryKind::Folder if self.options.recursive => {
-                let tree = self.walk_tree(&source, target.as_slice(), &mut gathered.complete)?;
+            EntryKind::Folder if self.manner.options.recursive => {
+                let alloc = self.rt.alloc();
+                let texts = self.manner.way == Direction::Get;
+                let walk = Walk::new(alloc, path.as_bytes(), &target, source.attrs, texts)?;
+                let side = Side::source_of(self.manner.way);
+                let mut filter = Filter::new(alloc);
+                let mut all = Untouched::by(&mut filter);
+                let tree = self.walk_tree(side, walk, &mut all, &mut gathered.complete)?;
                 for found in tree {
                     add_job(&mut gathered.jobs, found)?;
                 }
@@ -205,7 +215,7 @@ impl<'a, L: Link> Courier<'a, L> {
 }
 
 /// Returns true if a walk can't continue.
-fn ends_walk(reason: &TransferError) -> bool {
+pub(crate) fn ends_walk(reason: &TransferError) -> bool {
     match reason {
         TransferError::TooManyEntries => true,
         _ => is_starved(reason),
@@ -213,7 +223,7 @@ fn ends_walk(reason: &TransferError) -> bool {
 }
 
 /// Adds a job after others.
-fn add_job(jobs: &mut Vec<Found>, found: Found) -> Result<(), TransferError> {
+pub(crate) fn add_job(jobs: &mut Vec<Found>, found: Found) -> Result<(), TransferError> {
     match jobs.push(found) {
         Ok(()) => Ok(()),
         Err(_) => Err(TransferError::OutOfMemory),

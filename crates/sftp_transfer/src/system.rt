@@ -1,5 +1,6 @@
 //! A file of the system as a local file.
 use crate::comparison::read_some;
+use crate::local_side::folder_of;
 use bytes::Bytes;
 use std::alloc::Global;
 use std::fs::{File, Metadata, OpenFile, OpenOptions};
@@ -86,6 +87,13 @@ impl<'a> LocalFile for SystemFile<'a> {
         }
     }
 
+    fn sync(&mut self) -> Result<(), LocalError> {
+        match &self.file {
+            Some(file) => Ok(file.sync_all()?),
+            None => Err(LocalError::Failed(ErrorKind::NotFound.into())),
+        }
+    }
+
     fn rename(&mut self, from: &str, to: &str) -> Result<(), LocalError> {
         let Some(file) = &self.file else {
             return Err(LocalError::Failed(ErrorKind::NotFound.into()));
@@ -98,10 +106,14 @@ impl<'a> LocalFile for SystemFile<'a> {
         }
         Ok(fs::rename(self.runtime, from, to)?)
     }
+
+    fn sync_parent(&mut self, name: &str) -> Result<(), LocalError> {
+        Ok(File::open(self.runtime, folder_of(name))?.sync_all()?)
+    }
 }
 
-/// Creates a file that does not exist, with these permissions under the umask; without any, with 0666. An entry with the
-/// name, such as a symbolic link, is an error.
+/// Creates a file that does not exist, with these permissions under the umask; without any, with 0666. An entry with
+/// the name, such as a symbolic link, is an error.
 fn create_file(rt: &HostRuntime, name: &str, mode: Option<u32>) -> io::Result<File> {
     OpenOptions::new()
         .write(true)

@@ -1,6 +1,7 @@
 //! The environment of the program as it is run.
 use crate::connection::{files_link, stdio_link, tcp_link, unix_link};
 use crate::ended::{Reach, Text};
+use crate::mirror::can_mirror;
 use crate::run::Outside;
 use crate::texts::written;
 use crate::work::{can_begin, over};
@@ -85,7 +86,8 @@ impl<'a> Outside for Terminal<'a> {
     fn look(&mut self, work: &Work<'_>) -> bool {
         match work {
             Work::Copy(transfer) => can_begin(self.rt, transfer),
-            Work::List(_) => true,
+            Work::List(_) | Work::Act(_) => true,
+            Work::Mirror(mirror) => can_mirror(self.rt, mirror),
         }
     }
 

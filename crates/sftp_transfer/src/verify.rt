@@ -4,10 +4,9 @@ ghost use Rattle.transfer_pool.specs.Jobs.{NotesOver};
 
 use crate::batch::keep_file;
 use crate::compared::ComparedFile;
-use crate::copy::read_back_of;
+use crate::copy::{Manner, read_back_of};
 use crate::transfer_error::{TransferError, is_session_failure, is_starved, tell, tell_of};
 use crate::verdicts::Verdicts;
-use transfer_args::{Direction, Options};
 use transfer_plan::{Found, JobVerdict};
 use transfer_pool::{Copied, CopyJobs, Wanted};
 
@@ -15,8 +14,7 @@ use transfer_pool::{Copied, CopyJobs, Wanted};
 #[derive(Drop)]
 pub(crate) struct Checks<'a> {
     rt: &'a HostRuntime,
-    way: Direction,
-    options: Options,
+    manner: Manner,
     jobs: &'a [Found],
     next: usize,
     ended: bool,
@@ -28,15 +26,13 @@ impl<'a> Checks<'a> {
     /// Returns the checks of all files that were copied.
     pub(crate) fn new(
         rt: &'a HostRuntime,
-        way: Direction,
-        options: Options,
+        manner: Manner,
         jobs: &'a [Found],
         verdicts: Verdicts,
     ) -> Checks<'a> {
         Checks {
             rt,
-            way,
-            options,
+            manner,
             jobs,
             next: 0,
             ended: false,
@@ -87,7 +83,7 @@ impl<'a> Checks<'a> {
 
     /// Returns the copy that reads a job's file back, or `None` if it can't be started; the reason is reported then.
     fn begin(&mut self, job: usize, found: &Found) -> Option<Wanted<ComparedFile<'a>>> {
-        match read_back_of(self.rt.alloc(), self.way, found) {
+        match read_back_of(self.rt.alloc(), self.manner.way, found) {
             Ok(copy) => Some(Wanted {
                 job: copy,
                 local: ComparedFile::new(self.rt, job),
@@ -103,7 +99,7 @@ impl<'a> Checks<'a> {
     /// Records that a file is the same on both sides. A local file is given its permissions and times if that is asked
     /// for.
     fn finish(&mut self, found: &Found) -> JobVerdict {
-        match keep_file(self.rt, self.way, self.options, found) {
+        match keep_file(self.rt, self.manner, found) {
             Ok(()) => JobVerdict::Done,
             Err(reason) => self.refuse(found, &reason),
         }

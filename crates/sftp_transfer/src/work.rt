@@ -1,13 +1,16 @@
 //! The work that is done over a link.
-ghost use Rattle.std.specs.Prelude.{◌<◌, ◌-◌, ◌^◌};
+ghost use Rattle.std.specs.Prelude.{◌≡◌, ◌<◌, ◌-◌, ◌^◌};
 ghost use Rattle.transfer_pool.specs.Sessions.{IsGoing};
 
+use crate::acts::Worker;
 use crate::batch::Totals;
 use crate::connection::{Connection, is_lost};
+use crate::copy::{Kept, Manner};
 use crate::courier::Courier;
 use crate::ended::{Reach, ended_by};
 use crate::listing::list;
-use crate::local_side::{is_folder, make_local_folder};
+use crate::local_side::{folder_of, is_folder, make_local_folder};
+use crate::mirror::mirror_trees;
 use crate::run_number::RunNumber;
 use crate::transfer_error::{TransferError, is_starved, tell, tell_of};
 use crate::verdicts::Verdicts;
@@ -15,8 +18,8 @@ use sftp_client::Sftp;
 use sftp_link::Link;
 use sftp_model::{Error, SftpOptions};
 use std::fs;
-use transfer_args::{Direction, Transfer, Work};
-use transfer_plan::{carry_out, keep_apart};
+use transfer_args::{Direction, Mirror, Transfer, Work};
+use transfer_plan::{Found, carry_out, keep_apart};
 use transfer_remote::{make_remote_folder, remote_metadata};
 
 /// Returns true if the local side lets a transfer start: it has a source for an upload, and a directory for a download.
@@ -45,7 +48,7 @@ fn has_source(rt: &HostRuntime, sources: &[&str]) -> bool {
 
 /// Returns true if a target is a directory, or can be created in one. With several sources, a missing target directory
 /// is created. The reason for a failure is reported.
-fn has_target(rt: &HostRuntime, target: &str, several: bool) -> bool {
+pub(crate) fn has_target(rt: &HostRuntime, target: &str, several: bool) -> bool {
     if is_folder(rt, target) {
         return true;
     }
@@ -66,12 +69,40 @@ fn has_target(rt: &HostRuntime, target: &str, several: bool) -> bool {
     }
 }
 
-/// Returns the directory that contains a path.
-fn folder_of(path: &str) -> &str {
-    match path.trim_end_matches('/').rsplit_once('/') {
-        Some(("", _)) => "/",
-        Some((folder, _)) => folder,
-        None => ".",
+/// Returns a worker that has done nothing.
+fn new_courier<'a, L>(
+    rt: &'a HostRuntime,
+    sftp: Sftp<L>,
+    run: RunNumber,
+    manner: Manner,
+) -> Courier<'a, L>
+    ensures { result.sftp ≡ sftp }
+{
+    Courier {
+        rt,
+        sftp,
+        run,
+        manner,
+        is_root_followed: false,
+        replaces_links: false,
+        totals: Totals {
+            files: 0,
+            bytes: 0,
+            removed: 0,
+            starved: false,
+        },
+        verdicts: Verdicts::none(rt.alloc()),
+    }
+}
+
+/// Returns the number of a new run. If the system has none, the reason is reported.
+fn run_number(rt: &HostRuntime) -> Option<RunNumber> {
+    match RunNumber::random(rt) {
+        Ok(run) => Some(run),
+        Err(e) => {
+            tell(rt, "the number of the run", &TransferError::from(e));
+            None
+        }
     }
 }
 
@@ -83,33 +114,45 @@ fn copy_over<L: Connection + Drop>(
 ) -> Reach
     requires { IsGoing L.LinkState.state sftp }
 {
-    let run = match RunNumber::random(rt) {
-        Ok(run) => run,
-        Err(e) => {
-            tell(rt, "the number of the run", &TransferError::from(e));
-            return Reach::NotDone;
-        }
+    let Some(run) = run_number(rt) else {
+        return Reach::NotDone;
     };
-    let mut courier = Courier {
-        rt,
-        sftp,
-        run,
+    let manner = Manner {
         way: transfer.way,
         options: transfer.options,
-        is_root_followed: false,
-        totals: Totals {
-            files: 0,
-            bytes: 0,
-            starved: false,
-        },
-        verdicts: Verdicts::none(rt.alloc()),
+        kept: if transfer.options.preserve { Kept::All } else { Kept::Nothing },
     };
+    let mut courier = new_courier(rt, sftp, run, manner);
     let reach = copy(&mut courier, transfer);
     courier.sftp.link().report(rt, transfer.options.timeout);
     reach
 }
 
-/// Reports that there is no session, and returns the result. `advice` is added if the server does not speak the protocol.
+/// Makes one tree like another over a session, and returns the result. Files are given the times of their sources, by
+/// which the next run knows that they did not change.
+fn mirror_over<L: Connection + Drop>(
+    rt: &HostRuntime,
+    sftp: Sftp<L>,
+    mirror: &Mirror<'_>,
+) -> Reach
+    requires { IsGoing L.LinkState.state sftp }
+{
+    let Some(run) = run_number(rt) else {
+        return Reach::NotDone;
+    };
+    let manner = Manner {
+        way: mirror.way,
+        options: mirror.options,
+        kept: if mirror.options.preserve { Kept::All } else { Kept::Times },
+    };
+    let mut courier = new_courier(rt, sftp, run, manner);
+    let reach = mirror_trees(&mut courier, mirror);
+    courier.sftp.link().report(rt, mirror.options.timeout);
+    reach
+}
+
+/// Reports that there is no session, and returns the result. `advice` is added if the server does not speak the
+/// protocol.
 fn without_session<L: Connection>(
     rt: &HostRuntime,
     error: Error,
@@ -148,6 +191,13 @@ pub(crate) fn over<L: Connection + Drop>(
     match Sftp::new(rt.alloc(), link, &SftpOptions::new()) {
         Ok(sftp) => match work {
             Work::Copy(transfer) => copy_over(rt, sftp, transfer),
+            Work::Mirror(mirror) => mirror_over(rt, sftp, mirror),
+            Work::Act(job) => {
+                let mut worker = Worker::new(rt, sftp);
+                let reach = worker.act(&job.act);
+                worker.sftp.link().report(rt, seconds);
+                reach
+            }
             Work::List(listing) => {
                 let mut sftp = sftp;
                 let reach = list(rt, &mut sftp, listing);
@@ -211,24 +261,36 @@ fn copy<L: Link>(courier: &mut Courier<'_, L>, transfer: &Transfer<'_>) -> Reach
             false,
         );
     };
+    let several = gathered.jobs.len() > 1;
+    let carried = carry_jobs(courier, gathered.jobs, transfer.options.preserve);
+    courier.tell_end(several);
+    match carried {
+        Some(all_done) => {
+            let is_lost = is_lost(&mut courier.sftp);
+            ended_by(courier.totals.starved, is_lost, gathered.complete, all_done)
+        }
+        None => Reach::OutOfMemory,
+    }
+}
+
+/// Does jobs, and returns true if all were done, or `None` if an allocation failed. With `keeps` the directories that
+/// were created are given their permissions and times.
+pub(crate) fn carry_jobs<L: Link>(
+    courier: &mut Courier<'_, L>,
+    jobs: Vec<Found>,
+    keeps: bool,
+) -> Option<bool>
+    requires { IsGoing L.LinkState.state courier.old.sftp }
+    ensures { IsGoing L.LinkState.state courier.new.sftp }
+{
     let alloc = courier.rt.alloc();
     let number = courier.run;
     let run = number.as_bytes();
-    let Ok(jobs) = keep_apart(alloc, gathered.jobs, run) else {
-        return Reach::OutOfMemory;
+    let Ok(jobs) = keep_apart(alloc, jobs, run) else {
+        return None;
     };
-    let carried = carry_out(alloc, courier, &jobs, run, transfer.options.preserve);
-    courier.tell_end(jobs.len() > 1);
-    match carried {
-        Ok(tally) => {
-            let is_lost = is_lost(&mut courier.sftp);
-            ended_by(
-                courier.totals.starved,
-                is_lost,
-                gathered.complete,
-                tally.all_done(),
-            )
-        }
-        Err(_) => Reach::OutOfMemory,
+    match carry_out(alloc, courier, &jobs, run, keeps) {
+        Ok(tally) => Some(tally.all_done()),
+        Err(_) => None,
     }
 }

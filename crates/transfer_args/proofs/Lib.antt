@@ -1,2 +1,3 @@
 mod LastLaws
 mod FewLaws
+mod FilledLaws

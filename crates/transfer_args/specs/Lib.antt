@@ -1,2 +1,4 @@
+pub mod Acts
+pub mod Numbers
 pub mod Words
 pub mod WordRows

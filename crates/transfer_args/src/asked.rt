@@ -1,5 +1,5 @@
 //! The request that a command line makes.
-use crate::options::Options;
+use crate::options::{MirrorRules, Options};
 
 /// The direction in which files are copied.
 ///
@@ -55,6 +55,91 @@ pub struct Listing<'a> {
     pub path: &'a str,
 }
 
+/// A choice of entries that `push` and `pull` leave out. The first one that an entry matches decides.
+///
+/// Used in `crates/transfer_args/src/values.rt`.
+#[derive(Clone, Copy, Debug, PartialEq, Eq)]
+pub enum Pattern<'a> {
+    /// `--exclude PATTERN`: leaves out the entries that match this pattern.
+    Exclude(&'a str),
+    /// `--include PATTERN`: keeps the entries that match this pattern.
+    Include(&'a str),
+    /// `--exclude-from FILE`: uses the patterns of this local file.
+    ExcludeFrom(&'a str),
+}
+
+/// A tree to make like another one.
+///
+/// Used in `crates/transfer_args/src/parser.rt`.
+#[derive(Drop)]
+pub struct Mirror<'a> {
+    /// The direction: `Put` is `push`, and `Get` is `pull`.
+    pub way: Direction,
+    /// The options of the copy.
+    pub options: Options,
+    /// The rules by which files are copied and removed.
+    pub rules: MirrorRules,
+    /// The patterns, in the order of the command line.
+    pub patterns: Vec<Pattern<'a>>,
+    /// The directory to read.
+    pub from: &'a str,
+    /// The directory to change.
+    pub to: &'a str,
+}
+
+/// A single operation on the server.
+///
+/// Used in `crates/transfer_args/src/acts.rt`.
+#[derive(Drop)]
+pub enum Act<'a> {
+    /// Removes files and links, and directories if `recursive` is true.
+    Remove {
+        /// True if directories are removed, too, with all their contents.
+        recursive: bool,
+        /// The paths to remove, at least one.
+        paths: Vec<&'a str>,
+    },
+    /// Creates directories.
+    MakeDirectories {
+        /// True if the directories above are created, too, and existing ones are accepted.
+        parents: bool,
+        /// The paths of the directories, at least one.
+        paths: Vec<&'a str>,
+    },
+    /// Renames a file or directory.
+    Move {
+        /// The path that exists.
+        from: &'a str,
+        /// The path that it gets.
+        to: &'a str,
+    },
+    /// Creates a symbolic link.
+    Link {
+        /// The text of the link.
+        text: &'a str,
+        /// The path of the link.
+        path: &'a str,
+    },
+    /// Sets permissions.
+    SetMode {
+        /// The permissions, at most 4095.
+        mode: u32,
+        /// The paths of the files and directories, at least one.
+        paths: Vec<&'a str>,
+    },
+}
+
+/// An operation on the server, with its options. No path in it is empty.
+///
+/// Used in `crates/transfer_args/src/acts.rt`.
+#[derive(Drop)]
+pub struct Job<'a> {
+    /// The operation.
+    pub act: Act<'a>,
+    /// The options, of which only the time limit matters to all operations.
+    pub options: Options,
+}
+
 /// The work that a command line asks for.
 ///
 /// Used in `crates/sftp_transfer/src/terminal.rt`.
@@ -64,6 +149,10 @@ pub enum Work<'a> {
     Copy(Transfer<'a>),
     /// Writes the names of a directory.
     List(Listing<'a>),
+    /// Makes one tree like another one.
+    Mirror(Mirror<'a>),
+    /// Carries out one operation on the server.
+    Act(Job<'a>),
 }
 
 impl<'a> Work<'a> {
@@ -72,6 +161,8 @@ impl<'a> Work<'a> {
         match self {
             Work::Copy(transfer) => transfer.options.timeout,
             Work::List(listing) => listing.options.timeout,
+            Work::Mirror(mirror) => mirror.options.timeout,
+            Work::Act(job) => job.options.timeout,
         }
     }
 }

@@ -1,18 +1,19 @@
 //! The numbers that follow options.
 ghost use Rattle.std.specs.Prelude.{◌≡◌, ◌≤◌};
-ghost use Rattle.transfer_args.specs.Words.{digits_behind, number_in, product_at_most, size_behind, size_in, unit_of};
+ghost use Rattle.transfer_args.specs.Numbers.{digits_in, mode_in, number_in, product_at_most, size_behind, size_in, unit_of};
 
-/// Returns the number that decimal digits write, or `None` if it is more than `most`.
-fn number(most: u32, digits: &[u8]) -> Option<u32>
-    ensures { result ≡ digits_behind most 0 digits.now }
+/// Returns the number that digits of this base write, or `None` if it is more than `most`.
+fn number(base: u8, most: u32, digits: &[u8]) -> Option<u32>
+    requires { base ≤ 10 }
+    ensures { result ≡ digits_in base most 0 digits.now }
 {
     let mut number: u64 = 0;
     for digit in digits {
         let digit = *digit;
-        if !(b'0'..=b'9').contains(&digit) {
+        if !(b'0'..b'0' + base).contains(&digit) {
             return None;
         }
-        number = number * 10 + u64::from(digit - b'0');
+        number = number * u64::from(base) + u64::from(digit - b'0');
         if number > u64::from(most) {
             return None;
         }
@@ -27,10 +28,20 @@ pub(crate) fn number_in(least: u32, most: u32, word: &[u8]) -> Option<u32>
     if word.is_empty() {
         return None;
     }
-    match number(most, word) {
+    match number(10, most, word) {
         Some(number) if number >= least => Some(number),
         _ => None,
     }
+}
+
+/// Returns the permissions that a word writes in one to four octal digits.
+pub(crate) fn mode_in(word: &[u8]) -> Option<u32>
+    ensures { result ≡ mode_in word.now }
+{
+    if word.is_empty() || word.len() > 4 {
+        return None;
+    }
+    number(8, 4095, word)
 }
 
 /// Returns the factor of a unit of bytes, or `None` if the letter is none.

@@ -1,5 +1,5 @@
 -- What a copy has done to its local file.
-use Rattle.std.proofs.Common.{◌≡◌, inl, inr, ℕ, ◌+◌, ◌==◌, Bool, true, false, List, [], ◌∷◌, ◌++◌, length, refl, sym, ap, ◌∙◌, subst, arith, Option, Some, None, if◌then◌else◌}
+use Rattle.std.proofs.Common.{◌≡◌, ◌⊎◌, inl, inr, ℕ, ◌+◌, ◌==◌, Bool, true, false, List, [], ◌∷◌, ◌++◌, length, refl, sym, ap, ◌∙◌, subst, arith, Option, Some, None, if◌then◌else◌}
 use Rattle.std.specs.Prelude.{Ok, Err, IsSome}
 use Rattle.sftp_model.specs.declared.reply.Reply.{Reply}
 use Rattle.sftp_model.specs.declared.reply.Reply.TheVariants as reply
@@ -10,13 +10,15 @@ use Rattle.transfer_copy.specs.declared.get.GetStage.{GetStage}
 use Rattle.transfer_copy.specs.declared.get.GetStage.TheVariants as stage
 use Rattle.transfer_copy.specs.declared.progress.Progress.{Progress}
 use Rattle.transfer_copy.specs.declared.progress.Progress.TheVariants as progress
-use Rattle.transfer_copy.specs.Acts.{GotAfter, GotSoFar, HasWrittenPart, IsPartOnly, total_len}
+use Rattle.transfer_copy.specs.Acts.{GotAfter, GotAtStage, GotSoFar, HasNameUnsynced, HasWrittenPart, IsPartOnly, total_len}
 use Rattle.transfer_copy.specs.Gets.{GetFinishes, GetStepDid, GetGivesUp, TakesReply, MakesPart, WritesPiece}
 use Rattle.transfer_copy.specs.Holdings.{HoldingValue}
+use Rattle.transfer_copy.specs.Legs.{HasGoneOn}
 use Rattle.transfer_copy.specs.Local.{
   AreOfPart,
   AreUnnamed,
   Created,
+  FailNaming,
   Failed,
   Got,
   HasDone,
@@ -26,8 +28,11 @@ use Rattle.transfer_copy.specs.Local.{
   Opened,
   Renamed,
   Reopened,
+  Synced,
+  SyncedParent,
   Wrote,
   all_done,
+  naming_acts,
   part_opened,
   writes_of,
 }
@@ -65,29 +70,35 @@ opened_of_part part from = by_test (from == 0)
     by_test true = refl
     by_test false = refl
 
-unnamed_act : (part name : List ℕ) (act : LocalAct) → IsOfPart part act → IsUnnamed part name act
-unnamed_act part name (Created n) here = here
-unnamed_act part name (Reopened n len) here = here
-unnamed_act part name (Wrote bytes) here = here
-unnamed_act part name (Opened n from) here = here
-unnamed_act part name (Got bytes) here = here
-unnamed_act part name (Renamed from to) here = here
-unnamed_act part name (Failed (Created n)) here = here
-unnamed_act part name (Failed (Reopened n len)) here = here
-unnamed_act part name (Failed (Wrote bytes)) here = here
-unnamed_act part name (Failed (Opened n from)) here = here
-unnamed_act part name (Failed (Got bytes)) here = here
-unnamed_act part name (Failed (Renamed from to)) never = absurd never
-unnamed_act part name (Failed (Failed act)) here = here
+unnamed_act : (sync : Bool) (part name : List ℕ) (act : LocalAct) → IsOfPart part act → IsUnnamed sync part name act
+unnamed_act sync part name (Created n) here = here
+unnamed_act sync part name (Reopened n len) here = here
+unnamed_act sync part name (Wrote bytes) here = here
+unnamed_act sync part name (Opened n from) here = here
+unnamed_act sync part name (Got bytes) here = here
+unnamed_act sync part name Synced never = absurd never
+unnamed_act sync part name (Renamed from to) here = here
+unnamed_act sync part name (SyncedParent n) here = here
+unnamed_act sync part name (Failed (Created n)) here = here
+unnamed_act sync part name (Failed (Reopened n len)) here = here
+unnamed_act sync part name (Failed (Wrote bytes)) here = here
+unnamed_act sync part name (Failed (Opened n from)) here = here
+unnamed_act sync part name (Failed (Got bytes)) here = here
+unnamed_act sync part name (Failed Synced) never = absurd never
+unnamed_act sync part name (Failed (Renamed from to)) never = absurd never
+unnamed_act sync part name (Failed (SyncedParent n)) here = here
+unnamed_act sync part name (Failed (Failed act)) here = here
 
-unnamed : (part name : List ℕ) (acts : List LocalAct) → AreOfPart part acts → AreUnnamed part name acts
-unnamed part name [] are = tt
-unnamed part name (act ∷ acts) (here, are) = (unnamed_act part name act here, unnamed part name acts are)
+unnamed : (sync : Bool) (part name : List ℕ) (acts : List LocalAct) → AreOfPart part acts
+    → AreUnnamed sync part name acts
+unnamed sync part name [] are = tt
+unnamed sync part name (act ∷ acts) (here, are) =
+    (unnamed_act sync part name act here, unnamed sync part name acts are)
 
-unnamed_join : (part name : List ℕ) (xs ys : List LocalAct) → AreUnnamed part name xs → AreUnnamed part name ys
-    → AreUnnamed part name (xs ++ ys)
-unnamed_join part name [] ys x y = y
-unnamed_join part name (act ∷ acts) ys (here, x) y = (here, unnamed_join part name acts ys x y)
+unnamed_join : (sync : Bool) (part name : List ℕ) (xs ys : List LocalAct) → AreUnnamed sync part name xs
+    → AreUnnamed sync part name ys → AreUnnamed sync part name (xs ++ ys)
+unnamed_join sync part name [] ys x y = y
+unnamed_join sync part name (act ∷ acts) ys (here, x) y = (here, unnamed_join sync part name acts ys x y)
 
 -- ---- what was written
 
@@ -139,17 +150,18 @@ failed_is (Some e) some none = (let bad : (◌≡◌ {A = Option CopyError} (Som
 
 gave_up : {H : Type 0} (done : LocalAct → H → H) (part : List ℕ) (from : ℕ) (core after : Core) (h : HoldingValue)
     (old new : FileGet) (first now : H)
-    → GetGivesUp core h old after new → IsPartOnly done part first now → GotSoFar done part from new first now new.stage
+    → GetGivesUp core h old after new → IsPartOnly done part first now → GotAtStage done part from new first now
+    new.stage
 gave_up done part from core after h old new first now gives only =
-    subst (λ (s : GetStage). GotSoFar done part from new first now s) (sym gives.stage)
+    subst (λ (s : GetStage). GotAtStage done part from new first now s) (sym gives.stage)
     (only, λ none. absurd (failed_is new.failure gives.failure none))
 
 finished : {H : Type 0} (done : LocalAct → H → H) (part : List ℕ) (from : ℕ) (core after : Core) (h : HoldingValue)
     (old new : FileGet) (first now : H)
     → GetFinishes core h old after new → HasWrittenPart done part from old.offset first now
-    → GotSoFar done part from new first now new.stage
+    → GotAtStage done part from new first now new.stage
 finished done part from core after h old new first now ends w =
-    subst (λ (s : GetStage). GotSoFar done part from new first now s) (sym ends.stage) (
+    subst (λ (s : GetStage). GotAtStage done part from new first now s) (sym ends.stage) (
       part_of done part from old.offset first now w,
       λ none. wrote_still done part from old.offset new.offset first now
           now w refl ends.offset,
@@ -159,19 +171,19 @@ finished done part from core after h old new first now ends w =
 
 still_so : {H : Type 0} (done : LocalAct → H → H) (part : List ℕ) (from : ℕ) (old new : FileGet) (first before now : H)
     (s : GetStage)
-    → old.stage ≡ s → GotSoFar done part from old first before s → new ≡ old → now ≡ before
-    → GotSoFar done part from new first now new.stage
+    → old.stage ≡ s → GotAtStage done part from old first before s → new ≡ old → now ≡ before
+    → GotAtStage done part from new first now new.stage
 still_so {H = H} done part from old new first before now s at so same still =
-    subst (λ (x : FileGet). GotSoFar done part from x first now x.stage) (sym same)
-    (subst (λ (x : GetStage). GotSoFar done part from old first now x) (sym at)
-    (subst (λ (h : H). GotSoFar done part from old first h s) (sym still) so))
+    subst (λ (x : FileGet). GotAtStage done part from x first now x.stage) (sym same)
+    (subst (λ (x : GetStage). GotAtStage done part from old first now x) (sym at)
+    (subst (λ (h : H). GotAtStage done part from old first h s) (sym still) so))
 
 made_so : {H : Type 0} (done : LocalAct → H → H) (part : List ℕ) (from : ℕ) (core after : Core) (old new : FileGet)
     (first before now : H)
     → before ≡ first → old.offset ≡ from → MakesPart done part core old after new before now
-    → GotSoFar done part from new first now new.stage
+    → GotAtStage done part from new first now new.stage
 made_so done part from core after old new first before now none is_from (inl (made, same, is)) =
-    subst (λ (s : GetStage). GotSoFar done part from new first now s) (sym (ap (λ (x : FileGet). x.stage) is))
+    subst (λ (s : GetStage). GotAtStage done part from new first now s) (sym (ap (λ (x : FileGet). x.stage) is))
     (let offset : new.offset ≡ from = ap (λ (x : FileGet). x.offset) is ∙ is_from in record {
       pieces = [];
       acts = made ∙ ap (λ n. done (part_opened part n) before) is_from ∙ ap (done (part_opened part from)) none;
@@ -188,9 +200,9 @@ made_so done part from core after old new first before now none is_from (inr (fa
 wrote_so : {H : Type 0} (done : LocalAct → H → H) (part : List ℕ) (from : ℕ) (core after : Core) (old new : FileGet)
     (first before now : H)
     (bytes : List ℕ) (len : ℕ) → HasWrittenPart done part from old.offset first before
-    → WritesPiece done bytes len core old after new before now → GotSoFar done part from new first now new.stage
+    → WritesPiece done bytes len core old after new before now → GotAtStage done part from new first now new.stage
 wrote_so done part from core after old new first before now bytes len w (inl (wrote, keeps)) =
-    subst (λ (s : GetStage). GotSoFar done part from new first now s) (sym keeps.stage)
+    subst (λ (s : GetStage). GotAtStage done part from new first now s) (sym keeps.stage)
     (wrote_more done part from old.offset new.offset first before now bytes w wrote keeps.offset)
 wrote_so done part from core after old new first before now bytes len w (inr (failed, gives)) =
     gave_up done part from core after old.holding old new first now gives
@@ -201,7 +213,7 @@ reply_so : {H : Type 0} (done : LocalAct → H → H) (part : List ℕ) (from : 
     (first before now : H)
     (r : Reply) (len : ℕ) → HasWrittenPart done part from old.offset first before
     → TakesReply done r len core old after new before now
-    → GotSoFar done part from new first now new.stage
+    → GotAtStage done part from new first now new.stage
 reply_so done part from core after old new first before now (reply.Content bytes) len w goes =
     wrote_so done part from core after old new first before now bytes len w goes
 reply_so done part from core after old new first before now (reply.Status code message language) len w
@@ -215,69 +227,189 @@ reply_so done part from core after old new first before now (reply.Status code m
     same refl))
 reply_so done part from core after old new first before now other len w never = absurd never
 
-pub got_on : {H : Type 0} (done : LocalAct → H → H) (remote part name : List ℕ) (from : ℕ) (core after : Core)
-    (old new : FileGet)
-    (first before now : H) (s : GetStage) (result : Progress) → old.stage ≡ s
-    → GotSoFar done part from old first before s
+-- one of the operations that give the part its name failed
+unnamed_end : {H : Type 0} (done : LocalAct → H → H) (part name : List ℕ) (sync : Bool) (from len : ℕ)
+    (first before now : H) (acts : List LocalAct) → HasWrittenPart done part from len first before
+    → HasDone done acts before now → AreUnnamed sync part name acts
+    → (all : List LocalAct) × HasDone done all first now × AreUnnamed sync part name all
+unnamed_end done part name sync from len first before now acts w did are =
+    let only = part_of done part from len first before w in (
+      only.0 ++ acts,
+      acts_join done only.0 acts first before now only.1 did,
+      unnamed_join sync part name only.0 acts (unnamed sync part name only.0 only.2) are,
+    )
+
+naming_failed : {H : Type 0} (done : LocalAct → H → H) (part name : List ℕ) (sync : Bool) (from len : ℕ)
+    (first before now : H) (acts : List LocalAct) → HasWrittenPart done part from len first before
+    → FailNaming sync part name acts → HasDone done acts before now
+    → ((all : List LocalAct) × HasDone done all first now × AreUnnamed sync part name all)
+    ⊎ HasNameUnsynced done part name sync from first now
+naming_failed done part name false from len first before now acts w is did =
+    inl (unnamed_end done part name false from len first before now (Failed (Renamed part name) ∷ []) w
+    (subst (λ (l : List LocalAct). HasDone done l before now) is did) ((refl, refl), tt))
+naming_failed done part name true from len first before now acts w (inl is) did =
+    inl (unnamed_end done part name true from len first before now (Failed Synced ∷ []) w
+    (subst (λ (l : List LocalAct). HasDone done l before now) is did) (refl, tt))
+naming_failed done part name true from len first before now acts w (inr (inl is)) did =
+    inl (unnamed_end done part name true from len first before now (Synced ∷ Failed (Renamed part name) ∷ []) w
+    (subst (λ (l : List LocalAct). HasDone done l before now) is did) (refl, ((refl, refl), tt)))
+naming_failed done part name true from len first before now acts w (inr (inr is)) did = inr (record {
+  asked = refl;
+  len = len;
+  written = before;
+  writes = w;
+  acts = subst (λ (l : List LocalAct). HasDone done l before now) is did;
+})
+
+abbrev GotAtAfter : {H : Type 0} → (LocalAct → H → H) → List ℕ → List ℕ → Bool → ℕ → FileGet → H → H → Progress
+    → Type 0
+GotAtAfter done part name sync from new first now progress.Waits = GotAtStage done part from new first now new.stage
+GotAtAfter done part name sync from new first now progress.Moved = GotAtStage done part from new first now new.stage
+GotAtAfter done part name sync from new first now (progress.Ended result) =
+    GotAfter done part name sync from new first now (progress.Ended result)
+
+got_at : {H : Type 0} (done : LocalAct → H → H) (remote part name : List ℕ) (sync : Bool) (from : ℕ)
+    (core after : Core) (old new : FileGet)
+    (first before now : H) (s : GetStage) (result : Progress) → old.stage ≡ s → old.sync ≡ sync
+    → GotAtStage done part from old first before s
     → GetStepDid done remote part name core old after new before now result s
-    → GotAfter done part name from new first now result
-got_on done remote part name from core after old new first before now stage.Starting progress.Waits at so (never, same)
-    = absurd never
-got_on done remote part name from core after old new first before now stage.Starting progress.Moved at (none, is_from)
-    ((asks, is), same) =
-    subst (λ (s : GetStage). GotSoFar done part from new first now s) (sym (ap (λ (x : FileGet). x.stage) is))
-    (same ∙ none, ap (λ (x : FileGet). x.offset) is ∙ is_from)
-got_on done remote part name from core after old new first before now stage.Starting (progress.Ended (Err e)) at
-    (none, is_from) (ends, same) =
-    ([], same ∙ none, tt)
-got_on done remote part name from core after old new first before now stage.Starting (progress.Ended (Ok len)) at so
+    → GotAtAfter done part name sync from new first now result
+got_at done remote part name sync from core after old new first before now stage.Starting progress.Waits at wish so
     (never, same) = absurd never
-got_on done remote part name from core after old new first before now stage.Opening progress.Waits at so
+got_at done remote part name sync from core after old new first before now stage.Starting progress.Moved at wish (
+  none,
+  is_from,
+) ((asks, is), same) =
+    subst (λ (s : GetStage). GotAtStage done part from new first now s) (sym (ap (λ (x : FileGet). x.stage) is))
+    (same ∙ none, ap (λ (x : FileGet). x.offset) is ∙ is_from)
+got_at done remote part name sync from core after old new first before now stage.Starting (progress.Ended (Err e)) at
+    wish (none, is_from) (ends, same) =
+    inl ([], same ∙ none, tt)
+got_at done remote part name sync from core after old new first before now stage.Starting (progress.Ended (Ok len)) at
+    wish so (never, same) = absurd never
+got_at done remote part name sync from core after old new first before now stage.Opening progress.Waits at wish so
     (missing, (core_is, is), same) =
     still_so done part from old new first before now stage.Opening at so is same
-got_on done remote part name from core after old new first before now stage.Opening progress.Moved at (none, is_from)
-    opens =
+got_at done remote part name sync from core after old new first before now stage.Opening progress.Moved at wish (
+  none,
+  is_from,
+) opens =
     made_so done part from opens.mid after (record old { holding = opens.open_file }) new first before now none is_from
     opens.made
-got_on done remote part name from core after old new first before now stage.Opening (progress.Ended (Err e)) at
-    (none, is_from) (refused, is, same) =
-    ([], same ∙ none, tt)
-got_on done remote part name from core after old new first before now stage.Opening (progress.Ended (Ok len)) at so
-    never = absurd never
-got_on done remote part name from core after old new first before now stage.Reading progress.Waits at so
+got_at done remote part name sync from core after old new first before now stage.Opening (progress.Ended (Err e)) at
+    wish (none, is_from) (refused, is, same) =
+    inl ([], same ∙ none, tt)
+got_at done remote part name sync from core after old new first before now stage.Opening (progress.Ended (Ok len)) at
+    wish so never = absurd never
+got_at done remote part name sync from core after old new first before now stage.Reading progress.Waits at wish so
     (missing, full, (core_is, is), same) =
     still_so done part from old new first before now stage.Reading at so is same
-got_on done remote part name from core after old new first before now stage.Reading progress.Moved at so (inl gets) =
+got_at done remote part name sync from core after old new first before now stage.Reading progress.Moved at wish so (inl
+    gets) =
     reply_so done part from gets.mid after (record old { holding = gets.left }) new first before now gets.r gets.len so
     gets.goes
-got_on done remote part name from core after old new first before now stage.Reading progress.Moved at so
-    (inr (same, inl asks)) =
-    subst (λ (s : GetStage). GotSoFar done part from new first now s)
+got_at done remote part name sync from core after old new first before now stage.Reading progress.Moved at wish so (inr
+    (same, inl asks)) =
+    subst (λ (s : GetStage). GotAtStage done part from new first now s)
     (sym (ap (λ (x : FileGet). x.stage) asks.now ∙ at))
     (wrote_still done part from old.offset new.offset first before now so same
     (ap (λ (x : FileGet). x.offset) asks.now))
-got_on done remote part name from core after old new first before now stage.Reading progress.Moved at so
-    (inr (same, inr more)) =
+got_at done remote part name sync from core after old new first before now stage.Reading progress.Moved at wish so (inr
+    (same, inr more)) =
     gave_up done part from more.mid after more.left old new first now more.gives_up
     (part_of done part from old.offset first now (wrote_still done part from old.offset old.offset first before now so
     same refl))
-got_on done remote part name from core after old new first before now stage.Reading (progress.Ended result) at so never
-    = absurd never
-got_on done remote part name from core after old new first before now stage.Closing progress.Waits at so
+got_at done remote part name sync from core after old new first before now stage.Reading (progress.Ended result) at
+    wish so never = absurd never
+got_at done remote part name sync from core after old new first before now stage.Closing progress.Waits at wish so
     (missing, (core_is, is), same) =
     still_so done part from old new first before now stage.Closing at so is same
-got_on done remote part name from core after old new first before now stage.Closing progress.Moved at so never =
+got_at done remote part name sync from core after old new first before now stage.Closing progress.Moved at wish so
+    never =
     absurd never
-got_on done remote part name from core after old new first before now stage.Closing (progress.Ended (Ok len)) at
-    (only, all) (none, closed, renamed, len_is, over) =
-    (before, wrote_still done part from old.offset len first before before (all none) refl len_is, renamed)
-got_on done remote part name from core after old new first before now stage.Closing (progress.Ended (Err e)) at
-    ((acts, did, are), all) (told, inl same, over) =
-    (acts, same ∙ did, unnamed part name acts are)
-got_on done remote part name from core after old new first before now stage.Closing (progress.Ended (Err e)) at
-    ((acts, did, are), all) (told, inr (none, closed, failed), over) = (
-      acts ++ Failed (Renamed part name) ∷ [],
-      acts_join done acts (Failed (Renamed part name) ∷ []) first before now did failed,
-      unnamed_join part name acts (Failed (Renamed part name) ∷ []) (unnamed part name acts are) ((refl, refl), tt),
+got_at done remote part name sync from core after old new first before now stage.Closing (progress.Ended (Ok len)) at
+    wish
+    (only, all) (none, closed, named, len_is, over) = (
+      before,
+      wrote_still done part from old.offset len first before before (all none) refl len_is,
+      subst (λ (b : Bool). HasDone done (naming_acts b part name) before now) wish named,
     )
-got_on done remote part name from core after old new first before now stage.Ended result at so never = absurd never
+got_at done remote part name sync from core after old new first before now stage.Closing (progress.Ended (Err e)) at
+    wish
+    ((acts, did, are), all) (told, inl same, over) =
+    inl (acts, same ∙ did, unnamed sync part name acts are)
+got_at done remote part name sync from core after old new first before now stage.Closing (progress.Ended (Err e)) at
+    wish
+    (only, all) (told, inr (none, closed, (acts, fails, failed)), over) =
+    naming_failed done part name sync from old.offset first before now acts (all none)
+    (subst (λ (b : Bool). FailNaming b part name acts) wish fails) failed
+got_at done remote part name sync from core after old new first before now stage.Ended result at wish so never = absurd
+    never
+
+-- ---- whether the copy is to be written through stays the same
+
+made_stays : {H : Type 0} (done : LocalAct → H → H) (part : List ℕ) (core after : Core) (old new : FileGet)
+    (before now : H) → MakesPart done part core old after new before now → new.sync ≡ old.sync
+made_stays done part core after old new before now (inl (made, same, is)) = ap (λ (x : FileGet). x.sync) is
+made_stays done part core after old new before now (inr (failed, gives)) = gives.sync
+
+reply_stays : {H : Type 0} (done : LocalAct → H → H) (core after : Core) (old new : FileGet) (before now : H)
+    (r : Reply) (len : ℕ) → TakesReply done r len core old after new before now → new.sync ≡ old.sync
+reply_stays done core after old new before now (reply.Content bytes) len (inl (wrote, keeps)) = keeps.sync
+reply_stays done core after old new before now (reply.Content bytes) len (inr (failed, gives)) = gives.sync
+reply_stays done core after old new before now (reply.Status code message language) len (same, inl (eof, ends)) =
+    ends.sync
+reply_stays done core after old new before now (reply.Status code message language) len (same, inr (other, gives)) =
+    gives.sync
+reply_stays done core after old new before now other len never = absurd never
+
+pub sync_stays : {H : Type 0} (done : LocalAct → H → H) (remote part name : List ℕ) (core after : Core)
+    (old new : FileGet) (before now : H) (s : GetStage) (result : Progress) → HasGoneOn result
+    → GetStepDid done remote part name core old after new before now result s → new.sync ≡ old.sync
+sync_stays done remote part name core after old new before now stage.Starting progress.Waits on (never, same) =
+    absurd never
+sync_stays done remote part name core after old new before now stage.Starting progress.Moved on ((asks, is), same) =
+    ap (λ (x : FileGet). x.sync) is
+sync_stays done remote part name core after old new before now stage.Opening progress.Waits on
+    (missing, (core_is, is), same) =
+    ap (λ (x : FileGet). x.sync) is
+sync_stays done remote part name core after old new before now stage.Opening progress.Moved on opens =
+    made_stays done part opens.mid after (record old { holding = opens.open_file }) new before now opens.made
+sync_stays done remote part name core after old new before now stage.Reading progress.Waits on
+    (missing, full, (core_is, is), same) =
+    ap (λ (x : FileGet). x.sync) is
+sync_stays done remote part name core after old new before now stage.Reading progress.Moved on (inl gets) =
+    reply_stays done gets.mid after (record old { holding = gets.left }) new before now gets.r gets.len gets.goes
+sync_stays done remote part name core after old new before now stage.Reading progress.Moved on (inr (same, inl asks)) =
+    ap (λ (x : FileGet). x.sync) asks.now
+sync_stays done remote part name core after old new before now stage.Reading progress.Moved on (inr (same, inr more)) =
+    more.gives_up.sync
+sync_stays done remote part name core after old new before now stage.Closing progress.Waits on
+    (missing, (core_is, is), same) =
+    ap (λ (x : FileGet). x.sync) is
+sync_stays done remote part name core after old new before now stage.Closing progress.Moved on never = absurd never
+sync_stays done remote part name core after old new before now s (progress.Ended result) never did = absurd never
+sync_stays done remote part name core after old new before now stage.Ended progress.Waits on never = absurd never
+sync_stays done remote part name core after old new before now stage.Ended progress.Moved on never = absurd never
+
+pub got_on : {H : Type 0} (done : LocalAct → H → H) (remote part name : List ℕ) (sync : Bool) (from : ℕ)
+    (core after : Core) (old new : FileGet) (first before now : H) (s : GetStage) (result : Progress) → old.stage ≡ s
+    → GotSoFar done part sync from old first before s
+    → GetStepDid done remote part name core old after new before now result s
+    → GotAfter done part name sync from new first now result
+got_on done remote part name sync from core after old new first before now s progress.Waits at (wish, so) did = (
+  sync_stays done remote part name core after old new before now s progress.Waits tt did ∙ wish,
+  got_at done remote part name sync from core after old new first before now s progress.Waits at wish so did,
+)
+got_on done remote part name sync from core after old new first before now s progress.Moved at (wish, so) did = (
+  sync_stays done remote part name core after old new before now s progress.Moved tt did ∙ wish,
+  got_at done remote part name sync from core after old new first before now s progress.Moved at wish so did,
+)
+got_on done remote part name sync from core after old new first before now s (progress.Ended (Ok len)) at (wish, so)
+    did =
+    got_at done remote part name sync from core after old new first before now s (progress.Ended (Ok len)) at wish so
+    did
+got_on done remote part name sync from core after old new first before now s (progress.Ended (Err e)) at (wish, so)
+    did =
+    got_at done remote part name sync from core after old new first before now s (progress.Ended (Err e)) at wish so
+    did

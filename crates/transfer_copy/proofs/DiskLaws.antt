@@ -6,7 +6,7 @@ use Rattle.std.proofs.lemmas.List.{append_assoc, append-nil}
 use Rattle.std.proofs.lemmas.Slice.Eq.{bytes_eq-Decides}
 use Rattle.sftp_model.specs.Pieces.{joined_pieces}
 use Rattle.transfer_copy.specs.Disks.{Disk, IsCopied, after_act, with_file}
-use Rattle.transfer_copy.specs.Local.{Created, Renamed, Reopened, Wrote, all_done, writes_of}
+use Rattle.transfer_copy.specs.Local.{Created, Renamed, Reopened, Wrote, all_done, naming_acts, writes_of}
 
 here : (files : List ℕ → Option (List ℕ)) (name : List ℕ) (bytes : Option (List ℕ)) → with_file files name bytes name
     ≡ bytes
@@ -61,19 +61,31 @@ named part name bytes d e apart whole others = record {
       ∙ others other not_part;
 }
 
-pub one_name : (part name : List ℕ) (pieces : List (List ℕ)) (d written_disk : Disk) → part ≢ name → written_disk
-    ≡ all_done after_act (Created part ∷ writes_of pieces) d
-    → IsCopied part name (joined_pieces pieces) d (after_act (Renamed part name) written_disk)
-one_name part name pieces d e apart is =
-    let w = written pieces [] (after_act (Created part) d) (here d.files part (Some [])) in
-    named part name (joined_pieces pieces) d e apart (ap (λ (x : Disk). x.files part) is ∙ w.whole)
-    (λ other not_part. ap (λ (x : Disk). x.files other) is ∙ w.others other not_part
-    ∙ elsewhere d.files part (Some []) other not_part)
+-- what is written through changes no content
+pub named_synced : (part name bytes : List ℕ) (sync : Bool) (d e : Disk)
+    → IsCopied part name bytes d (after_act (Renamed part name) e)
+    → IsCopied part name bytes d (all_done after_act (naming_acts sync part name) e)
+named_synced part name bytes false d e copied = copied
+named_synced part name bytes true d e copied = copied
 
-pub one_name_behind : (part name had : List ℕ) (len : ℕ) (pieces : List (List ℕ)) (d written_disk : Disk) → part ≢ name
-    → d.files part ≡ Some had → written_disk ≡ all_done after_act (Reopened part len ∷ writes_of pieces) d
-    → IsCopied part name (had ++ joined_pieces pieces) d (after_act (Renamed part name) written_disk)
-one_name_behind part name had len pieces d e apart has is =
+pub one_name : (part name : List ℕ) (sync : Bool) (pieces : List (List ℕ)) (d written_disk : Disk) → part ≢ name
+    → written_disk
+    ≡ all_done after_act (Created part ∷ writes_of pieces) d
+    → IsCopied part name (joined_pieces pieces) d (all_done after_act (naming_acts sync part name) written_disk)
+one_name part name sync pieces d e apart is =
+    let w = written pieces [] (after_act (Created part) d) (here d.files part (Some [])) in
+    named_synced part name (joined_pieces pieces) sync d e
+    (named part name (joined_pieces pieces) d e apart (ap (λ (x : Disk). x.files part) is ∙ w.whole)
+    (λ other not_part. ap (λ (x : Disk). x.files other) is ∙ w.others other not_part
+    ∙ elsewhere d.files part (Some []) other not_part))
+
+pub one_name_behind : (part name had : List ℕ) (sync : Bool) (len : ℕ) (pieces : List (List ℕ))
+    (d written_disk : Disk) → part ≢ name → d.files part ≡ Some had → written_disk ≡ all_done after_act (Reopened part
+    len ∷ writes_of pieces) d
+    → IsCopied part name (had ++ joined_pieces pieces) d
+    (all_done after_act (naming_acts sync part name) written_disk)
+one_name_behind part name had sync len pieces d e apart has is =
     let w = written pieces had (after_act (Reopened part len) d) has in
-    named part name (had ++ joined_pieces pieces) d e apart (ap (λ (x : Disk). x.files part) is ∙ w.whole)
-    (λ other not_part. ap (λ (x : Disk). x.files other) is ∙ w.others other not_part)
+    named_synced part name (had ++ joined_pieces pieces) sync d e
+    (named part name (had ++ joined_pieces pieces) d e apart (ap (λ (x : Disk). x.files part) is ∙ w.whole)
+    (λ other not_part. ap (λ (x : Disk). x.files other) is ∙ w.others other not_part))

@@ -107,7 +107,14 @@ read_failed done core mid after old new left before result gives moved =
       inr (record {
         mid = mid;
         left = left;
-        gives_up = record { goes = gives.goes; stage = gives.stage; offset = gives.offset; failure = gives.failure };
+        gives_up = record {
+          goes = gives.goes;
+          stage = gives.stage;
+          offset = gives.offset;
+          sync = gives.sync;
+          failure =
+              gives.failure;
+        };
       }),
     ))
 

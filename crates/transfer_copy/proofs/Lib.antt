@@ -8,5 +8,9 @@ pub mod DiskLaws
 pub mod LegLaws
 mod WholeGetLaws
 pub mod WholeGetSteps
+mod NamingLaws
+mod WritePartLaws
+mod SyncLaws
 mod WholePutLaws
+mod WholePutStages
 pub mod WholePutSteps

@@ -12,7 +12,8 @@ use Rattle.transfer_copy.specs.declared.put.PutStage.TheVariants as stage
 use Rattle.transfer_copy.specs.Acts.{HasReadFile, IsReadOnly, SentAfter, SentSoFar, end_acts}
 use Rattle.transfer_copy.specs.Holdings.{HoldingValue, bytes_under_way}
 use Rattle.transfer_copy.specs.Local.{AreGot, Failed, Got, HasDone, IsGot, LocalAct, Opened, reads_of}
-use Rattle.transfer_copy.specs.Puts.{AcceptsWrite, IsWritingOn, MayPut, PutAsksAttrs, PutNamed, PutStepDid, PutFinishes, PutGivesUp, PutReadsNext, PutSentAll, StandsPut, PutWritesNext, offers_rename, rename_stage}
+use Rattle.transfer_copy.specs.Puts.{AcceptsWrite, IsWritingOn, MayPut, PutAsksAttrs, PutAsksSync, PutNamed, PutStepDid, PutFinishes, PutGivesUp, PutReadsNext, PutSentAll, StandsPut, PutWritesNext, rename_stage}
+use Rattle.transfer_copy.specs.PutRequests.{offers_rename}
 use Rattle.transfer_copy.proofs.ActLaws.{acts_join, failed_is, total_last}
 
 reads_last : (pieces : List (List ℕ)) (piece : List ℕ) → reads_of (pieces ++ piece ∷ []) ≡ reads_of pieces
@@ -202,6 +203,20 @@ attrs_so done name from core after old new first before now attrs at has same (i
     (read_of done name from old.at_end old.next first now (read_still done name from old.at_end old.next old.next first
     before now has same refl))
 
+-- the fsync was asked for, or not: no more bytes are got
+syncs_so : {H : Type 0} (done : LocalAct → H → H) (name : List ℕ) (from : ℕ) (core after : Core) (old new : FilePut)
+    (first before now : H) → old.stage ≡ stage.Writing
+    → HasReadFile done name from old.at_end old.next first before
+    → now ≡ before → PutAsksSync core old after new → SentSoFar done name from new first now new.stage
+syncs_so done name from core after old new first before now at has same (inl (asks, is)) =
+    put_same done name from old new first before now has same (ap (λ (x : FilePut). x.stage) is ∙ at)
+    (ap (λ (x : FilePut). x.next) is)
+    (ap (λ (x : FilePut). x.at_end) is)
+syncs_so done name from core after old new first before now at has same (inr gives) =
+    put_gave_up done name from core after old.holding old new first now gives
+    (read_of done name from old.at_end old.next first now (read_still done name from old.at_end old.next old.next first
+    before now has same refl))
+
 begun_so : {H : Type 0} (done : LocalAct → H → H) (name : List ℕ) (from at : ℕ) (new : FilePut) (first before now : H)
     → before ≡ first
     → at ≡ from → now ≡ done (Opened name at) before → new.next ≡ from → new.at_end ≡ false
@@ -295,8 +310,11 @@ sent_on done name part remote from core after old new first before now stage.Wri
     accepts_so done name from puts.mid after (record old { holding = puts.left }) new first before now puts.r puts.len
     at so same puts.accepts
 sent_on done name part remote from core after old new first before now stage.Writing progress.Moved at may so
-    (inr (same, inr (inl (inl all)))) =
+    (inr (same, inr (inl (inl (inl all))))) =
     sent_so done name from core after old new first before now (writing_at old core at may) so same all
+sent_on done name part remote from core after old new first before now stage.Writing progress.Moved at may so
+    (inr (same, inr (inl (inl (inr syncs))))) =
+    syncs_so done name from core after old new first before now at so same syncs.asks
 sent_on done name part remote from core after old new first before now stage.Writing progress.Moved at may so
     (inr (same, inr (inl (inr gives)))) =
     attrs_so done name from core after old new first before now gives.attrs at so same gives.asks

@@ -2,6 +2,7 @@
 use Rattle.std.proofs.Common.{◌≡◌, ◌⊎◌, inl, inr, ◌<◌, ℕ, ◌+◌, ◌^◌, Bool, false, List, [], ◌∷◌, length, refl, sym, ap, ◌∙◌, subst, arith, Option, Some, None}
 use Rattle.std.specs.Prelude.{Ok, Err, IsSome}
 use Rattle.sftp_model.specs.Answers.{expected_of}
+use Rattle.sftp_model.specs.Numbers.{POSIX_RENAME}
 use Rattle.sftp_model.specs.declared.file_attrs.FileAttrs.{FileAttrs}
 use Rattle.sftp_model.specs.declared.reply.Reply.{Reply}
 use Rattle.sftp_model.specs.declared.request.Request.TheVariants as request
@@ -21,6 +22,7 @@ use Rattle.transfer_copy.specs.declared.put.PutStage.TheVariants as stage
 use Rattle.transfer_copy.specs.Holdings.{
   AsksForAttrs,
   AsksForPart,
+  AsksForSync,
   AsksForWrite,
   HoldingValue,
   WasFound,
@@ -49,11 +51,9 @@ use Rattle.transfer_copy.specs.Puts.{
   PutEndsSending,
   StandsPut,
   WritesOn,
-  can_replace,
-  offers_rename,
-  rename_of,
   rename_stage,
 }
+use Rattle.transfer_copy.specs.PutRequests.{has_extension, offers_rename, rename_of}
 use Rattle.transfer_copy.specs.Local.{LocalAct}
 use Rattle.transfer_copy.proofs.GetLaws.{last_bytes, still_open}
 use Rattle.transfer_copy.proofs.HoldingLaws.{apart_both}
@@ -70,13 +70,13 @@ put_leaves_then core mid after old new left first then_leaves = record {
 -- ---- one part more
 
 -- a request for so many bytes is behind the others, and the copy writes on
-part_on : (core after : Core) (old : FilePut) (held : HoldingValue) (attrs : Option FileAttrs) (asking : Asking)
-    (len next : ℕ)
+part_on : (core after : Core) (old : FilePut) (held : HoldingValue) (attrs : Option FileAttrs) (sync : Bool)
+    (asking : Asking) (len next : ℕ)
     → IsSome (info_of core.phase) → old.stage ≡ stage.Writing → IsWritingOn old → next ≡ old.next + len → next < 2 ^ 64
     → AsksForPart core old.holding asking len after held → KeepsApart old.holding held core after
-    → PutLeaves core old after (record old { holding = held; next = next; attrs = attrs })
-part_on core after old held attrs asking len next opened at_writing writing next_is small asks apart =
-    let new : FilePut = record old { holding = held; next = next; attrs = attrs } in
+    → PutLeaves core old after (record old { holding = held; next = next; attrs = attrs; sync = sync })
+part_on core after old held attrs sync asking len next opened at_writing writing next_is small asks apart =
+    let new : FilePut = record old { holding = held; next = next; attrs = attrs; sync = sync } in
     let sum = last_bytes asks.ticket len (expected_of (request_of asking)) old.holding.parts in
     let total = ap bytes_under_way (ap (λ (x : HoldingValue). x.parts) asks.now) ∙ sum in
     let was = writing.next in
@@ -103,7 +103,8 @@ pub wrote_on : (core after : Core) (old : FilePut) (held : HoldingValue) (bytes 
     → AsksForWrite core old.holding old.next bytes after held → KeepsApart old.holding held core after
     → PutLeaves core old after (record old { holding = held; next = old.next + len })
 wrote_on core after old held bytes len opened at_writing writing len_is small asks apart =
-    part_on core after old held old.attrs (Parts (file_handle old.holding.file) old.next (bytes ∷ [])) (length bytes)
+    part_on core after old held old.attrs old.sync (Parts (file_handle old.holding.file) old.next (bytes ∷ [])) (length
+    bytes)
     (old.next + len)
     opened at_writing writing (omega (arith, len_is)) small asks apart
 
@@ -113,7 +114,15 @@ pub gave_on : (core after : Core) (old : FilePut) (held : HoldingValue) (attrs :
     → old.stage ≡ stage.Writing → IsWritingOn old → AsksForAttrs core old.holding attrs after held
     → KeepsApart old.holding held core after → PutLeaves core old after (record old { holding = held; attrs = None })
 gave_on core after old held attrs opened at_writing writing asks apart =
-    part_on core after old held None (Whole (request.Fsetstat (file_handle old.holding.file) attrs)) 0 old.next
+    part_on core after old held None old.sync (Whole (request.Fsetstat (file_handle old.holding.file) attrs)) 0 old.next
+    opened at_writing writing (omega (arith)) writing.small asks apart
+
+-- the fsync
+pub synced_on : (core after : Core) (old : FilePut) (held : HoldingValue) → IsSome (info_of core.phase)
+    → old.stage ≡ stage.Writing → IsWritingOn old → AsksForSync core old.holding after held
+    → KeepsApart old.holding held core after → PutLeaves core old after (record old { holding = held; sync = false })
+synced_on core after old held opened at_writing writing asks apart =
+    part_on core after old held old.attrs false (Whole (request.Fsync (file_handle old.holding.file))) 0 old.next
     opened at_writing writing (omega (arith)) writing.small asks apart
 
 -- ---- the status of the first WRITE
@@ -235,7 +244,7 @@ pub put_closed : (core mid after : Core) (old new : FilePut) (left : HoldingValu
 put_closed core mid after old new left part remote result ok phase (inl (none, asks)) =
     named_close core mid after old new left part remote result ok none
     (subst (λ (b : Bool). AsksAt (rename_of part remote b) (rename_stage b) mid (record old { holding = left }) after
-    new result) (ap (λ (p : Handshake). can_replace (info_of p)) phase) asks)
+    new result) (ap (λ (p : Handshake). has_extension POSIX_RENAME (info_of p)) phase) asks)
 put_closed core mid after old new left part remote result ok phase (inr (first, some, is, same, over)) =
     failed_close core mid after old new part remote first result some is over
 

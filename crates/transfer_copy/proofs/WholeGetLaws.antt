@@ -9,7 +9,7 @@ use Rattle.sftp_model.specs.declared.reply.Reply.TheVariants as reply
 use Rattle.plan_model.specs.FilePlans.{open_request}
 use Rattle.sftp_core.specs.Core.{Core, record_at, reply_in}
 use Rattle.sftp_core.specs.Grant.{GrantValue}
-use Rattle.transfer_copy.specs.Local.{HasDone, LocalAct, Renamed, Wrote, part_opened, writes_of}
+use Rattle.transfer_copy.specs.Local.{HasDone, LocalAct, Wrote, naming_acts, part_opened, writes_of}
 use Rattle.transfer_copy.specs.declared.get.FileGet.{FileGet}
 use Rattle.transfer_copy.specs.declared.get.GetStage.TheVariants as stage
 use Rattle.transfer_copy.specs.declared.holding.FileAnswer.TheVariants as file_answer
@@ -103,20 +103,21 @@ bytes_last (first ∷ later) piece = ap (λ l. Wrote first.bytes ∷ l) (bytes_l
 -- ---- how far it has come
 
 -- the deeds up to here
-abbrev pub AreGetDeeds : {H : Type 0} → (LocalAct → H → H) → List ℕ → List ℕ → List ℕ → ℕ → GrantValue
+abbrev pub AreGetDeeds : {H : Type 0} → (LocalAct → H → H) → List ℕ → List ℕ → List ℕ → Bool → ℕ → GrantValue
     → List (CopyStep FileGet H) → List GetDeed → Type 0
-AreGetDeeds done remote part name from grant legs deeds = AreDeeds (DidGet done remote part name from grant) legs deeds
+AreGetDeeds done remote part name sync from grant legs deeds = AreDeeds (DidGet done remote part name sync from grant)
+    legs deeds
 
 abbrev pub read_deeds : List ReadDeed → List GetDeed
 read_deeds reading = map Reading reading ++ Opens ∷ AsksOpen ∷ []
 
-pub record IsReadSoFar {H : Type 0} (done : LocalAct → H → H) (remote part name : List ℕ) (from : ℕ)
+pub record IsReadSoFar {H : Type 0} (done : LocalAct → H → H) (remote part name : List ℕ) (sync : Bool) (from : ℕ)
     (legs : List (CopyStep FileGet H)) (g : FileGet) (first now : H) : Type 0 where
   pub grant : GrantValue
   pub reading : List ReadDeed
   pub asked : List AskedRead
   pub pieces : List ReadPiece
-  pub deeds : AreGetDeeds done remote part name from grant legs (read_deeds reading)
+  pub deeds : AreGetDeeds done remote part name sync from grant legs (read_deeds reading)
   pub reads : reads_after reading ≡ record { under_way = asked; pieces = pieces }
   pub file : g.holding.file ≡ hold.Opened grant
   pub parts : g.holding.parts ≡ map read_part asked
@@ -124,33 +125,34 @@ pub record IsReadSoFar {H : Type 0} (done : LocalAct → H → H) (remote part n
   pub in_order : AreFromTo from pieces g.offset
   pub acts : HasDone done (part_opened part from ∷ writes_of (bytes_of pieces)) first now
 
-pub record IsReadWhole {H : Type 0} (done : LocalAct → H → H) (remote part name : List ℕ) (from : ℕ)
+pub record IsReadWhole {H : Type 0} (done : LocalAct → H → H) (remote part name : List ℕ) (sync : Bool) (from : ℕ)
     (legs : List (CopyStep FileGet H)) (g : FileGet) (first now : H) : Type 0 where
   pub grant : GrantValue
   pub reading : List ReadDeed
   pub last_read : AskedRead
   pub given_up : List AskedRead
   pub pieces : List ReadPiece
-  pub deeds : AreGetDeeds done remote part name from grant legs (MeetsEnd last_read.ticket ∷ read_deeds reading)
+  pub deeds : AreGetDeeds done remote part name sync from grant legs (MeetsEnd last_read.ticket ∷ read_deeds reading)
   pub reads : reads_after reading ≡ record { under_way = last_read ∷ given_up; pieces = pieces }
   pub file : g.holding.file ≡ hold.Asked grant.id expected.Status
   pub in_order : AreFromTo from pieces g.offset
   pub at_end : last_read.offset ≡ g.offset
   pub acts : HasDone done (part_opened part from ∷ writes_of (bytes_of pieces)) first now
 
-pub record IsOpenAsked {H : Type 0} (done : LocalAct → H → H) (remote part name : List ℕ) (from : ℕ)
+pub record IsOpenAsked {H : Type 0} (done : LocalAct → H → H) (remote part name : List ℕ) (sync : Bool) (from : ℕ)
     (legs : List (CopyStep FileGet H)) (g : FileGet) (first now : H) : Type 0 where
   pub ticket : ℕ
-  pub deeds : (handle : List ℕ) → AreGetDeeds done remote part name from (record { id = ticket; handle = handle }) legs
+  pub deeds : (handle : List ℕ) → AreGetDeeds done remote part name sync from (record { id = ticket; handle = handle })
+      legs
       (AsksOpen ∷ [])
   pub holds : g.holding ≡ record { file = hold.Asked ticket expected.Handle; parts = [] }
   pub offset : g.offset ≡ from
   pub next : g.next ≡ from
   pub acts : now ≡ first
 
-pub record IsUnasked {H : Type 0} (done : LocalAct → H → H) (remote part name : List ℕ) (from : ℕ)
+pub record IsUnasked {H : Type 0} (done : LocalAct → H → H) (remote part name : List ℕ) (sync : Bool) (from : ℕ)
     (legs : List (CopyStep FileGet H)) (g : FileGet) (first now : H) : Type 0 where
-  pub deeds : (grant : GrantValue) → AreGetDeeds done remote part name from grant legs []
+  pub deeds : (grant : GrantValue) → AreGetDeeds done remote part name sync from grant legs []
   pub holds : g.holding ≡ nothing_held
   pub offset : g.offset ≡ from
   pub next : g.next ≡ from
@@ -158,13 +160,13 @@ pub record IsUnasked {H : Type 0} (done : LocalAct → H → H) (remote part nam
 
 -- ---- the OPEN
 
-pub start_so : {H : Type 0} (done : LocalAct → H → H) (remote part name : List ℕ) (from : ℕ)
+pub start_so : {H : Type 0} (done : LocalAct → H → H) (remote part name : List ℕ) (sync : Bool) (from : ℕ)
     (legs : List (CopyStep FileGet H)) (leg : CopyStep FileGet H)
-    (first : H) → IsUnasked done remote part name from legs leg.old first leg.before
+    (first : H) → IsUnasked done remote part name sync from legs leg.old first leg.before
     → AsksFile leg.core leg.old.holding (open_request read_flags remote) leg.after leg.new.holding
     → leg.new ≡ record leg.old { stage = stage.Opening; holding = leg.new.holding } → leg.now ≡ leg.before
-    → IsOpenAsked done remote part name from (leg ∷ legs) leg.new first leg.now
-start_so done remote part name from legs leg first so asks is same = record {
+    → IsOpenAsked done remote part name sync from (leg ∷ legs) leg.new first leg.now
+start_so done remote part name sync from legs leg first so asks is same = record {
   ticket = asks.ticket;
   deeds = λ handle. inr (((asks, refl), same), so.deeds (record { id = asks.ticket; handle = handle }));
   holds = asks.now ∙ ap (λ (h : HoldingValue). record h { file = hold.Asked asks.ticket expected.Handle }) so.holds;
@@ -187,15 +189,15 @@ handle_of core mid ticket old new holds granted =
     let at_asked = subst (λ (h : HoldingValue). SettlesFile core h mid new file_answer.Granted) holds granted in
     record { handle = at_asked.0; came = at_asked.1; file = at_asked.4; parts = at_asked.5 }
 
-pub made_whole : {H : Type 0} (done : LocalAct → H → H) (remote part name : List ℕ) (from : ℕ)
+pub made_whole : {H : Type 0} (done : LocalAct → H → H) (remote part name : List ℕ) (sync : Bool) (from : ℕ)
     (legs : List (CopyStep FileGet H)) (leg : CopyStep FileGet H)
-    (first : H) (mid : Core) (left : HoldingValue) → IsOpenAsked done remote part name from legs leg.old first
+    (first : H) (mid : Core) (left : HoldingValue) → IsOpenAsked done remote part name sync from legs leg.old first
     leg.before
     → SettlesFile leg.core leg.old.holding mid left file_answer.Granted
     → leg.now ≡ done (part_opened part leg.old.offset) leg.before
     → leg.new ≡ record leg.old { stage = stage.Reading; holding = left }
-    → IsReadSoFar done remote part name from (leg ∷ legs) leg.new first leg.now
-made_whole done remote part name from legs leg first mid left so granted made is =
+    → IsReadSoFar done remote part name sync from (leg ∷ legs) leg.new first leg.now
+made_whole done remote part name sync from legs leg first mid left so granted made is =
     let h = handle_of leg.core mid so.ticket leg.old.holding left so.holds granted in
     let opened = made ∙ ap (λ n. done (part_opened part n) leg.before) so.offset in
     let offset : leg.new.offset ≡ from = ap (λ (g : FileGet). g.offset) is ∙ so.offset in
@@ -216,12 +218,13 @@ made_whole done remote part name from legs leg first mid left so granted made is
 
 -- ---- READs
 
-pub asks_so : {H : Type 0} (done : LocalAct → H → H) (remote part name : List ℕ) (from : ℕ)
+pub asks_so : {H : Type 0} (done : LocalAct → H → H) (remote part name : List ℕ) (sync : Bool) (from : ℕ)
     (legs : List (CopyStep FileGet H)) (leg : CopyStep FileGet H)
-    (first : H) → IsReadSoFar done remote part name from legs leg.old first leg.before → leg.now ≡ leg.before
-    → GetsMore leg.core leg.old leg.after leg.new → IsReadSoFar done remote part name from (leg ∷ legs) leg.new first
+    (first : H) → IsReadSoFar done remote part name sync from legs leg.old first leg.before → leg.now ≡ leg.before
+    → GetsMore leg.core leg.old leg.after leg.new → IsReadSoFar done remote part name sync from (leg ∷ legs) leg.new
+    first
     leg.now
-asks_so done remote part name from legs leg first so same more =
+asks_so done remote part name sync from legs leg first so same more =
     let read : AskedRead = record { ticket = more.asks.ticket; offset = leg.old.next; len = more.len } in
     let offset : leg.new.offset ≡ leg.old.offset = ap (λ (g : FileGet). g.offset) more.now in
     let next : leg.new.next ≡ leg.old.next + more.len = ap (λ (g : FileGet). g.next) more.now in
@@ -267,26 +270,28 @@ taken_is ticket bytes read behind asked pieces full is under test =
     }) test)
 
 -- the part that was answered is that of the first READ
-came_first : {H : Type 0} (done : LocalAct → H → H) (remote part name : List ℕ) (from : ℕ)
+came_first : {H : Type 0} (done : LocalAct → H → H) (remote part name : List ℕ) (sync : Bool) (from : ℕ)
     (legs : List (CopyStep FileGet H)) (g : FileGet)
     (first now : H) (core mid : Core) (left : HoldingValue) (r : Reply) (len : ℕ)
-    (so : IsReadSoFar done remote part name from legs g first now)
+    (so : IsReadSoFar done remote part name sync from legs g first now)
     (came : TakesPart core g.holding mid left (part_answer.Came r len)) → IsFirstRead so.asked came.part came.later
-came_first done remote part name from legs g first now core mid left r len so came =
+came_first done remote part name sync from legs g first now core mid left r len so came =
     first_of so.asked came.part came.later (sym so.parts ∙ came.first)
 
-pub got_so : {H : Type 0} (done : LocalAct → H → H) (remote part name : List ℕ) (from : ℕ)
+pub got_so : {H : Type 0} (done : LocalAct → H → H) (remote part name : List ℕ) (sync : Bool) (from : ℕ)
     (legs : List (CopyStep FileGet H)) (leg : CopyStep FileGet H)
     (first : H) (mid : Core) (left : HoldingValue) (bytes : List ℕ) (len : ℕ)
-    → IsReadSoFar done remote part name from legs leg.old first leg.before
+    → IsReadSoFar done remote part name sync from legs leg.old first leg.before
     → TakesPart leg.core leg.old.holding mid left (part_answer.Came (reply.Content bytes) len)
     → leg.now ≡ done (Wrote bytes) leg.before
     → KeepsPiece (length bytes) len mid (record leg.old { holding = left }) leg.after leg.new
-    → IsReadSoFar done remote part name from (leg ∷ legs) leg.new first leg.now
-got_so {H = H} done remote part name from legs leg first mid left bytes len so came wrote keeps = by_length keeps.goes
+    → IsReadSoFar done remote part name sync from (leg ∷ legs) leg.new first leg.now
+got_so {H = H} done remote part name sync from legs leg first mid left bytes len so came wrote keeps = by_length
+    keeps.goes
   where
     fr : IsFirstRead so.asked came.part came.later
-    fr = came_first done remote part name from legs leg.old first leg.before leg.core mid left (reply.Content bytes) len
+    fr = came_first done remote part name sync from legs leg.old first leg.before leg.core mid left (reply.Content
+        bytes) len
         so came
 
     piece : ReadPiece
@@ -301,7 +306,7 @@ got_so {H = H} done remote part name from legs leg first mid left bytes len so c
     ahead : AreAskedFromTo leg.old.offset (fr.read ∷ fr.behind) leg.old.next
     ahead = subst (λ (l : List AskedRead). AreAskedFromTo leg.old.offset l leg.old.next) fr.is so.ahead
 
-    deed : DidGet done remote part name from so.grant (Reading (GotData came.part.ticket bytes)) leg
+    deed : DidGet done remote part name sync from so.grant (Reading (GotData came.part.ticket bytes)) leg
     deed = ((mid, left, record { len = len; came = came; under = refl }), wrote)
 
     file_is : left.file ≡ hold.Opened so.grant
@@ -324,7 +329,7 @@ got_so {H = H} done remote part name from legs leg first mid left bytes len so c
 
     by_length : ((length bytes ≡ len) × (leg.after ≡ mid) × (leg.new.holding ≡ left) × (leg.new.next ≡ leg.old.next))
         ⊎ ((length bytes < len) × DropsParts mid left leg.after leg.new.holding × (leg.new.next ≡ leg.new.offset))
-        → IsReadSoFar done remote part name from (leg ∷ legs) leg.new first leg.now
+        → IsReadSoFar done remote part name sync from (leg ∷ legs) leg.new first leg.now
     by_length (inl (full, core_is, holds, next)) = record {
       grant = so.grant;
       reading = GotData came.part.ticket bytes ∷ so.reading;
@@ -368,16 +373,16 @@ closed_file core after left new grant file goes =
     let id : goes.closes.grant.id ≡ grant.id = ap grant_id (sym goes.closes.opened ∙ alone) in
     ap (λ (h : HoldingValue). h.file) goes.closes.now ∙ ap (λ n. hold.Asked n expected.Status) id
 
-pub ended_so : {H : Type 0} (done : LocalAct → H → H) (remote part name : List ℕ) (from : ℕ)
+pub ended_so : {H : Type 0} (done : LocalAct → H → H) (remote part name : List ℕ) (sync : Bool) (from : ℕ)
     (legs : List (CopyStep FileGet H)) (leg : CopyStep FileGet H)
     (first : H) (mid : Core) (left : HoldingValue) (code : ℕ) (message language : List ℕ) (len : ℕ)
-    → IsReadSoFar done remote part name from legs leg.old first leg.before
+    → IsReadSoFar done remote part name sync from legs leg.old first leg.before
     → TakesPart leg.core leg.old.holding mid left (part_answer.Came (reply.Status code message language) len)
     → leg.now ≡ leg.before → code ≡ SSH_FX_EOF → GetFinishes mid left (record leg.old { holding = left }) leg.after
     leg.new
-    → IsReadWhole done remote part name from (leg ∷ legs) leg.new first leg.now
-ended_so done remote part name from legs leg first mid left code message language len so came same eof ends =
-    let fr = came_first done remote part name from legs leg.old first leg.before leg.core mid left
+    → IsReadWhole done remote part name sync from (leg ∷ legs) leg.new first leg.now
+ended_so done remote part name sync from legs leg first mid left code message language len so came same eof ends =
+    let fr = came_first done remote part name sync from legs leg.old first leg.before leg.core mid left
     (reply.Status code message language) len so came in
     let file_is : left.file ≡ hold.Opened so.grant = ap (λ (h : HoldingValue). h.file) came.now ∙ so.file in
     let under : came.part.ticket ≡ fr.read.ticket = sym (ap (λ (p : Part). p.ticket) fr.part_is) in
@@ -400,13 +405,13 @@ ended_so done remote part name from legs leg first mid left code message languag
       acts = same ∙ so.acts;
     }
 
-pub named_whole : {H : Type 0} (done : LocalAct → H → H) (remote part name : List ℕ) (from len : ℕ)
+pub named_whole : {H : Type 0} (done : LocalAct → H → H) (remote part name : List ℕ) (sync : Bool) (from len : ℕ)
     (legs : List (CopyStep FileGet H)) (leg : CopyStep FileGet H)
-    (first : H) → IsReadWhole done remote part name from legs leg.old first leg.before
+    (first : H) → IsReadWhole done remote part name sync from legs leg.old first leg.before
     → SaysClosed leg.core leg.old leg.after leg.new
-    → leg.now ≡ done (Renamed part name) leg.before → len ≡ leg.old.offset
-    → GotWhole done remote part name from len first leg.now (leg ∷ legs)
-named_whole done remote part name from len legs leg first w closed renamed len_is = record {
+    → HasDone done (naming_acts sync part name) leg.before leg.now → len ≡ leg.old.offset
+    → GotWhole done remote part name sync from len first leg.now (leg ∷ legs)
+named_whole done remote part name sync from len legs leg first w closed renamed len_is = record {
   grant = w.grant;
   reading = w.reading;
   last_read = w.last_read;
@@ -416,6 +421,6 @@ named_whole done remote part name from len legs leg first w closed renamed len_i
   reads = w.reads;
   in_order = subst (λ n. AreFromTo from w.pieces n) (sym len_is) w.in_order;
   at_end = w.at_end ∙ sym len_is;
-  acts = acts_join done (part_opened part from ∷ writes_of (bytes_of w.pieces)) (Renamed part name ∷ []) first
+  acts = acts_join done (part_opened part from ∷ writes_of (bytes_of w.pieces)) (naming_acts sync part name) first
       leg.before leg.now w.acts renamed;
 }

@@ -1,6 +1,7 @@
 -- Whole copies to the server: WRITEs and their statuses.
 use Rattle.std.proofs.Common.{
   ◌≡◌,
+  inl,
   inr,
   ℕ,
   ◌+◌,
@@ -18,9 +19,8 @@ use Rattle.std.proofs.Common.{
   ap,
   ◌∙◌,
   subst,
-  arith,
+  Some,
   None,
-  if◌then◌else◌,
 }
 use Rattle.std.proofs.lemmas.List.{append-nil, append_assoc}
 use Rattle.sftp_model.specs.declared.answers.Expected.TheVariants as expected
@@ -38,20 +38,24 @@ use Rattle.transfer_copy.specs.declared.holding.Part.{Part}
 use Rattle.transfer_copy.specs.declared.holding.PartAnswer.TheVariants as part_answer
 use Rattle.transfer_copy.specs.declared.put.FilePut.{FilePut}
 use Rattle.transfer_copy.specs.declared.put.PutStage.TheVariants as stage
-use Rattle.transfer_copy.specs.Holdings.{AsksFile, AsksForAttrs, AsksForWrite, HoldingValue, SettlesFile, TakesPart, nothing_held}
+use Rattle.transfer_copy.specs.Holdings.{AsksFile, AsksForAttrs, AsksForSync, AsksForWrite, HoldingValue, SettlesFile, TakesPart, nothing_held}
 use Rattle.transfer_copy.specs.Legs.{AnswersFirst, AreDeeds, CopyStep}
-use Rattle.transfer_copy.specs.Puts.{PutFinishes, open_part}
+use Rattle.transfer_copy.specs.PutRequests.{offers_sync, open_part}
+use Rattle.transfer_copy.specs.Puts.{PutFinishes, is_sync_due}
 use Rattle.transfer_copy.specs.Refusals.{IsOkStatus}
 use Rattle.transfer_copy.specs.WholePuts.{
   AreWrittenFromTo,
+  AskNoSync,
   AskedWrite,
   AsksAttrs,
   AsksOpen,
+  AsksSync,
   AsksWrite,
   Closes,
   DidPut,
   GotEnd,
   GotOk,
+  IsSynced,
   Opens,
   PutDeed,
   WriteDeed,
@@ -62,130 +66,43 @@ use Rattle.transfer_copy.specs.WholePuts.{
   writes_after,
 }
 use Rattle.transfer_copy.proofs.ActLaws.{acts_join}
-use Rattle.transfer_copy.proofs.LegLaws.{same_number}
+use Rattle.transfer_copy.proofs.SyncLaws.{
+  HasSyncSoFar,
+  sync_answered,
+  sync_asked,
+  sync_done,
+  sync_unwanted,
+  unsynced_giving,
+  unsynced_reading,
+}
 use Rattle.transfer_copy.proofs.WholeGetLaws.{closed_file, handle_of}
-
--- ---- WRITEs under way
-
--- each part is that of a WRITE; or none is under way any more, and the FSETSTAT is
-abbrev pub AreWriteParts : List AskedWrite → List Part → Bool → Type 0
-AreWriteParts [] [] at_end = Unit {0}
-AreWriteParts [] (part ∷ later) at_end = (part.len ≡ 0) × (at_end ≡ true) × (later ≡ [])
-AreWriteParts (write ∷ writes) [] at_end = ⊥
-AreWriteParts (write ∷ writes) (part ∷ later) at_end = (part.ticket ≡ write.ticket) × (part.len ≡ length write.bytes)
-    × AreWriteParts writes later at_end
-
-false_true : false ≡ true → ⊥
-false_true e = cc
-
-parts_last : (writes : List AskedWrite) (parts : List Part) (write : AskedWrite) (part : Part)
-    → AreWriteParts writes parts false
-    → part.ticket ≡ write.ticket → part.len ≡ length write.bytes
-    → AreWriteParts (writes ++ write ∷ []) (parts ++ part ∷ []) false
-parts_last [] [] write part are under len = (under, len, tt)
-parts_last [] (other ∷ later) write part (none, going, last) under len = absurd (false_true going)
-parts_last (first ∷ writes) [] write part never under len = absurd never
-parts_last (first ∷ writes) (other ∷ later) write part (t, l, are) under len =
-    (t, l, parts_last writes later write part are under len)
-
-parts_end : (writes : List AskedWrite) (parts : List Part) → AreWriteParts writes parts false
-    → AreWriteParts writes parts true
-parts_end [] [] are = tt
-parts_end [] (other ∷ later) (none, going, last) = absurd (false_true going)
-parts_end (first ∷ writes) [] never = absurd never
-parts_end (first ∷ writes) (other ∷ later) (t, l, are) = (t, l, parts_end writes later are)
-
-no_writes : (writes : List AskedWrite) (parts : List Part) (at_end : Bool) → AreWriteParts writes parts at_end → parts
-    ≡ [] → writes ≡ []
-no_writes [] parts at_end are none = refl
-no_writes (first ∷ writes) [] at_end never none = absurd never
-no_writes (first ∷ writes) (part ∷ later) at_end are none = absurd (let l = ap length none in omega (arith, l))
-
-attrs_part : (writes : List AskedWrite) (parts : List Part) (at_end : Bool) (part : Part)
-    → AreWriteParts writes parts at_end → parts ≡ []
-    → at_end ≡ true → part.len ≡ 0 → AreWriteParts writes (parts ++ part ∷ []) at_end
-attrs_part [] [] at_end part are none over len = (len, over, refl)
-attrs_part [] (other ∷ later) at_end part are none over len = absurd (let l = ap length none in omega (arith, l))
-attrs_part (first ∷ writes) [] at_end part never none over len = absurd never
-attrs_part (first ∷ writes) (other ∷ later) at_end part are none over len =
-    absurd (let l = ap length none in omega (arith, l))
-
-written_last : (from to : ℕ) (writes : List AskedWrite) (write : AskedWrite) → AreWrittenFromTo from writes to
-    → write.offset ≡ to
-    → AreWrittenFromTo from (writes ++ write ∷ []) (to + length write.bytes)
-written_last from to [] write are here = (here ∙ sym are, ap (λ n. n + length write.bytes) are)
-written_last from to (first ∷ later) write (before, are) here =
-    (before, written_last (from + length first.bytes) to later write are here)
-
-reads_of_last : (writes : List AskedWrite) (write : AskedWrite) → reads_of (carried_by (writes ++ write ∷ []))
-    ≡ reads_of (carried_by writes) ++ Got write.bytes ∷ []
-reads_of_last [] write = refl
-reads_of_last (first ∷ later) write = ap (λ l. Got first.bytes ∷ l) (reads_of_last later write)
-
--- what OK to the first part makes of the WRITEs
-record IsAccepted (ticket from next new_offset : ℕ) (later : List Part) (at_end : Bool)
-    (writes accepted : List AskedWrite) : Type 0
-  where
-    pub under_way : List AskedWrite
-    pub all : List AskedWrite
-    pub answered : after_write (GotOk ticket) (record { under_way = writes; accepted = accepted })
-        ≡ record { under_way = under_way; accepted = all }
-    pub parts : AreWriteParts under_way later at_end
-    pub in_order : AreWrittenFromTo from all new_offset
-    pub ahead : AreWrittenFromTo new_offset under_way next
-    pub same : all ++ under_way ≡ accepted ++ writes
-
-none_more : (new_offset offset len part_len : ℕ) → new_offset ≡ offset + len → len ≡ part_len → part_len ≡ 0
-    → new_offset ≡ offset
-none_more new_offset offset len part_len a b c = omega (arith, a, b, c)
-
-accepts_first : (from next offset new_offset len : ℕ) (part : Part) (later : List Part) (at_end : Bool)
-    (writes accepted : List AskedWrite)
-    → AreWriteParts writes (part ∷ later) at_end → len ≡ part.len → new_offset ≡ offset + len
-    → AreWrittenFromTo from accepted offset
-    → AreWrittenFromTo offset writes next → IsAccepted part.ticket from next new_offset later at_end writes accepted
-accepts_first from next offset new_offset len part later at_end [] accepted (zero, over, none) len_is new_is in_order
-    ahead =
-    let offset_is = none_more new_offset offset len part.len new_is len_is zero in
-    record {
-      under_way = [];
-      all = accepted;
-      answered = refl;
-      parts = subst (λ (l : List Part). AreWriteParts [] l at_end) (sym none) tt;
-      in_order = subst (λ n. AreWrittenFromTo from accepted n) (sym offset_is) in_order;
-      ahead = offset_is ∙ ahead;
-      same = refl;
-    }
-accepts_first from next offset new_offset len part later at_end (write ∷ writes) accepted (under, carried, are) len_is
-    new_is in_order (here, ahead) =
-    let offset_is : new_offset ≡ offset + length write.bytes = new_is ∙ ap (λ n. offset + n) (len_is ∙ carried) in
-    record {
-      under_way = writes;
-      all = accepted ++ write ∷ [];
-      answered = ap (λ (b : Bool). if b then record { under_way = writes; accepted = accepted ++ write ∷ [] }
-          else record { under_way = write ∷ writes; accepted = accepted }) (same_number part.ticket write.ticket under);
-      parts = are;
-      in_order = subst (λ n. AreWrittenFromTo from (accepted ++ write ∷ []) n) (sym offset_is)
-          (written_last from offset accepted write in_order here);
-      ahead = subst (λ n. AreWrittenFromTo n writes next) (sym offset_is) ahead;
-      same = append_assoc accepted (write ∷ []) writes;
-    }
+use Rattle.transfer_copy.proofs.WritePartLaws.{
+  AreWriteParts,
+  accepts_first,
+  attrs_part,
+  no_writes,
+  parts_end,
+  parts_last,
+  reads_of_last,
+  written_last,
+}
 
 -- ---- how far it has come
 
 abbrev pub write_deeds : List WriteDeed → List PutDeed
 write_deeds writing = map Writing writing ++ Opens ∷ AsksOpen ∷ []
 
-pub record IsUnaskedPut {H : Type 0} (done : LocalAct → H → H) (name part remote : List ℕ) (from : ℕ)
+pub record IsUnaskedPut {H : Type 0} (done : LocalAct → H → H) (name part remote : List ℕ) (sync : Bool) (from : ℕ)
     (legs : List (CopyStep FilePut H)) (p : FilePut) (first now : H) : Type 0 where
   pub deeds : (grant : GrantValue) → AreDeeds (DidPut done name part remote from grant) legs []
   pub holds : p.holding ≡ nothing_held
   pub offset : p.offset ≡ from
   pub next : p.next ≡ from
   pub going : p.at_end ≡ false
+  pub sync_is : p.sync ≡ sync
   pub acts : now ≡ first
 
-pub record IsOpenAskedPut {H : Type 0} (done : LocalAct → H → H) (name part remote : List ℕ) (from : ℕ)
+pub record IsOpenAskedPut {H : Type 0} (done : LocalAct → H → H) (name part remote : List ℕ) (sync : Bool) (from : ℕ)
     (legs : List (CopyStep FilePut H)) (p : FilePut) (first now : H) : Type 0 where
   pub ticket : ℕ
   pub deeds : (handle : List ℕ) → AreDeeds (DidPut done name part remote from (record { id = ticket; handle = handle }))
@@ -195,9 +112,10 @@ pub record IsOpenAskedPut {H : Type 0} (done : LocalAct → H → H) (name part 
   pub offset : p.offset ≡ from
   pub next : p.next ≡ from
   pub going : p.at_end ≡ false
+  pub sync_is : p.sync ≡ sync
   pub acts : HasDone done (Opened name from ∷ []) first now
 
-pub record IsWrittenSoFar {H : Type 0} (done : LocalAct → H → H) (name part remote : List ℕ) (from : ℕ)
+pub record IsWrittenSoFar {H : Type 0} (done : LocalAct → H → H) (name part remote : List ℕ) (sync : Bool) (from : ℕ)
     (legs : List (CopyStep FilePut H)) (p : FilePut) (first now : H) : Type 0 where
   pub grant : GrantValue
   pub writing : List WriteDeed
@@ -209,36 +127,42 @@ pub record IsWrittenSoFar {H : Type 0} (done : LocalAct → H → H) (name part 
   pub parts : AreWriteParts asked p.holding.parts p.at_end
   pub in_order : AreWrittenFromTo from accepted p.offset
   pub ahead : AreWrittenFromTo p.offset asked p.next
+  pub synced : HasSyncSoFar sync p writing
   pub acts : HasDone done (Opened name from ∷ (reads_of (carried_by (accepted ++ asked)) ++ end_acts p.at_end)) first
       now
 
 -- all was sent, and the deeds that stand behind that are these
-pub record IsSent {H : Type 0} (done : LocalAct → H → H) (name part remote : List ℕ) (from : ℕ) (behind : List PutDeed)
+pub record IsSent {H : Type 0} (done : LocalAct → H → H) (name part remote : List ℕ) (sync : Bool) (from : ℕ) (behind :
+    List PutDeed)
     (legs : List (CopyStep FilePut H)) (offset : ℕ) (first now : H) : Type 0 where
   pub grant : GrantValue
   pub writing : List WriteDeed
   pub writes : List AskedWrite
-  pub deeds : AreDeeds (DidPut done name part remote from grant) legs (behind ++ Closes ∷ write_deeds writing)
+  pub offered : Bool
+  pub deeds : AreDeeds (DidPut done name part remote from grant) legs
+      (behind ++ Closes offered ∷ write_deeds writing)
   pub answered : writes_after writing ≡ record { under_way = []; accepted = writes }
   pub in_order : AreWrittenFromTo from writes offset
+  pub synced : sync ≡ true → offered ≡ true → IsSynced writing
+  pub unsynced : sync ≡ false → AskNoSync writing
   pub acts : HasDone done (Opened name from ∷ (reads_of (carried_by writes) ++ Got [] ∷ [])) first now
 
 -- and the CLOSE is awaited
-pub record IsSentToClose {H : Type 0} (done : LocalAct → H → H) (name part remote : List ℕ) (from : ℕ)
+pub record IsSentToClose {H : Type 0} (done : LocalAct → H → H) (name part remote : List ℕ) (sync : Bool) (from : ℕ)
     (legs : List (CopyStep FilePut H)) (p : FilePut) (first now : H) : Type 0 where
-  pub sent : IsSent done name part remote from [] legs p.offset first now
+  pub sent : IsSent done name part remote sync from [] legs p.offset first now
   pub file : p.holding.file ≡ hold.Asked sent.grant.id expected.Status
 
 -- ---- the OPEN
 
-pub put_start_so : {H : Type 0} (done : LocalAct → H → H) (name part remote : List ℕ) (from : ℕ)
+pub put_start_so : {H : Type 0} (done : LocalAct → H → H) (name part remote : List ℕ) (sync : Bool) (from : ℕ)
     (legs : List (CopyStep FilePut H)) (leg : CopyStep FilePut H)
-    (first : H) → IsUnaskedPut done name part remote from legs leg.old first leg.before
+    (first : H) → IsUnaskedPut done name part remote sync from legs leg.old first leg.before
     → AsksFile leg.core leg.old.holding (open_part leg.old.offset leg.old.mode part) leg.after leg.new.holding
     → leg.new ≡ record leg.old { stage = stage.Opening; holding = leg.new.holding }
     → leg.now ≡ done (Opened name leg.old.offset) leg.before
-    → IsOpenAskedPut done name part remote from (leg ∷ legs) leg.new first leg.now
-put_start_so done name part remote from legs leg first so asks is opened =
+    → IsOpenAskedPut done name part remote sync from (leg ∷ legs) leg.new first leg.now
+put_start_so done name part remote sync from legs leg first so asks is opened =
     let asks_there : AsksFile leg.core leg.old.holding (open_part from leg.old.mode part) leg.after leg.new.holding
     = record {
       ticket = asks.ticket;
@@ -257,16 +181,17 @@ put_start_so done name part remote from legs leg first so asks is opened =
       offset = ap (λ (p : FilePut). p.offset) is ∙ so.offset;
       next = ap (λ (p : FilePut). p.next) is ∙ so.next;
       going = ap (λ (p : FilePut). p.at_end) is ∙ so.going;
+      sync_is = ap (λ (p : FilePut). p.sync) is ∙ so.sync_is;
       acts = opened_there ∙ ap (done (Opened name from)) so.acts;
     }
 
-pub put_opened_so : {H : Type 0} (done : LocalAct → H → H) (name part remote : List ℕ) (from : ℕ)
+pub put_opened_so : {H : Type 0} (done : LocalAct → H → H) (name part remote : List ℕ) (sync : Bool) (from : ℕ)
     (legs : List (CopyStep FilePut H)) (leg : CopyStep FilePut H)
-    (first : H) → IsOpenAskedPut done name part remote from legs leg.old first leg.before
+    (first : H) → IsOpenAskedPut done name part remote sync from legs leg.old first leg.before
     → SettlesFile leg.core leg.old.holding leg.after leg.new.holding file_answer.Granted
     → leg.new ≡ record leg.old { stage = stage.Writing; holding = leg.new.holding } → leg.now ≡ leg.before
-    → IsWrittenSoFar done name part remote from (leg ∷ legs) leg.new first leg.now
-put_opened_so done name part remote from legs leg first so granted is same =
+    → IsWrittenSoFar done name part remote sync from (leg ∷ legs) leg.new first leg.now
+put_opened_so done name part remote sync from legs leg first so granted is same =
     let h = handle_of leg.core leg.after so.ticket leg.old.holding leg.new.holding so.holds granted in
     let offset : leg.new.offset ≡ from = ap (λ (p : FilePut). p.offset) is ∙ so.offset in
     let next : leg.new.next ≡ from = ap (λ (p : FilePut). p.next) is ∙ so.next in
@@ -282,21 +207,22 @@ put_opened_so done name part remote from legs leg first so granted is same =
       parts = subst (λ (l : List Part). AreWriteParts [] l leg.new.at_end) (sym h.parts) tt;
       in_order = sym offset;
       ahead = offset ∙ sym next;
+      synced = inl (ap (λ (p : FilePut). p.sync) is ∙ so.sync_is, tt);
       acts = subst (λ (b : Bool). HasDone done (Opened name from ∷ end_acts b) first leg.now) (sym going)
           (same ∙ so.acts);
     }
 
 -- ---- WRITEs
 
-pub put_write_so : {H : Type 0} (done : LocalAct → H → H) (name part remote : List ℕ) (from : ℕ)
+pub put_write_so : {H : Type 0} (done : LocalAct → H → H) (name part remote : List ℕ) (sync : Bool) (from : ℕ)
     (legs : List (CopyStep FilePut H)) (leg : CopyStep FilePut H)
-    (first : H) (bytes : List ℕ) → IsWrittenSoFar done name part remote from legs leg.old first leg.before
+    (first : H) (bytes : List ℕ) → IsWrittenSoFar done name part remote sync from legs leg.old first leg.before
     → leg.old.at_end ≡ false
     → AsksForWrite leg.core leg.old.holding leg.old.next bytes leg.after leg.new.holding
     → leg.new ≡ record leg.old { holding = leg.new.holding; next = leg.old.next + length bytes }
-    → leg.now ≡ done (Got bytes) leg.before → IsWrittenSoFar done name part remote from (leg ∷ legs) leg.new first
+    → leg.now ≡ done (Got bytes) leg.before → IsWrittenSoFar done name part remote sync from (leg ∷ legs) leg.new first
     leg.now
-put_write_so done name part remote from legs leg first bytes so going asks is got =
+put_write_so done name part remote sync from legs leg first bytes so going asks is got =
     let write : AskedWrite = record { ticket = asks.ticket; offset = leg.old.next; bytes = bytes } in
     let offset : leg.new.offset ≡ leg.old.offset = ap (λ (p : FilePut). p.offset) is in
     let next : leg.new.next ≡ leg.old.next + length bytes = ap (λ (p : FilePut). p.next) is in
@@ -326,6 +252,7 @@ put_write_so done name part remote from legs leg first bytes so going asks is go
       ahead = subst (λ n. AreWrittenFromTo n (so.asked ++ write ∷ []) leg.new.next) (sym offset)
           (subst (λ n. AreWrittenFromTo leg.old.offset (so.asked ++ write ∷ []) n) (sym next)
           (written_last leg.old.offset leg.old.next so.asked write so.ahead refl));
+      synced = inl (unsynced_reading sync leg.old leg.new so.writing so.synced going (ap (λ (p : FilePut). p.sync) is));
       acts = subst (λ (b : Bool). HasDone done (Opened name from ∷
           (reads_of (carried_by (so.accepted ++ (so.asked ++ write ∷ []))) ++ end_acts b))
           first leg.now) (sym still)
@@ -333,12 +260,12 @@ put_write_so done name part remote from legs leg first bytes so going asks is go
           (sym (append-nil (reads_of (carried_by (so.accepted ++ (so.asked ++ write ∷ [])))) ∙ now_is)) joined);
     }
 
-pub put_end_so : {H : Type 0} (done : LocalAct → H → H) (name part remote : List ℕ) (from : ℕ)
+pub put_end_so : {H : Type 0} (done : LocalAct → H → H) (name part remote : List ℕ) (sync : Bool) (from : ℕ)
     (legs : List (CopyStep FilePut H)) (leg : CopyStep FilePut H)
-    (first : H) → IsWrittenSoFar done name part remote from legs leg.old first leg.before → leg.old.at_end ≡ false
+    (first : H) → IsWrittenSoFar done name part remote sync from legs leg.old first leg.before → leg.old.at_end ≡ false
     → leg.new ≡ record leg.old { at_end = true } → leg.now ≡ done (Got []) leg.before
-    → IsWrittenSoFar done name part remote from (leg ∷ legs) leg.new first leg.now
-put_end_so done name part remote from legs leg first so going is got =
+    → IsWrittenSoFar done name part remote sync from (leg ∷ legs) leg.new first leg.now
+put_end_so done name part remote sync from legs leg first so going is got =
     let offset : leg.new.offset ≡ leg.old.offset = ap (λ (p : FilePut). p.offset) is in
     let next : leg.new.next ≡ leg.old.next = ap (λ (p : FilePut). p.next) is in
     let over : leg.new.at_end ≡ true = ap (λ (p : FilePut). p.at_end) is in
@@ -361,18 +288,20 @@ put_end_so done name part remote from legs leg first so going is got =
       in_order = subst (λ n. AreWrittenFromTo from so.accepted n) (sym offset) so.in_order;
       ahead = subst (λ n. AreWrittenFromTo n so.asked leg.new.next) (sym offset)
           (subst (λ n. AreWrittenFromTo leg.old.offset so.asked n) (sym next) so.ahead);
+      synced = inl (unsynced_reading sync leg.old leg.new so.writing so.synced going (ap (λ (p : FilePut). p.sync) is));
       acts = subst (λ (b : Bool). HasDone done (Opened name from ∷ (were ++ end_acts b)) first leg.now) (sym over)
           (acts_join done (Opened name from ∷ were) (Got [] ∷ []) first leg.before leg.now acts got);
     }
 
-pub put_attrs_so : {H : Type 0} (done : LocalAct → H → H) (name part remote : List ℕ) (from : ℕ)
+pub put_attrs_so : {H : Type 0} (done : LocalAct → H → H) (name part remote : List ℕ) (sync : Bool) (from : ℕ)
     (legs : List (CopyStep FilePut H)) (leg : CopyStep FilePut H)
-    (first : H) (attrs : FileAttrs) → IsWrittenSoFar done name part remote from legs leg.old first leg.before
+    (first : H) (attrs : FileAttrs) → IsWrittenSoFar done name part remote sync from legs leg.old first leg.before
     → leg.old.at_end ≡ true
-    → leg.old.holding.parts ≡ [] → AsksForAttrs leg.core leg.old.holding attrs leg.after leg.new.holding
+    → leg.old.holding.parts ≡ [] → leg.old.attrs ≡ Some attrs → AsksForAttrs leg.core leg.old.holding attrs leg.after
+    leg.new.holding
     → leg.new ≡ record leg.old { holding = leg.new.holding; attrs = None } → leg.now ≡ leg.before
-    → IsWrittenSoFar done name part remote from (leg ∷ legs) leg.new first leg.now
-put_attrs_so done name part remote from legs leg first attrs so over none asks is same =
+    → IsWrittenSoFar done name part remote sync from (leg ∷ legs) leg.new first leg.now
+put_attrs_so done name part remote sync from legs leg first attrs so over none due asks is same =
     let offset : leg.new.offset ≡ leg.old.offset = ap (λ (p : FilePut). p.offset) is in
     let next : leg.new.next ≡ leg.old.next = ap (λ (p : FilePut). p.next) is in
     let still : leg.new.at_end ≡ leg.old.at_end = ap (λ (p : FilePut). p.at_end) is in
@@ -392,18 +321,58 @@ put_attrs_so done name part remote from legs leg first attrs so over none asks i
       in_order = subst (λ n. AreWrittenFromTo from so.accepted n) (sym offset) so.in_order;
       ahead = subst (λ n. AreWrittenFromTo n so.asked leg.new.next) (sym offset)
           (subst (λ n. AreWrittenFromTo leg.old.offset so.asked n) (sym next) so.ahead);
+      synced = inl (unsynced_giving sync leg.old leg.new so.writing attrs so.synced due
+          (ap (λ (p : FilePut). p.sync) is));
       acts = subst (λ (b : Bool). HasDone done (Opened name from ∷ (were ++ end_acts b)) first leg.now) (sym still)
           (same ∙ so.acts);
     }
 
-pub put_accepted_so : {H : Type 0} (done : LocalAct → H → H) (name part remote : List ℕ) (from : ℕ)
+pub put_sync_so : {H : Type 0} (done : LocalAct → H → H) (name part remote : List ℕ) (sync : Bool) (from : ℕ)
+    (legs : List (CopyStep FilePut H)) (leg : CopyStep FilePut H)
+    (first : H) → IsWrittenSoFar done name part remote sync from legs leg.old first leg.before
+    → leg.old.at_end ≡ true
+    → leg.old.holding.parts ≡ [] → leg.old.attrs ≡ None → leg.old.sync ≡ true
+    → AsksForSync leg.core leg.old.holding leg.after leg.new.holding
+    → leg.new ≡ record leg.old { holding = leg.new.holding; sync = false } → leg.now ≡ leg.before
+    → IsWrittenSoFar done name part remote sync from (leg ∷ legs) leg.new first leg.now
+put_sync_so done name part remote sync from legs leg first so over none given due asks is same =
+    let offset : leg.new.offset ≡ leg.old.offset = ap (λ (p : FilePut). p.offset) is in
+    let next : leg.new.next ≡ leg.old.next = ap (λ (p : FilePut). p.next) is in
+    let still : leg.new.at_end ≡ leg.old.at_end = ap (λ (p : FilePut). p.at_end) is in
+    let were = reads_of (carried_by (so.accepted ++ so.asked)) in
+    let last : Part = record { ticket = asks.ticket; kind = expected.Status; len = 0 } in
+    record {
+      grant = so.grant;
+      writing = AsksSync asks.ticket ∷ so.writing;
+      asked = so.asked;
+      accepted = so.accepted;
+      deeds = inr ((so.file, ((asks, refl), same)), so.deeds);
+      answered = so.answered;
+      file = ap (λ (h : HoldingValue). h.file) asks.now ∙ so.file;
+      parts = subst (λ (b : Bool). AreWriteParts so.asked leg.new.holding.parts b) (sym still)
+          (subst (λ (l : List Part). AreWriteParts so.asked l leg.old.at_end)
+          (sym (ap (λ (h : HoldingValue). h.parts) asks.now))
+          (attrs_part so.asked leg.old.holding.parts leg.old.at_end _ so.parts none over refl));
+      in_order = subst (λ n. AreWrittenFromTo from so.accepted n) (sym offset) so.in_order;
+      ahead = subst (λ n. AreWrittenFromTo n so.asked leg.new.next) (sym offset)
+          (subst (λ n. AreWrittenFromTo leg.old.offset so.asked n) (sym next) so.ahead);
+      synced = inr (sync_asked sync leg.old leg.new so.writing last so.synced due over given
+          (ap (λ (w : Writes). w.under_way) so.answered ∙ no_writes so.asked leg.old.holding.parts leg.old.at_end
+          so.parts
+          none)
+          (ap (λ (h : HoldingValue). h.parts) asks.now ∙ ap (λ (l : List Part). l ++ last ∷ []) none) is);
+      acts = subst (λ (b : Bool). HasDone done (Opened name from ∷ (were ++ end_acts b)) first leg.now) (sym still)
+          (same ∙ so.acts);
+    }
+
+pub put_accepted_so : {H : Type 0} (done : LocalAct → H → H) (name part remote : List ℕ) (sync : Bool) (from : ℕ)
     (legs : List (CopyStep FilePut H)) (leg : CopyStep FilePut H)
     (first : H) (mid : Core) (left : HoldingValue) (r : Reply) (len : ℕ)
-    → IsWrittenSoFar done name part remote from legs leg.old first leg.before
+    → IsWrittenSoFar done name part remote sync from legs leg.old first leg.before
     → TakesPart leg.core leg.old.holding mid left (part_answer.Came r len) → IsOkStatus r → leg.after ≡ mid
     → leg.new ≡ record leg.old { holding = left; offset = leg.old.offset + len } → leg.now ≡ leg.before
-    → IsWrittenSoFar done name part remote from (leg ∷ legs) leg.new first leg.now
-put_accepted_so done name part remote from legs leg first mid left r len so came ok core_is is same =
+    → IsWrittenSoFar done name part remote sync from (leg ∷ legs) leg.new first leg.now
+put_accepted_so done name part remote sync from legs leg first mid left r len so came ok core_is is same =
     let holds : leg.new.holding ≡ left = ap (λ (p : FilePut). p.holding) is in
     let still : leg.new.at_end ≡ leg.old.at_end = ap (λ (p : FilePut). p.at_end) is in
     let next : leg.new.next ≡ leg.old.next = ap (λ (p : FilePut). p.next) is in
@@ -428,6 +397,9 @@ put_accepted_so done name part remote from legs leg first mid left r len so came
           (sym (ap (λ (h : HoldingValue). h.parts) (holds ∙ came.now))) a.parts);
       in_order = a.in_order;
       ahead = subst (λ n. AreWrittenFromTo leg.new.offset a.under_way n) (sym next) a.ahead;
+      synced = sync_answered sync leg.old leg.new so.writing came.part came.later so.synced came.first
+          (ap (λ (h : HoldingValue). h.parts) (holds ∙ came.now)) still (ap (λ (p : FilePut). p.attrs) is)
+          (ap (λ (p : FilePut). p.sync) is);
       acts = subst (λ (l : List AskedWrite). HasDone done (Opened name from ∷
           (reads_of (carried_by l) ++ end_acts leg.new.at_end)) first leg.now)
           (sym a.same)
@@ -436,12 +408,13 @@ put_accepted_so done name part remote from legs leg first mid left r len so came
           (sym still) (same ∙ so.acts));
     }
 
-pub put_finished_so : {H : Type 0} (done : LocalAct → H → H) (name part remote : List ℕ) (from : ℕ)
+pub put_finished_so : {H : Type 0} (done : LocalAct → H → H) (name part remote : List ℕ) (sync : Bool) (from : ℕ)
     (legs : List (CopyStep FilePut H)) (leg : CopyStep FilePut H)
-    (first : H) → IsWrittenSoFar done name part remote from legs leg.old first leg.before → leg.old.at_end ≡ true
-    → leg.old.holding.parts ≡ [] → PutFinishes leg.core leg.old.holding leg.old leg.after leg.new → leg.now ≡ leg.before
-    → IsSentToClose done name part remote from (leg ∷ legs) leg.new first leg.now
-put_finished_so done name part remote from legs leg first so over none ends same =
+    (first : H) → IsWrittenSoFar done name part remote sync from legs leg.old first leg.before → leg.old.at_end ≡ true
+    → leg.old.holding.parts ≡ [] → is_sync_due leg.core leg.old ≡ false
+    → PutFinishes leg.core leg.old.holding leg.old leg.after leg.new → leg.now ≡ leg.before
+    → IsSentToClose done name part remote sync from (leg ∷ legs) leg.new first leg.now
+put_finished_so done name part remote sync from legs leg first so over none undue ends same =
     let no_more = no_writes so.asked leg.old.holding.parts leg.old.at_end so.parts none in
     let all_is : so.accepted ++ so.asked ≡ so.accepted =
     ap (λ (l : List AskedWrite). so.accepted ++ l) no_more ∙ append-nil so.accepted in
@@ -450,9 +423,12 @@ put_finished_so done name part remote from legs leg first so over none ends same
         grant = so.grant;
         writing = so.writing;
         writes = so.accepted;
-        deeds = inr ((so.file, ends.goes, same), so.deeds);
+        offered = offers_sync leg.core;
+        deeds = inr ((so.file, ends.goes, refl, same), so.deeds);
         answered = so.answered ∙ ap (λ (l : List AskedWrite). record { under_way = l; accepted = so.accepted }) no_more;
         in_order = subst (λ n. AreWrittenFromTo from so.accepted n) (sym ends.offset) so.in_order;
+        synced = sync_done sync leg.old so.writing (offers_sync leg.core) so.synced none undue;
+        unsynced = sync_unwanted sync leg.old so.writing so.synced;
         acts = subst (λ (l : List AskedWrite). HasDone done (Opened name from ∷
             (reads_of (carried_by l) ++ Got [] ∷ [])) first leg.now) all_is
             (subst (λ (b : Bool). HasDone done (Opened name from ∷

@@ -1,5 +1,5 @@
 -- The operations of a copy on its local file, so far and at its end.
-use Rattle.std.specs.Prelude.{◌≡◌, ℕ, ◌+◌, Bool, true, false, List, [], ◌∷◌, ◌++◌, length, None, Ok, Err}
+use Rattle.std.specs.Prelude.{◌≡◌, ◌⊎◌, ℕ, ◌+◌, Bool, true, false, List, [], ◌∷◌, ◌++◌, length, None, Ok, Err}
 use Rattle.transfer_copy.specs.declared.get.FileGet.{FileGet}
 use Rattle.transfer_copy.specs.declared.get.GetStage.{GetStage}
 use Rattle.transfer_copy.specs.declared.get.GetStage.TheVariants as get
@@ -15,8 +15,12 @@ use Rattle.transfer_copy.specs.Local.{
   Got,
   HasDone,
   LocalAct,
+  Failed,
   Opened,
   Renamed,
+  Synced,
+  SyncedParent,
+  naming_acts,
   part_opened,
   reads_of,
   writes_of,
@@ -40,25 +44,42 @@ pub record HasWrittenPart {H : Type 0} (done : LocalAct → H → H) (part : Lis
 abbrev pub IsPartOnly : {H : Type 0} → (LocalAct → H → H) → List ℕ → H → H → Type 0
 IsPartOnly done part first now = (acts : List LocalAct) × HasDone done acts first now × AreOfPart part acts
 
--- The operations so far of a copy that started at an offset.
-abbrev pub GotSoFar : {H : Type 0} → (LocalAct → H → H) → List ℕ → ℕ → FileGet → H → H → GetStage → Type 0
-GotSoFar done part from g first now get.Starting = (now ≡ first) × (g.offset ≡ from)
-GotSoFar done part from g first now get.Opening = (now ≡ first) × (g.offset ≡ from)
-GotSoFar done part from g first now get.Reading = HasWrittenPart done part from g.offset first now
-GotSoFar done part from g first now get.Closing = IsPartOnly done part first now
+-- The operations so far of a copy that started at an offset, by its stage.
+abbrev pub GotAtStage : {H : Type 0} → (LocalAct → H → H) → List ℕ → ℕ → FileGet → H → H → GetStage → Type 0
+GotAtStage done part from g first now get.Starting = (now ≡ first) × (g.offset ≡ from)
+GotAtStage done part from g first now get.Opening = (now ≡ first) × (g.offset ≡ from)
+GotAtStage done part from g first now get.Reading = HasWrittenPart done part from g.offset first now
+GotAtStage done part from g first now get.Closing = IsPartOnly done part first now
     × (g.failure ≡ None → HasWrittenPart done part from g.offset first now)
-GotSoFar done part from g first now get.Ended = Unit {0}
+GotAtStage done part from g first now get.Ended = Unit {0}
+
+-- The operations so far of a copy that started at an offset, with `sync` or without.
+abbrev pub GotSoFar : {H : Type 0} → (LocalAct → H → H) → List ℕ → Bool → ℕ → FileGet → H → H → GetStage → Type 0
+GotSoFar done part sync from g first now s = (g.sync ≡ sync) × GotAtStage done part from g first now s
+
+-- The part file was written and had its name, and then its directory could not be written through to the disk. This is
+-- only with `sync`.
+pub record HasNameUnsynced {H : Type 0} (done : LocalAct → H → H) (part name : List ℕ) (sync : Bool) (from : ℕ)
+    (first now : H) : Type 0 where
+  pub asked : sync ≡ true
+  pub len : ℕ
+  pub written : H
+  pub writes : HasWrittenPart done part from len first written
+  pub acts : HasDone done (Synced ∷ Renamed part name ∷ Failed (SyncedParent name) ∷ []) written now
 
 -- If the copy returns a count, the part file was created or reopened, and written to, piece by piece, until it had that
--- many bytes. Then it was renamed. With an error, no file was renamed to the final name.
-abbrev pub GotAfter : {H : Type 0} → (LocalAct → H → H) → List ℕ → List ℕ → ℕ → FileGet → H → H → Progress → Type 0
-GotAfter {H = H} done part name from new first now (progress.Ended (Ok len)) = (written : H)
+-- many bytes. Then it was given its name. With an error, no file was renamed to the final name, unless only the
+-- directory could not be written through to the disk.
+abbrev pub GotAfter : {H : Type 0} → (LocalAct → H → H) → List ℕ → List ℕ → Bool → ℕ → FileGet → H → H → Progress
+    → Type 0
+GotAfter {H = H} done part name sync from new first now (progress.Ended (Ok len)) = (written : H)
     × HasWrittenPart done part from len first written
-    × (now ≡ done (Renamed part name) written)
-GotAfter done part name from new first now (progress.Ended (Err e)) = (acts : List LocalAct)
+    × HasDone done (naming_acts sync part name) written now
+GotAfter done part name sync from new first now (progress.Ended (Err e)) = ((acts : List LocalAct)
     × HasDone done acts first now
-    × AreUnnamed part name acts
-GotAfter done part name from new first now other = GotSoFar done part from new first now new.stage
+    × AreUnnamed sync part name acts)
+    ⊎ HasNameUnsynced done part name sync from first now
+GotAfter done part name sync from new first now other = GotSoFar done part sync from new first now new.stage
 
 -- ---- To the server
 

@@ -65,7 +65,7 @@ use Rattle.transfer_copy.specs.Holdings.{
   bytes_under_way,
   nothing_held,
 }
-use Rattle.transfer_copy.specs.Local.{Failed, LocalAct, Renamed, Wrote, part_opened}
+use Rattle.transfer_copy.specs.Local.{FailNaming, Failed, HasDone, LocalAct, Wrote, naming_acts, part_opened}
 use Rattle.transfer_copy.specs.Refusals.{IsUnasked}
 
 -- The flags of an open for reading only.
@@ -130,9 +130,10 @@ abbrev pub get_is_over : GetStage → Bool
 get_is_over stage.Ended = true
 get_is_over other = false
 
--- A copy from an offset on that has asked for nothing.
-abbrev pub get_begun : ℕ → ℕ → FileGet
-get_begun most from =
+-- A copy from an offset on that has asked for nothing. With `sync` the file is written through to the disk before it
+-- has its name.
+abbrev pub get_begun : ℕ → ℕ → Bool → FileGet
+get_begun most from sync =
     record {
       holding = nothing_held;
       stage = stage.Starting;
@@ -142,6 +143,7 @@ get_begun most from =
       was_short = false;
       offset = from;
       next = from;
+      sync = sync;
       failure = None;
     }
 
@@ -172,6 +174,7 @@ pub record LeavesGet (Why : Option CopyError → Type 0) (core : Core) (h : Hold
   pub goes : LetsFileGo core h after new.holding
   pub stage : new.stage ≡ stage.Closing
   pub offset : new.offset ≡ old.offset
+  pub sync : new.sync ≡ old.sync
   pub failure : Why new.failure
 
 abbrev pub GetGivesUp : Core → HoldingValue → FileGet → Core → FileGet → Type 0
@@ -250,6 +253,7 @@ if_short_twice false got len other value = value
 pub record KeepsPiece (got len : ℕ) (core : Core) (old : FileGet) (after : Core) (new : FileGet) : Type 0 where
   pub stage : new.stage ≡ stage.Reading
   pub offset : new.offset ≡ old.offset + got
+  pub sync : new.sync ≡ old.sync
   pub capped : new.window ≤ max old.window old.most
   pub ask : new.ask ≡ if_short_twice old.was_short got len (ask_with got) old.ask
   pub most : new.most ≡ if_short_twice old.was_short got len (most_with got len old.most) old.most
@@ -314,7 +318,7 @@ GetReadsOn done core old after new before now (progress.Ended result) = ⊥
 abbrev pub SaysClosed : Core → FileGet → Core → FileGet → Type 0
 SaysClosed core old after new = WasOk core old.holding after new.holding
 
--- Nothing failed, the server answered the CLOSE with OK, and then the part file was renamed. Otherwise the first
+-- Nothing failed, the server answered the CLOSE with OK, and then the part file was given its name. Otherwise the first
 -- failure is returned.
 abbrev pub GetEnds : {H : Type 0} → (LocalAct → H → H) → List ℕ → List ℕ → Core → FileGet → Core → FileGet → H → H
     → Progress → Type 0
@@ -323,13 +327,13 @@ GetEnds done part name core old after new before now progress.Waits =
 GetEnds done part name core old after new before now progress.Moved = ⊥
 GetEnds done part name core old after new before now (progress.Ended (Ok len)) = (old.failure ≡ None)
     × SaysClosed core old after new
-    × (now ≡ done (Renamed part name) before)
+    × HasDone done (naming_acts old.sync part name) before now
     × (len ≡ old.offset)
     × (new.stage ≡ stage.Ended)
 GetEnds done part name core old after new before now (progress.Ended (Err e)) = ((first : CopyError)
     → old.failure ≡ Some first → e ≡ first)
     × ((now ≡ before) ⊎ ((old.failure ≡ None) × SaysClosed core old after new
-    × (now ≡ done (Failed (Renamed part name)) before)))
+    × ((acts : List LocalAct) × FailNaming old.sync part name acts × HasDone done acts before now)))
     × (new.stage ≡ stage.Ended)
 
 -- ---- One step

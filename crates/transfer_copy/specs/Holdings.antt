@@ -1,6 +1,6 @@
 -- believed, except KeepsApart, IsFileAsked, SettlesStatus, SettlesAttrs, drops_file
 -- The entries that a copy of one file has in a core: the request or the grant of its file, and the requests for its
--- bytes and its attributes.
+-- bytes, its attributes and its fsync.
 use Rattle.std.specs.Prelude.{◌≡◌, ◌≢◌, ◌⊎◌, ◌<◌, ℕ, ◌+◌, true, false, List, [], ◌∷◌, ◌++◌, length, Option, Some, None}
 use Rattle.sftp_model.specs.Answers.{allows_reply, expected_of, is_attrs}
 use Rattle.sftp_model.specs.declared.answers.Expected.{Expected}
@@ -145,6 +145,10 @@ AsksForWrite core old offset bytes after new =
 abbrev pub AsksForAttrs : Core → HoldingValue → FileAttrs → Core → HoldingValue → Type 0
 AsksForAttrs core old attrs after new =
     AsksForPart core old (Whole (request.Fsetstat (file_handle old.file) attrs)) 0 after new
+
+-- An fsync, as a part that carries no bytes.
+abbrev pub AsksForSync : Core → HoldingValue → Core → HoldingValue → Type 0
+AsksForSync core old after new = AsksForPart core old (Whole (request.Fsync (file_handle old.file))) 0 after new
 
 -- ---- Replies
 

@@ -3,6 +3,7 @@ pub mod Answers
 pub mod Refusals
 pub mod Holdings
 pub mod Gets
+pub mod PutRequests
 pub mod Puts
 pub mod Acts
 pub mod Disks

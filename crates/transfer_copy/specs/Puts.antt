@@ -4,7 +4,6 @@
 use Rattle.std.specs.Prelude.{
   ◌≡◌,
   ◌⊎◌,
-  ◌==◌,
   ◌≤◌,
   ◌<◌,
   ℕ,
@@ -23,20 +22,15 @@ use Rattle.std.specs.Prelude.{
   Ok,
   Err,
   IsSome,
+  if◌then◌else◌,
 }
-use Rattle.sftp_model.specs.OpenOptions.{flags_of, nothing_chosen}
-use Rattle.sftp_model.specs.Numbers.{POSIX_RENAME}
-use Rattle.sftp_model.specs.Readings.{has_bit}
 use Rattle.sftp_model.specs.declared.answers.Expected.TheVariants as expected
 use Rattle.sftp_model.specs.declared.file_attrs.FileAttrs.{FileAttrs}
-use Rattle.sftp_model.specs.declared.flags.OpenFlags.{OpenFlags}
 use Rattle.sftp_model.specs.declared.reply.Reply.{Reply}
 use Rattle.sftp_model.specs.declared.request.Request.{Request}
 use Rattle.sftp_model.specs.declared.request.Request.TheVariants as request
-use Rattle.sftp_model.specs.Frames.{no_attributes}
 use Rattle.sftp_core.specs.Core.{Core}
 use Rattle.sftp_core.specs.Info.{info_of}
-use Rattle.sftp_core.specs.declared.info.Info.{Info}
 use Rattle.transfer_copy.specs.declared.copy_error.CopyError.{CopyError}
 use Rattle.transfer_copy.specs.declared.holding.FileAnswer.TheVariants as file_answer
 use Rattle.transfer_copy.specs.declared.holding.PartAnswer.TheVariants as part_answer
@@ -48,6 +42,7 @@ use Rattle.transfer_copy.specs.declared.put.PutStage.TheVariants as stage
 use Rattle.transfer_copy.specs.Holdings.{
   AsksFile,
   AsksForAttrs,
+  AsksForSync,
   AsksForWrite,
   HoldingValue,
   HoldsAll,
@@ -66,17 +61,8 @@ use Rattle.transfer_copy.specs.Holdings.{
   nothing_held,
 }
 use Rattle.transfer_copy.specs.Local.{Failed, Got, LocalAct, Opened}
+use Rattle.transfer_copy.specs.PutRequests.{offers_rename, offers_sync, open_part, rename_of}
 use Rattle.transfer_copy.specs.Refusals.{IsOkStatus, IsUnasked, is_failure}
-
--- The flags of an open for writing from an offset on. From 0 the open must create the file, so the server refuses it if
--- an entry has the name, also a symbolic link; otherwise the file must exist.
-abbrev pub write_flags : ℕ → OpenFlags
-write_flags from = flags_of (record nothing_chosen { write = true; create_new = from == 0 })
-
--- A rename, which replaces a file that has the name at once, or is a plain RENAME.
-abbrev pub rename_of : List ℕ → List ℕ → Bool → Request
-rename_of from to true = request.PosixRename from to
-rename_of from to false = request.Rename from to
 
 -- ---- The stage of a copy
 
@@ -135,9 +121,9 @@ put_is_over stage.Ended = true
 put_is_over other = false
 
 -- A copy from an offset on that has asked for nothing. The part file is created with these permissions, and given these
--- attributes after its last bytes.
-abbrev pub put_begun : ℕ → ℕ → Option ℕ → Option FileAttrs → FilePut
-put_begun window from mode attrs =
+-- attributes after its last bytes. Then it is written through to the disk if that is wanted.
+abbrev pub put_begun : ℕ → ℕ → Option ℕ → Option FileAttrs → Bool → FilePut
+put_begun window from mode attrs sync =
     record {
       holding = nothing_held;
       stage = stage.Starting;
@@ -147,6 +133,7 @@ put_begun window from mode attrs =
       next = from;
       mode = mode;
       attrs = attrs;
+      sync = sync;
       failure = None;
     }
 
@@ -209,11 +196,6 @@ AsksAt asked to core old after new (progress.Ended (Err e)) = (after ≡ core)
     × IsUnasked core asked e
 AsksAt asked to core old after new other = ⊥
 
--- The OPEN of the part file for writing from an offset on. If it creates the file, that has these permissions, as far
--- as the server permits them.
-abbrev pub open_part : ℕ → Option ℕ → List ℕ → Request
-open_part from mode part = request.OpenFile part (write_flags from) (record no_attributes { permissions = mode })
-
 -- The local file was opened at the offset, and then the OPEN of the part file for writing was asked. Or one of the two
 -- failed.
 abbrev pub StartsPut : {H : Type 0} → (LocalAct → H → H) → List ℕ → List ℕ → Core → FilePut → Core → FilePut → H → H
@@ -239,7 +221,7 @@ OpensPut core old after new (progress.Ended (Ok len)) = ⊥
 
 -- ---- Pieces
 
--- The status of the first WRITE, or of the FSETSTAT, which carries no bytes. OK moves the offset.
+-- The status of the first WRITE, or of the FSETSTAT or the fsync, which carry no bytes. OK moves the offset.
 abbrev pub AcceptsWrite : Reply → ℕ → Core → FilePut → Core → FilePut → Type 0
 AcceptsWrite r len core old after new = (IsOkStatus r × (after ≡ core)
     × (new ≡ record old { offset = old.offset + len }))
@@ -268,11 +250,16 @@ PutReadsNext done core old after new before now = ((bytes : List ℕ) × (0 < le
     ⊎ ((now ≡ done (Got []) before) × (after ≡ core) × (new ≡ record old { at_end = true }))
     ⊎ ((now ≡ done (Failed (Got [])) before) × PutGivesUp core old.holding old after new)
 
--- The end was read, the server answered every WRITE with OK, and no attributes are left to give.
+-- An fsync is left to ask: it is wanted and was not asked, and the server offers it.
+abbrev pub is_sync_due : Core → FilePut → Bool
+is_sync_due core p = if p.sync then offers_sync core else false
+
+-- The end was read, the server answered every WRITE with OK, no attributes are left to give, and no fsync to ask.
 pub record PutSentAll (core : Core) (old : FilePut) (after : Core) (new : FilePut) : Type 0 where
   pub at_end : old.at_end ≡ true
   pub none : old.holding.parts ≡ []
   pub given : old.attrs ≡ None
+  pub synced : is_sync_due core old ≡ false
   pub finishes : PutFinishes core old.holding old after new
 
 -- One FSETSTAT of the file with these attributes was asked; or it was refused.
@@ -289,9 +276,28 @@ pub record PutGivesAttrs (core : Core) (old : FilePut) (after : Core) (new : Fil
   pub due : old.attrs ≡ Some attrs
   pub asks : PutAsksAttrs attrs core old after new
 
--- All bytes were sent: the file is closed, or first given its attributes.
+-- One fsync of the file was asked; or it was refused.
+abbrev pub PutAsksSync : Core → FilePut → Core → FilePut → Type 0
+PutAsksSync core old after new = (AsksForSync core old.holding after new.holding
+    × (new ≡ record old { holding = new.holding; sync = false }))
+    ⊎ PutGivesUp core old.holding old after new
+
+-- The end was read, the server answered every WRITE with OK, and the FSETSTAT if there was one, and an fsync is left to
+-- ask.
+pub record PutSyncs (core : Core) (old : FilePut) (after : Core) (new : FilePut) : Type 0 where
+  pub at_end : old.at_end ≡ true
+  pub none : old.holding.parts ≡ []
+  pub given : old.attrs ≡ None
+  pub due : is_sync_due core old ≡ true
+  pub asks : PutAsksSync core old after new
+
+-- No attributes are left to give: the file is closed, or first written through to the disk.
+abbrev pub PutSyncsOrCloses : Core → FilePut → Core → FilePut → Type 0
+PutSyncsOrCloses core old after new = PutSentAll core old after new ⊎ PutSyncs core old after new
+
+-- All bytes were sent: the file is given its attributes, then written through to the disk, then closed.
 abbrev pub PutEndsSending : Core → FilePut → Core → FilePut → Type 0
-PutEndsSending core old after new = PutSentAll core old after new ⊎ PutGivesAttrs core old after new
+PutEndsSending core old after new = PutSyncsOrCloses core old after new ⊎ PutGivesAttrs core old after new
 
 -- The step if the first status is missing, or if no WRITE is in flight.
 abbrev pub PutSendsOn : {H : Type 0} → (LocalAct → H → H) → Core → FilePut → Core → FilePut → H → H → Progress → Type 0
@@ -304,7 +310,7 @@ PutSendsOn done core old after new before now progress.Moved =
     ⊎ ((now ≡ before) × (PutEndsSending core old after new ⊎ PutGivesUp core old.holding old after new))
 PutSendsOn done core old after new before now (progress.Ended result) = ⊥
 
--- A WRITE or the FSETSTAT was refused, or a fault is kept.
+-- A WRITE, the FSETSTAT or the fsync was refused, or a fault is kept.
 pub record PutsNoMore (core : Core) (old : FilePut) (after : Core) (new : FilePut) : Type 0 where
   pub mid : Core
   pub left : HoldingValue
@@ -348,14 +354,6 @@ pub record RemovesOther (remote : List ℕ) (core : Core) (old : FilePut) (after
   pub left : HoldingValue
   pub found : WasFound core old.holding mid left
   pub asks : AsksAt (request.Remove remote) stage.Removing mid (record old { holding = left }) after new result
-
--- The server offers the extension that replaces a file by a rename.
-abbrev pub can_replace : Option Info → Bool
-can_replace (Some info) = has_bit info.extensions.0 POSIX_RENAME
-can_replace None = false
-
-abbrev pub offers_rename : Core → Bool
-offers_rename core = can_replace (info_of core.phase)
 
 -- The stage at which such a rename is awaited.
 abbrev pub rename_stage : Bool → PutStage

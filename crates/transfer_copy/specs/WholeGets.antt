@@ -1,13 +1,13 @@
 -- believed
 -- A whole copy from the server: its requests, their replies, and the bytes that were written.
-use Rattle.std.specs.Prelude.{◌≡◌, ◌==◌, ℕ, ◌+◌, List, [], ◌∷◌, ◌++◌, length, map, Some, if◌then◌else◌}
+use Rattle.std.specs.Prelude.{◌≡◌, ◌==◌, ℕ, ◌+◌, Bool, List, [], ◌∷◌, ◌++◌, length, map, Some, if◌then◌else◌}
 use Rattle.sftp_model.specs.Numbers.{SSH_FX_EOF}
 use Rattle.sftp_model.specs.declared.answers.Expected.TheVariants as expected
 use Rattle.sftp_model.specs.declared.reply.Reply.TheVariants as reply
 use Rattle.plan_model.specs.FilePlans.{open_request}
 use Rattle.sftp_core.specs.Core.{Core, record_at, reply_in}
 use Rattle.sftp_core.specs.Grant.{GrantValue}
-use Rattle.transfer_copy.specs.Local.{HasDone, LocalAct, Renamed, Wrote, part_opened, writes_of}
+use Rattle.transfer_copy.specs.Local.{HasDone, LocalAct, Wrote, naming_acts, part_opened, writes_of}
 use Rattle.transfer_copy.specs.declared.get.FileGet.{FileGet}
 use Rattle.transfer_copy.specs.declared.holding.FileHold.TheVariants as hold
 use Rattle.transfer_copy.specs.Gets.{GetStepDid, SaysClosed, read_flags}
@@ -75,7 +75,7 @@ bytes_of pieces = map (λ (p : ReadPiece). p.bytes) pieces
 -- ---- Operations
 
 -- The OPEN was asked; its HANDLE came; a READ was asked, or DATA came; the EOF came under a ticket, and the CLOSE was
--- queued; or the CLOSE had OK, and the part file was renamed.
+-- queued; or the CLOSE had OK, and the part file was given its name.
 pub data GetDeed : Type 0 where
   AsksOpen : GetDeed
   Opens : GetDeed
@@ -84,30 +84,31 @@ pub data GetDeed : Type 0 where
   Names : GetDeed
 
 -- The step did this operation. The grant is the one that the OPEN brought: its ticket, and the handle that came.
-abbrev pub DidGet : {H : Type 0} → (LocalAct → H → H) → List ℕ → List ℕ → List ℕ → ℕ → GrantValue → GetDeed
+abbrev pub DidGet : {H : Type 0} → (LocalAct → H → H) → List ℕ → List ℕ → List ℕ → Bool → ℕ → GrantValue → GetDeed
     → CopyStep FileGet H → Type 0
-DidGet done remote part name from grant AsksOpen leg =
+DidGet done remote part name sync from grant AsksOpen leg =
     ((asks : AsksFile leg.core leg.old.holding (open_request read_flags remote) leg.after leg.new.holding)
     × (asks.ticket ≡ grant.id))
     × (leg.now ≡ leg.before)
-DidGet done remote part name from grant Opens leg = (leg.old.holding.file ≡ hold.Asked grant.id expected.Handle)
+DidGet done remote part name sync from grant Opens leg = (leg.old.holding.file ≡ hold.Asked grant.id expected.Handle)
     × (reply_in (record_at leg.core grant.id) ≡ Some (reply.Handle grant.handle))
     × (leg.now ≡ done (part_opened part from) leg.before)
-DidGet done remote part name from grant (Reading (AsksRead read)) leg = (leg.old.holding.file ≡ hold.Opened grant)
+DidGet done remote part name sync from grant (Reading (AsksRead read)) leg = (leg.old.holding.file ≡ hold.Opened grant)
     × ((asks : AsksForRead leg.core leg.old.holding read.offset read.len leg.after leg.new.holding)
     × (asks.ticket ≡ read.ticket))
     × (leg.now ≡ leg.before)
-DidGet done remote part name from grant (Reading (GotData ticket bytes)) leg = ((mid : Core) × (left : HoldingValue)
+DidGet done remote part name sync from grant (Reading (GotData ticket bytes)) leg = ((mid : Core) × (left :
+    HoldingValue)
     × AnswersFirst ticket (reply.Content bytes) leg.core leg.old.holding mid left)
     × (leg.now ≡ done (Wrote bytes) leg.before)
-DidGet done remote part name from grant (MeetsEnd ticket) leg = (leg.old.holding.file ≡ hold.Opened grant)
+DidGet done remote part name sync from grant (MeetsEnd ticket) leg = (leg.old.holding.file ≡ hold.Opened grant)
     × ((mid : Core) × (left : HoldingValue) × (message : List ℕ) × (language : List ℕ)
     × AnswersFirst ticket (reply.Status SSH_FX_EOF message language) leg.core leg.old.holding mid left
     × LetsFileGo mid left leg.after leg.new.holding)
     × (leg.now ≡ leg.before)
-DidGet done remote part name from grant Names leg = (leg.old.holding.file ≡ hold.Asked grant.id expected.Status)
+DidGet done remote part name sync from grant Names leg = (leg.old.holding.file ≡ hold.Asked grant.id expected.Status)
     × SaysClosed leg.core leg.old leg.after leg.new
-    × (leg.now ≡ done (Renamed part name) leg.before)
+    × HasDone done (naming_acts sync part name) leg.before leg.now
 
 -- ---- The whole copy
 
@@ -115,17 +116,19 @@ DidGet done remote part name from grant Names leg = (leg.old.holding.file ≡ ho
 -- asked, and brought the grant; READs of its handle were asked, and DATA came to them; the EOF came to a READ at the
 -- offset `len`; and the CLOSE had OK. On the local file, the part file was created or reopened. Then the bytes of the
 -- DATA were written, piece by piece, each from the offset of its READ on. The first piece is at the offset where the
--- copy started, and there is no gap up to `len`. Then the part file was renamed.
-pub record GotWhole {H : Type 0} (done : LocalAct → H → H) (remote part name : List ℕ) (from len : ℕ) (first now : H)
-    (legs : List (CopyStep FileGet H)) : Type 0 where
+-- copy started, and there is no gap up to `len`. Then the part file was renamed; with `sync` its bytes were written
+-- through to the disk before that, and the directory after it.
+pub record GotWhole {H : Type 0} (done : LocalAct → H → H) (remote part name : List ℕ) (sync : Bool) (from len : ℕ)
+    (first now : H) (legs : List (CopyStep FileGet H)) : Type 0 where
   pub grant : GrantValue
   pub reading : List ReadDeed
   pub last_read : AskedRead
   pub given_up : List AskedRead
   pub pieces : List ReadPiece
-  pub deeds : AreDeeds (DidGet done remote part name from grant) legs
+  pub deeds : AreDeeds (DidGet done remote part name sync from grant) legs
       (Names ∷ MeetsEnd last_read.ticket ∷ (map Reading reading ++ Opens ∷ AsksOpen ∷ []))
   pub reads : reads_after reading ≡ record { under_way = last_read ∷ given_up; pieces = pieces }
   pub in_order : AreFromTo from pieces len
   pub at_end : last_read.offset ≡ len
-  pub acts : HasDone done (part_opened part from ∷ (writes_of (bytes_of pieces) ++ Renamed part name ∷ [])) first now
+  pub acts : HasDone done (part_opened part from ∷ (writes_of (bytes_of pieces) ++ naming_acts sync part name)) first
+      now

@@ -28,9 +28,10 @@ use Rattle.transfer_copy.specs.declared.holding.FileHold.TheVariants as hold
 use Rattle.transfer_copy.specs.declared.progress.Progress.TheVariants as progress
 use Rattle.transfer_copy.specs.declared.put.FilePut.{FilePut}
 use Rattle.transfer_copy.specs.declared.put.PutStage.TheVariants as stage
-use Rattle.transfer_copy.specs.Holdings.{AsksFile, AsksForAttrs, AsksForWrite, LetsFileGo, WasOk}
+use Rattle.transfer_copy.specs.Holdings.{AsksFile, AsksForAttrs, AsksForSync, AsksForWrite, LetsFileGo, WasOk}
 use Rattle.transfer_copy.specs.Legs.{AnswersFirst, AreDeeds, CopyStep}
-use Rattle.transfer_copy.specs.Puts.{AsksName, AsksThen, ChecksPart, PutStepDid, RemovesOther, rename_of, open_part}
+use Rattle.transfer_copy.specs.PutRequests.{offers_sync, open_part, rename_of}
+use Rattle.transfer_copy.specs.Puts.{AsksName, AsksThen, ChecksPart, PutStepDid, RemovesOther}
 use Rattle.transfer_copy.specs.Refusals.{IsOkStatus}
 
 -- A step of a copy to the server.
@@ -46,11 +47,13 @@ pub record AskedWrite : Type 0 where
   pub offset : ℕ
   pub bytes : List ℕ
 
--- Bytes were read and a WRITE of them was asked; the end was read; an FSETSTAT was asked; or OK came under a ticket.
+-- Bytes were read and a WRITE of them was asked; the end was read; an FSETSTAT was asked; an fsync was asked under a
+-- ticket; or OK came under a ticket.
 pub data WriteDeed : Type 0 where
   AsksWrite : AskedWrite → WriteDeed
   GotEnd : WriteDeed
   AsksAttrs : FileAttrs → WriteDeed
+  AsksSync : ℕ → WriteDeed
   GotOk : ℕ → WriteDeed
 
 -- The WRITEs that were not answered, in the order in which they were asked, and those that the server answered with OK.
@@ -80,26 +83,40 @@ AreWrittenFromTo from [] to = from ≡ to
 AreWrittenFromTo from (write ∷ later) to = (write.offset ≡ from)
     × AreWrittenFromTo (from + length write.bytes) later to
 
+-- The fsync was asked after OK to each WRITE, and had OK. Nothing was asked after it.
+pub record IsSynced (writing : List WriteDeed) : Type 0 where
+  pub ticket : ℕ
+  pub earlier : List WriteDeed
+  pub last : writing ≡ GotOk ticket ∷ AsksSync ticket ∷ earlier
+  pub answered : (writes_after earlier).under_way ≡ []
+
+-- No fsync was asked.
+abbrev pub AskNoSync : List WriteDeed → Type 0
+AskNoSync [] = Unit {0}
+AskNoSync (AsksSync ticket ∷ earlier) = ⊥
+AskNoSync (other ∷ earlier) = AskNoSync earlier
+
 abbrev pub carried_by : List AskedWrite → List (List ℕ)
 carried_by writes = map (λ (w : AskedWrite). w.bytes) writes
 
 -- ---- Operations
 
--- The local file was opened and the OPEN asked; its HANDLE came; bytes were sent and answered; the CLOSE was queued;
--- the CLOSE had OK, and the rename was asked; FAILURE refused it, and the LSTAT of the part was asked; ATTRS came, and
--- the REMOVE was asked; that had OK, and the rename was asked again; or the last rename had OK.
+-- The local file was opened and the OPEN asked; its HANDLE came; bytes were sent and answered; the CLOSE was queued,
+-- and the server offered the fsync then if this is true; the CLOSE had OK, and the rename was asked; FAILURE refused
+-- it, and the LSTAT of the part was asked; ATTRS came, and the REMOVE was asked; that had OK, and the rename was asked
+-- again; or the last rename had OK.
 pub data PutDeed : Type 0 where
   AsksOpen : PutDeed
   Opens : PutDeed
   Writing : WriteDeed → PutDeed
-  Closes : PutDeed
+  Closes : Bool → PutDeed
   AsksRename : PutDeed
   AsksPart : PutDeed
   AsksRemove : PutDeed
   AsksAgain : PutDeed
   Names : PutDeed
 
--- Bytes or the end were read, a WRITE or the FSETSTAT was asked, or one of them had OK.
+-- Bytes or the end were read, a WRITE, the FSETSTAT or the fsync was asked, or one of them had OK.
 abbrev pub DidWrite : {H : Type 0} → (LocalAct → H → H) → WriteDeed → CopyStep FilePut H → Type 0
 DidWrite done (AsksWrite write) leg =
     ((asks : AsksForWrite leg.core leg.old.holding write.offset write.bytes leg.after leg.new.holding)
@@ -107,6 +124,9 @@ DidWrite done (AsksWrite write) leg =
     × (leg.now ≡ done (Got write.bytes) leg.before)
 DidWrite done GotEnd leg = leg.now ≡ done (Got []) leg.before
 DidWrite done (AsksAttrs attrs) leg = AsksForAttrs leg.core leg.old.holding attrs leg.after leg.new.holding
+    × (leg.now ≡ leg.before)
+DidWrite done (AsksSync ticket) leg =
+    ((asks : AsksForSync leg.core leg.old.holding leg.after leg.new.holding) × (asks.ticket ≡ ticket))
     × (leg.now ≡ leg.before)
 DidWrite done (GotOk ticket) leg = ((r : Reply) × IsOkStatus r
     × AnswersFirst ticket r leg.core leg.old.holding leg.after leg.new.holding)
@@ -124,8 +144,9 @@ DidPut done name part remote from grant Opens leg = (leg.old.holding.file ≡ ho
     × (leg.now ≡ leg.before)
 DidPut done name part remote from grant (Writing deed) leg = (leg.old.holding.file ≡ hold.Opened grant)
     × DidWrite done deed leg
-DidPut done name part remote from grant Closes leg = (leg.old.holding.file ≡ hold.Opened grant)
+DidPut done name part remote from grant (Closes offered) leg = (leg.old.holding.file ≡ hold.Opened grant)
     × LetsFileGo leg.core leg.old.holding leg.after leg.new.holding
+    × (offers_sync leg.core ≡ offered)
     × (leg.now ≡ leg.before)
 DidPut done name part remote from grant AsksRename leg = (leg.old.holding.file ≡ hold.Asked grant.id expected.Status)
     × AsksName part remote leg.core leg.old leg.after leg.new progress.Moved
@@ -154,15 +175,20 @@ is_named_by true = Names ∷ AsksAgain ∷ AsksRemove ∷ AsksPart ∷ AsksRenam
 -- A copy to the server that started at an offset and returned the count `len`. Its steps did this: the local file was
 -- opened there and the OPEN asked, which brought the grant. Bytes were read, and a WRITE of its handle was asked for
 -- each piece, at the offset where those before end, with no gap up to `len`. Each WRITE had OK, and none was in flight
--- when the CLOSE was queued. The CLOSE had OK, and then the rename had. Nothing more was done to the local file.
-pub record SentWhole {H : Type 0} (done : LocalAct → H → H) (name part remote : List ℕ) (from len : ℕ) (first now : H)
-    (legs : List (CopyStep FilePut H)) : Type 0 where
+-- when the CLOSE was queued. With `sync` an fsync of the handle had OK after them, if the server offered it when the
+-- CLOSE was queued; without `sync` none was asked. The CLOSE had OK, and then the rename had. Nothing more was done to
+-- the local file.
+pub record SentWhole {H : Type 0} (done : LocalAct → H → H) (name part remote : List ℕ) (sync : Bool) (from len : ℕ)
+    (first now : H) (legs : List (CopyStep FilePut H)) : Type 0 where
   pub grant : GrantValue
   pub writing : List WriteDeed
   pub writes : List AskedWrite
+  pub offered : Bool
   pub removed : Bool
   pub deeds : AreDeeds (DidPut done name part remote from grant) legs
-      (is_named_by removed ++ Closes ∷ (map Writing writing ++ Opens ∷ AsksOpen ∷ []))
+      (is_named_by removed ++ Closes offered ∷ (map Writing writing ++ Opens ∷ AsksOpen ∷ []))
   pub answered : writes_after writing ≡ record { under_way = []; accepted = writes }
   pub in_order : AreWrittenFromTo from writes len
+  pub synced : sync ≡ true → offered ≡ true → IsSynced writing
+  pub unsynced : sync ≡ false → AskNoSync writing
   pub acts : HasDone done (Opened name from ∷ (reads_of (carried_by writes) ++ Got [] ∷ [])) first now

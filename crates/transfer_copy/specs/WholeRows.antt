@@ -4,10 +4,13 @@ use Rattle.transfer_copy.specs.Gets.{ask_with, if_short_twice, most_with}
 use Rattle.transfer_copy.specs.WholeGets.{AreFromTo, AskedRead, AsksRead, GotData, ReadDeed, ReadPiece, reads_after}
 use Rattle.transfer_copy.specs.WholePuts.{
   AreWrittenFromTo,
+  AskNoSync,
   AskedWrite,
+  AsksSync,
   AsksWrite,
   GotEnd,
   GotOk,
+  IsSynced,
   WriteDeed,
   writes_after,
 }
@@ -78,6 +81,16 @@ three_accepted = refl
 
 pub three_in_order : AreWrittenFromTo 0 three_writes 3
 three_in_order = (refl, (refl, refl))
+
+-- The fsync is the last request, after the OK to each WRITE.
+pub three_synced : IsSynced (GotOk 3 ∷ AsksSync 3 ∷ three)
+three_synced = record { ticket = 3; earlier = three; last = refl; answered = refl }
+
+pub three_unsynced : AskNoSync three
+three_unsynced = tt
+
+pub sync_asked : AskNoSync (AsksSync 3 ∷ three) → ⊥
+sync_asked never = never
 
 -- A WRITE that had no OK is still in flight.
 pub one_unanswered : writes_after (GotOk 1 ∷ AsksWrite (write_at 2 2 (30 ∷ [])) ∷ AsksWrite

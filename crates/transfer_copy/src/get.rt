@@ -8,7 +8,7 @@ ghost use Rattle.sftp_model.specs.declared.answers.Expected.TheVariants as expec
 ghost use Rattle.transfer_copy.specs.declared.get.GetStage.TheVariants as stage;
 ghost use Rattle.transfer_copy.specs.Gets.{AsksNext, GetAsksOn, GetEnds, GetFinishes, GetStepDid, GetLeaves, GetGivesUp, TakesReply, GetHasEnded, IsBehindRead, IsGetting, IsOpenAt, IsReadingOn, KeepsPiece, MakesPart, MayGet, GetOpens, GetReadsOn, GetStarts, WritesPiece, ask_with, get_begun, get_is_over, most_with, read_flags};
 ghost use Rattle.transfer_copy.specs.Holdings.{SparesIds, drops_file, drops_parts, nothing_held};
-ghost use Rattle.transfer_copy.specs.Local.{HasDone, part_opened, act_of};
+ghost use Rattle.transfer_copy.specs.Local.{HasDone, NamesPart, part_opened, act_of};
 
 use crate::copy_error::CopyError;
 use crate::holding::{FileAnswer, Holding, PartAnswer};
@@ -43,7 +43,8 @@ pub enum GetStage {
 /// A copy from a file of the server to a local file. It is written as a part file, and renamed when all its bytes are
 /// there and the server has closed its file. It isn't droppable: `cancel` spends it, also after it has ended.
 ///
-/// If the part file has the first bytes already, the copy starts after them, and does not compare them.
+/// If the part file has the first bytes already, the copy starts after them, and does not compare them. With `sync` the
+/// part file is written through to the disk before it is renamed, and its directory after that.
 ///
 /// One READ is asked at first. With each piece as long as its READ, the number of READs in flight grows by one, up to
 /// the window. After two pieces in a row that are shorter than their READs, READs ask for as many bytes as came, and so
@@ -60,6 +61,7 @@ pub struct FileGet {
     was_short: bool,
     offset: u64,
     next: u64,
+    sync: bool,
     failure: Option<CopyError>,
 }
 
@@ -88,11 +90,42 @@ fn open_part<F: LocalFile>(local: &mut F, part: &str, len: u64) -> Result<(), Lo
     local.reopen(part, len)
 }
 
+/// Gives the part file its name. With `sync` its bytes are written through to the disk before, and the directory of the
+/// name after.
+fn name_part<F: LocalFile>(
+    local: &mut F,
+    part: &str,
+    name: &str,
+    sync: bool,
+) -> Result<(), LocalError>
+    ensures { NamesPart F.done sync part.now name.now result (F.history local.old) (F.history local.new) }
+{
+    if sync {
+        return name_synced(local, part, name);
+    }
+    local.rename(part, name)
+}
+
+/// Gives the part file its name, between the two calls that write through to the disk.
+fn name_synced<F: LocalFile>(local: &mut F, part: &str, name: &str) -> Result<(), LocalError>
+    ensures { NamesPart F.done true part.now name.now result (F.history local.old) (F.history local.new) }
+{
+    // No `?`: each answer is named by its arm, and the clause is by cases on the result.
+    match local.sync() {
+        Ok(()) => match local.rename(part, name) {
+            Ok(()) => local.sync_parent(name),
+            Err(e) => Err(e),
+        },
+        Err(e) => Err(e),
+    }
+}
+
 impl FileGet {
     /// Returns a copy that has asked for nothing, with at most `most` READs in flight. It starts at the offset `from`:
-    /// the part file has exactly this many bytes. If `from` is 0, the part file is created.
-    pub fn new(alloc: Global, most: u32, from: u64) -> FileGet
-        ensures new { result ≡ get_begun most from }
+    /// the part file has exactly this many bytes. If `from` is 0, the part file is created. With `sync` the file is
+    /// written through to the disk before it has its name, and its directory after that.
+    pub fn new(alloc: Global, most: u32, from: u64, sync: bool) -> FileGet
+        ensures new { result ≡ get_begun most from sync }
         ensures may { (core : CoreValue) → IsSome (info_of core.phase) → MayGet core result }
     {
         FileGet {
@@ -104,6 +137,7 @@ impl FileGet {
             was_short: false,
             offset: from,
             next: from,
+            sync,
             failure: None,
         }
     }
@@ -132,7 +166,8 @@ impl FileGet {
     /// The copy ends with the size of the target in bytes, including those that the part file had at first. Or it ends
     /// with the first failure: the server refused a request, the local file failed, the core keeps a fault, or an
     /// allocation failed. The file on the server is closed then, and no local file was renamed to the final name. The
-    /// part file stays as far as it was written.
+    /// part file stays as far as it was written. If only the directory could not be written through to the disk after
+    /// the rename, the file has its name.
     pub fn step<F: LocalFile>(
         &mut self,
         core: &mut Core,
@@ -171,6 +206,7 @@ impl FileGet {
             was_short: _,
             offset: _,
             next: _,
+            sync: _,
             failure: _,
         } = self;
         holding.cancel(core);
@@ -438,7 +474,7 @@ impl FileGet {
             return Progress::Ended(Err(first));
         }
         match closed {
-            Ok(()) => match local.rename(part, name) {
+            Ok(()) => match name_part(local, part, name, self.sync) {
                 Ok(()) => Progress::Ended(Ok(self.offset)),
                 Err(e) => Progress::Ended(Err(e.into())),
             },

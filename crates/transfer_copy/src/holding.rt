@@ -4,7 +4,7 @@ ghost use Rattle.sftp_model.specs.declared.answers.Expected.TheVariants as expec
 ghost use Rattle.sftp_core.specs.Core.{is_call};
 ghost use Rattle.sftp_core.specs.Info.{info_of};
 ghost use Rattle.transfer_copy.specs.declared.holding.FileHold.TheVariants as hold;
-ghost use Rattle.transfer_copy.specs.Holdings.{AsksFile, ClosesFile, DropsParts, HoldsAll, IsFileAsked, IsFileHeld, IsOnly, IsFileOpen, ArePartsHeld, AsksForAttrs, AsksForRead, AsksForWrite, KeepsApart, LetsFileGo, SettlesAttrs, SettlesFile, SettlesStatus, SparesIds, TakesPart, drops_file, drops_parts, nothing_held};
+ghost use Rattle.transfer_copy.specs.Holdings.{AsksFile, ClosesFile, DropsParts, HoldsAll, IsFileAsked, IsFileHeld, IsOnly, IsFileOpen, ArePartsHeld, AsksForAttrs, AsksForRead, AsksForSync, AsksForWrite, KeepsApart, LetsFileGo, SettlesAttrs, SettlesFile, SettlesStatus, SparesIds, TakesPart, drops_file, drops_parts, nothing_held};
 ghost use Rattle.transfer_copy.specs.Refusals.{IsUnasked};
 ghost use Rattle.transfer_copy.specs.declared.holding.FileHold.{FileHold as FileValue};
 
@@ -20,8 +20,8 @@ use std::collections::VecDeque;
 use std::marker::Model;
 use std::mem;
 
-/// A request in flight for bytes or attributes of a file: its ticket, the reply that it expects, and the number of
-/// bytes that it asks for or carries; 0 if it is for attributes.
+/// A request in flight for bytes or attributes of a file, or its fsync: its ticket, the reply that it expects, and the
+/// number of bytes that it asks for or carries; 0 for attributes and the fsync.
 ///
 /// Used by the functions of this module.
 #[must_use]
@@ -325,6 +325,38 @@ impl Holding {
         let request = Request::Fsetstat {
             handle: grant.handle().copied(),
             attrs,
+        };
+        if self.parts.reserve(1).is_err() {
+            return Err(CopyError::OutOfMemory);
+        }
+        // No `?`: the answer is named by the arm `Ok`, and `unchanged` is about this one.
+        match submit(core, &request) {
+            Ok(ticket) => {
+                self.parts.push_back_reserved(Part {
+                    ticket,
+                    kind: Expected::Status,
+                    len: 0,
+                });
+                Ok(())
+            }
+            Err(e) => Err(e),
+        }
+    }
+
+    /// Has the file written through to the server's disk, after the other parts (OpenSSH's PROTOCOL, section 4.6). If
+    /// the request is refused, core and holding are unchanged.
+    pub(crate) fn ask_sync(&mut self, core: &mut Core) -> Result<(), CopyError>
+        requires file { IsFileOpen self.old.file }
+        requires opened { IsSome (info_of core.old.phase) }
+        requires held { HoldsAll core.old self.old }
+        ensures ok { OnOk result (AsksForSync core.old self.old core.new self.new × KeepsApart self.old self.new core.old core.new) }
+        ensures unchanged { OnErr result ((core.new ≡ core.old) × (self.new ≡ self.old)) }
+    {
+        let FileHold::Opened(grant) = &self.file else {
+            unreachable!()
+        };
+        let request = Request::Fsync {
+            handle: grant.handle().copied(),
         };
         if self.parts.reserve(1).is_err() {
             return Err(CopyError::OutOfMemory);

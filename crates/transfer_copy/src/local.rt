@@ -1,6 +1,6 @@
 //! A file of the machine on which the program runs.
 ghost use Rattle.std.specs.Prelude.{◌≡◌, ◌≤◌, [], ◌∷◌, length, IfOk};
-ghost use Rattle.transfer_copy.specs.Local.{HasDone, LocalAct, Created, Opened, Renamed, Reopened, Wrote, got_by, act_of};
+ghost use Rattle.transfer_copy.specs.Local.{HasDone, LocalAct, Created, Opened, Renamed, Reopened, Synced, SyncedParent, Wrote, got_by, act_of};
 
 use bytes::Bytes;
 use std::alloc::Global;
@@ -86,6 +86,14 @@ pub trait LocalFile {
     fn write(&mut self, bytes: &[u8]) -> Result<(), LocalError>
         ensures { HasDone Self.done (act_of result (Wrote bytes.now) ∷ []) (Self.history self.old) (Self.history self.new) };
 
+    /// Writes the bytes of the file that was created or reopened last through to the disk.
+    ///
+    /// # Errors
+    ///
+    /// The error if they can't be written through; the history records the failed operation.
+    fn sync(&mut self) -> Result<(), LocalError>
+        ensures { HasDone Self.done (act_of result Synced ∷ []) (Self.history self.old) (Self.history self.new) };
+
     /// Renames a file, and replaces a file that has the new name.
     ///
     /// # Errors
@@ -93,4 +101,12 @@ pub trait LocalFile {
     /// The error if the file can't be renamed; the history records the failed operation.
     fn rename(&mut self, from: &str, to: &str) -> Result<(), LocalError>
         ensures { HasDone Self.done (act_of result (Renamed from.now to.now) ∷ []) (Self.history self.old) (Self.history self.new) };
+
+    /// Writes the directory of a path through to the disk, with the names in it.
+    ///
+    /// # Errors
+    ///
+    /// The error if it can't be written through; the history records the failed operation.
+    fn sync_parent(&mut self, name: &str) -> Result<(), LocalError>
+        ensures { HasDone Self.done (act_of result (SyncedParent name.now) ∷ []) (Self.history self.old) (Self.history self.new) };
 }

@@ -1,4 +1,4 @@
-//! The requests that name a file.
+//! The requests that name a file, and the extensions that a server offers for them.
 ghost use Rattle.std.specs.Prelude.{◌≡◌, true, IfOk};
 ghost use Rattle.sftp_core.specs.Core.{is_call};
 ghost use Rattle.sftp_model.specs.OpenOptions.{flags_of};
@@ -7,11 +7,24 @@ ghost use Rattle.sftp_model.specs.Frames.{no_attributes};
 ghost use Rattle.sftp_model.specs.declared.answers.Expected.TheVariants as expected;
 ghost use Rattle.sftp_model.specs.declared.request.Request.TheVariants as request;
 ghost use Rattle.plan_model.specs.FilePlans.{open_request};
-ghost use Rattle.transfer_copy.specs.Puts.{rename_of};
+ghost use Rattle.sftp_core.specs.Info.{info_of};
+ghost use Rattle.transfer_copy.specs.PutRequests.{has_extension, rename_of};
 
-use sftp_model::{FileAttrs, OpenOptions, RemotePath, Request};
+use bitflags::Flags;
+use sftp_core::Core;
+use sftp_model::{Extensions, FileAttrs, OpenOptions, RemotePath, Request};
 use ssh_encoding::OutOfMemory;
 use std::alloc::Global;
+
+/// Returns true if the server offers this extension (OpenSSH's PROTOCOL, sections 4.3 and 4.6).
+pub(crate) fn offers(core: &Core, extension: Extensions) -> bool
+    ensures { result ≡ has_extension extension.0 (info_of core.now.phase) }
+{
+    match core.info() {
+        Some(info) => info.extensions.bits() & extension.bits() != 0,
+        None => false,
+    }
+}
 
 /// Returns the path of these bytes. Fails only if an allocation fails.
 pub(crate) fn path(alloc: Global, bytes: &str) -> Result<RemotePath, OutOfMemory>

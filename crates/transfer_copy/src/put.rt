@@ -1,23 +1,24 @@
 //! Copies a local file to a file of the server, step by step.
-ghost use Rattle.std.specs.Prelude.{◌≡◌, ◌≤◌, ◌<◌, ◌-◌, ◌^◌, [], true, length, IsSome};
+ghost use Rattle.std.specs.Prelude.{◌≡◌, ◌≤◌, ◌<◌, ◌-◌, ◌^◌, [], true, length, IsSome, None};
 ghost use Rattle.sftp_core.specs.Core.{Core as CoreValue};
 ghost use Rattle.sftp_core.specs.Info.{info_of};
 ghost use Rattle.sftp_model.specs.OpenOptions.{flags_of};
 ghost use Rattle.transfer_copy.specs.declared.put.PutStage.TheVariants as stage;
 ghost use Rattle.transfer_copy.specs.Holdings.{SparesIds, drops_file, drops_parts, nothing_held};
-ghost use Rattle.transfer_copy.specs.Puts.{AcceptsWrite, AsksAt, IsBehindWrite, IsOpenToWrite, IsPutting, MayPut, OpensPut, open_part, PutAsksAttrs, PutEndsSending, PutStepDid, PutFinishes, PutGivesUp, PutHasEnded, PutLeaves, PutReadsNext, PutSendsOn, StartsPut, PutWritesNext, WritesOn, put_begun, put_is_over, write_flags};
+ghost use Rattle.transfer_copy.specs.PutRequests.{open_part, write_flags};
+ghost use Rattle.transfer_copy.specs.Puts.{AcceptsWrite, AsksAt, IsBehindWrite, IsOpenToWrite, IsPutting, MayPut, OpensPut, PutAsksAttrs, PutAsksSync, PutEndsSending, PutStepDid, PutFinishes, PutGivesUp, PutHasEnded, PutLeaves, PutReadsNext, PutSendsOn, PutSyncsOrCloses, StartsPut, PutWritesNext, WritesOn, is_sync_due, put_begun, put_is_over};
 
 mod end;
 
 use crate::LocalFile;
 use crate::copy_error::CopyError;
 use crate::holding::{FileAnswer, Holding, PartAnswer};
-use crate::paths::open_with;
+use crate::paths::{offers, open_with};
 use crate::progress::Progress;
 use crate::refusals::{faulted, refused, settled};
 use bytes::Bytes;
 use sftp_core::Core;
-use sftp_model::{Error, FileAttrs, IoKind, OpenOptions, Reply};
+use sftp_model::{Error, Extensions, FileAttrs, IoKind, OpenOptions, Reply};
 use ssh_encoding::OutOfMemory;
 use std::alloc::Global;
 
@@ -52,7 +53,8 @@ pub enum PutStage {
 /// answered all its bytes with OK and closed it. It isn't droppable: `cancel` spends it, also after it has ended.
 ///
 /// If the part file has the first bytes already, the copy starts after them, and does not compare them. If there are
-/// attributes, the part file is given them after its last bytes, before it is closed.
+/// attributes, the part file is given them after its last bytes, before it is closed. With `sync` it is written through
+/// to the server's disk then, if the server offers that.
 ///
 /// Used in `crates/transfer_copy/src/laws.rt`.
 #[must_use]
@@ -65,6 +67,7 @@ pub struct FilePut {
     next: u64,
     mode: Option<u32>,
     attrs: Option<FileAttrs>,
+    sync: bool,
     failure: Option<CopyError>,
 }
 
@@ -83,15 +86,16 @@ impl FilePut {
     /// at the offset `from`: the part file has this many bytes. If `from` is 0, the part file is created, with the
     /// permissions `mode` as far as the server permits them. If an entry has its name already, also a symbolic link,
     /// the server refuses the open and does not follow the link. The part file is given the attributes before it is
-    /// closed.
+    /// closed. With `sync` it is then written through to the server's disk, if the server offers that.
     pub fn new(
         alloc: Global,
         window: u32,
         from: u64,
         mode: Option<u32>,
         attrs: Option<FileAttrs>,
+        sync: bool,
     ) -> FilePut
-        ensures new { result ≡ put_begun window from mode attrs }
+        ensures new { result ≡ put_begun window from mode attrs sync }
         ensures may { (core : CoreValue) → IsSome (info_of core.phase) → MayPut core result }
     {
         FilePut {
@@ -103,6 +107,7 @@ impl FilePut {
             next: from,
             mode,
             attrs,
+            sync,
             failure: None,
         }
     }
@@ -174,6 +179,7 @@ impl FilePut {
             next: _,
             mode: _,
             attrs: _,
+            sync: _,
             failure: _,
         } = self;
         holding.cancel(core);
@@ -355,7 +361,7 @@ impl FilePut {
     }
 
     /// Ends the sending, after all bytes are written. The file is given its attributes if any are left to give;
-    /// otherwise it is closed.
+    /// otherwise it is written through to the server's disk, or closed.
     fn end_sending(&mut self, core: &mut Core) -> Progress
         requires writes { MayPut core.old self.old × (self.old.stage ≡ stage.Writing) }
         requires all { (self.old.at_end ≡ true) × (self.old.holding.parts ≡ []) }
@@ -365,7 +371,49 @@ impl FilePut {
     {
         match self.attrs {
             Some(attrs) => self.give_attrs(core, attrs),
-            None => self.finish(core),
+            None => self.sync_or_finish(core),
+        }
+    }
+
+    /// Writes the file through to the server's disk if that is wanted, offered and was not asked yet; otherwise closes
+    /// it.
+    fn sync_or_finish(&mut self, core: &mut Core) -> Progress
+        requires writes { MayPut core.old self.old × (self.old.stage ≡ stage.Writing) }
+        requires all { (self.old.at_end ≡ true) × (self.old.holding.parts ≡ []) }
+        requires given { self.old.attrs ≡ None }
+        ensures did { PutSyncsOrCloses core.old self.old core.new self.new }
+        ensures leaves { PutLeaves core.old self.old core.new self.new }
+        ensures moved { result ≡ Progress.Moved }
+    {
+        if self.is_sync_due(core) {
+            return self.ask_sync(core);
+        }
+        self.finish(core)
+    }
+
+    /// Returns true if an fsync of the file is left to ask.
+    fn is_sync_due(&self, core: &Core) -> bool
+        ensures { result ≡ is_sync_due core.now self.now }
+    {
+        if self.sync {
+            return offers(core, Extensions::FSYNC);
+        }
+        false
+    }
+
+    /// Asks once for the file to be written through to the server's disk.
+    fn ask_sync(&mut self, core: &mut Core) -> Progress
+        requires { MayPut core.old self.old × (self.old.stage ≡ stage.Writing) }
+        ensures did { PutAsksSync core.old self.old core.new self.new }
+        ensures leaves { PutLeaves core.old self.old core.new self.new }
+        ensures moved { result ≡ Progress.Moved }
+    {
+        match self.holding.ask_sync(core) {
+            Ok(()) => {
+                self.sync = false;
+                Progress::Moved
+            }
+            Err(e) => self.fail(core, e),
         }
     }
 

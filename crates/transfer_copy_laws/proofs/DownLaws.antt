@@ -3,7 +3,7 @@ use Rattle.std.proofs.Common.{◌≡◌, ◌≢◌, ◌≤◌, ℕ, zero, suc, �
 use Rattle.std.proofs.Math.Dec.{eqb-suc-zero}
 use Rattle.std.proofs.lemmas.List.{append_assoc, append-nil, drop-drop, drop_all, drop_min, length-append, length-drop, length-take, take-append-drop}
 use Rattle.sftp_model.specs.Pieces.{joined_pieces}
-use Rattle.transfer_copy.specs.Local.{Created, LocalAct, Renamed, Reopened, all_done, part_opened, writes_of}
+use Rattle.transfer_copy.specs.Local.{Created, LocalAct, Reopened, all_done, naming_acts, part_opened, writes_of}
 use Rattle.transfer_copy.specs.Disks.{Disk, IsCopied, after_act}
 use Rattle.transfer_copy.specs.Legs.{CopyStep}
 use Rattle.transfer_copy.specs.WholeGets.{AreFromTo, GotWhole, ReadPiece, bytes_of}
@@ -48,46 +48,48 @@ ends_at from to (piece ∷ later) (at, are) =
 
 -- ---- the local name
 
-acts_last : {H : Type 0} (done : LocalAct → H → H) (acts : List LocalAct) (act : LocalAct) (h : H)
-    → all_done done (acts ++ act ∷ []) h ≡ done act (all_done done acts h)
-acts_last done [] act h = refl
-acts_last done (first ∷ acts) act h = acts_last done acts act (done first h)
+acts_last : {H : Type 0} (done : LocalAct → H → H) (acts more : List LocalAct) (h : H)
+    → all_done done (acts ++ more) h ≡ all_done done more (all_done done acts h)
+acts_last done [] more h = refl
+acts_last done (first ∷ acts) more h = acts_last done acts more (done first h)
 
-named_by : (part name file : List ℕ) (from : ℕ) (pieces : List (List ℕ)) (before after : Disk) → part ≢ name
-    → HasFirst part from file before → joined_pieces pieces ≡ drop from file
-    → after ≡ all_done after_act (part_opened part from ∷ (writes_of pieces ++ Renamed part name ∷ [])) before
+named_by : (part name file : List ℕ) (sync : Bool) (from : ℕ) (pieces : List (List ℕ)) (before after : Disk)
+    → part ≢ name → HasFirst part from file before → joined_pieces pieces ≡ drop from file
+    → after ≡ all_done after_act (part_opened part from ∷ (writes_of pieces ++ naming_acts sync part name)) before
     → IsCopied part name file before after
-named_by part name file zero pieces before after apart first is acts =
+named_by part name file sync zero pieces before after apart first is acts =
     let opened : part_opened part 0 ≡ Created part =
     ap (λ (b : Bool). if b then Created part else Reopened part 0) (same_number 0 0 refl) in
     let last : Disk = all_done after_act (Created part ∷ writes_of pieces) before in
-    let after_is : after ≡ after_act (Renamed part name) last =
-    acts ∙ ap (λ (a : LocalAct). all_done after_act (a ∷ (writes_of pieces ++ Renamed part name ∷ [])) before) opened
-    ∙ acts_last after_act (Created part ∷ writes_of pieces) (Renamed part name) before in
+    let after_is : after ≡ all_done after_act (naming_acts sync part name) last =
+    acts ∙ ap
+    (λ (a : LocalAct). all_done after_act (a ∷ (writes_of pieces ++ naming_acts sync part name)) before) opened
+    ∙ acts_last after_act (Created part ∷ writes_of pieces) (naming_acts sync part name) before in
     subst (λ (d : Disk). IsCopied part name file before d) (sym after_is)
-    (subst (λ (b : List ℕ). IsCopied part name b before (after_act (Renamed part name) last)) is
-    (one_name part name pieces before last apart refl))
-named_by part name file (suc k) pieces before after apart first is acts =
+    (subst (λ (b : List ℕ). IsCopied part name b before (all_done after_act (naming_acts sync part name) last)) is
+    (one_name part name sync pieces before last apart refl))
+named_by part name file sync (suc k) pieces before after apart first is acts =
     let opened : part_opened part (suc k) ≡ Reopened part (suc k) =
     ap (λ (b : Bool). if b then Created part else Reopened part (suc k)) (eqb-suc-zero k) in
     let last : Disk = all_done after_act (Reopened part (suc k) ∷ writes_of pieces) before in
-    let after_is : after ≡ after_act (Renamed part name) last =
-    acts ∙ ap (λ (a : LocalAct). all_done after_act (a ∷ (writes_of pieces ++ Renamed part name ∷ [])) before) opened
-    ∙ acts_last after_act (Reopened part (suc k) ∷ writes_of pieces) (Renamed part name) before in
+    let after_is : after ≡ all_done after_act (naming_acts sync part name) last =
+    acts ∙ ap
+    (λ (a : LocalAct). all_done after_act (a ∷ (writes_of pieces ++ naming_acts sync part name)) before) opened
+    ∙ acts_last after_act (Reopened part (suc k) ∷ writes_of pieces) (naming_acts sync part name) before in
     let whole : take (suc k) file ++ joined_pieces pieces ≡ file =
     ap (λ (l : List ℕ). take (suc k) file ++ l) is ∙ take-append-drop (suc k) file in
     subst (λ (d : Disk). IsCopied part name file before d) (sym after_is)
-    (subst (λ (b : List ℕ). IsCopied part name b before (after_act (Renamed part name) last)) whole
-    (one_name_behind part name (take (suc k) file) (suc k) pieces before last apart (first (omega arith)) refl))
+    (subst (λ (b : List ℕ). IsCopied part name b before (all_done after_act (naming_acts sync part name) last)) whole
+    (one_name_behind part name (take (suc k) file) sync (suc k) pieces before last apart (first (omega arith)) refl))
 
 -- ---- both
 
-pub come_down : (remote part name file : List ℕ) (from len : ℕ) (before after : Disk)
+pub come_down : (remote part name file : List ℕ) (sync : Bool) (from len : ℕ) (before after : Disk)
     (legs : List (CopyStep FileGet Disk)) → part ≢ name
     → from ≤ length file → HasFirst part from file before
-    → (whole : GotWhole after_act remote part name from len before after legs) → ArePiecesOf file whole.pieces
+    → (whole : GotWhole after_act remote part name sync from len before after legs) → ArePiecesOf file whole.pieces
     → length file ≤ whole.last_read.offset → IsCopied part name file before after × (len ≡ length file)
-come_down remote part name file from len before after legs apart small first whole gives over =
+come_down remote part name file sync from len before after legs apart small first whole gives over =
     let none : drop len file ≡ [] = drop_all len file (subst (λ (k : ℕ). length file ≤ k) whole.at_end over) in
     let pieces : joined_pieces (bytes_of whole.pieces) ≡ drop from file =
     sym (append-nil (joined_pieces (bytes_of whole.pieces))) ∙ ap
@@ -97,6 +99,6 @@ come_down remote part name file from len before after legs apart small first who
     let many : length (joined_pieces (bytes_of whole.pieces)) ≡ length (drop from file) =
     ap (λ (l : List ℕ). length l) pieces in
     let rest = length-drop from file in (
-      named_by part name file from (bytes_of whole.pieces) before after apart first pieces whole.acts,
+      named_by part name file sync from (bytes_of whole.pieces) before after apart first pieces whole.acts,
       omega (arith, end, many, rest, small),
     )

@@ -1,5 +1,5 @@
 -- What a copy to the server leaves.
-use Rattle.std.proofs.Common.{◌≡◌, ◌≤◌, ℕ, ◌+◌, ◌-◌, List, [], ◌∷◌, ◌++◌, take, drop, length, sym, ap, ◌∙◌, arith}
+use Rattle.std.proofs.Common.{◌≡◌, ◌≤◌, ℕ, ◌+◌, ◌-◌, Bool, List, [], ◌∷◌, ◌++◌, take, drop, length, sym, ap, ◌∙◌, arith}
 use Rattle.std.proofs.lemmas.List.{append_assoc, append-nil, drop_all, length-append, length-drop, length-take-le, take-append-drop}
 use Rattle.std.proofs.Math.Seq.{take-length}
 use Rattle.std.specs.Prelude.{replicate}
@@ -44,12 +44,13 @@ ends_at from to (write ∷ later) (at, are) =
     (let below = ends_at (from + length write.bytes) to later are in
     let l = length-append write.bytes (joined_pieces (carried_by later)) in omega (arith, below, l))
 
-pub go_up : {H : Type 0} (done : LocalAct → H → H) (name part remote file : List ℕ) (from len : ℕ) (first now : H)
+pub go_up : {H : Type 0} (done : LocalAct → H → H) (name part remote file : List ℕ) (sync : Bool) (from len : ℕ) (first
+    now : H)
     (legs : List (CopyStep FilePut H))
-    → from ≤ length file → (whole : SentWhole done name part remote from len first now legs)
+    → from ≤ length file → (whole : SentWhole done name part remote sync from len first now legs)
     → joined_pieces (carried_by whole.writes) ≡ drop from file
     → (written_to (take from file) whole.writes ≡ file) × (len ≡ length file)
-go_up done name part remote file from len first now legs small whole gave =
+go_up done name part remote file sync from len first now legs small whole gave =
     let end = ends_at from len whole.writes whole.in_order in
     let many : length (joined_pieces (carried_by whole.writes)) ≡ length (drop from file) =
     ap (λ (l : List ℕ). length l) gave in

@@ -63,7 +63,7 @@ whole_got : {F H : Type 0} (done : LocalAct → H → H) (history : F → H) (wi
     (earlier : List (CopyStep FileGet H)) (last : CopyStep FileGet H)
     → IsWholeCopy (IsGetLeg done (string_bytes wanted.job.from) (string_bytes wanted.job.part)
     (string_bytes wanted.job.to))
-    (get_begun window wanted.job.begins_at) (history wanted.local) earlier last copied.result → last.now
+    (get_begun window wanted.job.begins_at wanted.job.sync) (history wanted.local) earlier last copied.result → last.now
     ≡ history copied.local
     → AreInOrderAmong (legs_of state.Get wanted.job (last ∷ earlier)) all → HasGot done history window all wanted copied
 whole_got {H = H} done history window all wanted copied earlier last whole told among =
@@ -76,11 +76,13 @@ whole_got {H = H} done history window all wanted copied earlier last whole told 
       whole = whole;
       told = told;
       among = among;
-      got = λ len is. subst (λ (h : H). GotWhole done from part to wanted.job.begins_at len (history wanted.local) h
+      got = λ len is. subst (λ (h : H). GotWhole done from part to wanted.job.sync wanted.job.begins_at len (history
+          wanted.local) h
           (last ∷ earlier)) told
-          (got_whole done from part to window wanted.job.begins_at len (history wanted.local) earlier last
+          (got_whole done from part to wanted.job.sync window wanted.job.begins_at len (history wanted.local) earlier
+          last
           (subst (λ (r : Result ℕ CopyError). IsWholeCopy (IsGetLeg done from part to)
-          (get_begun window wanted.job.begins_at)
+          (get_begun window wanted.job.begins_at wanted.job.sync)
           (history wanted.local) earlier last r) is whole));
     }
 
@@ -89,7 +91,8 @@ whole_put : {F H : Type 0} (done : LocalAct → H → H) (history : F → H) (wi
     (earlier : List (CopyStep FilePut H)) (last : CopyStep FilePut H)
     → IsWholeCopy (IsPutLeg done (string_bytes wanted.job.from) (string_bytes wanted.job.part)
     (string_bytes wanted.job.to))
-    (put_begun window wanted.job.begins_at wanted.job.mode wanted.job.attrs) (history wanted.local) earlier last copied.result
+    (put_begun window wanted.job.begins_at wanted.job.mode wanted.job.attrs wanted.job.sync) (history wanted.local)
+    earlier last copied.result
     → last.now ≡ history copied.local → AreInOrderAmong (legs_of state.Put wanted.job (last ∷ earlier)) all
     → HasPut done history window all wanted copied
 whole_put {H = H} done history window all wanted copied earlier last whole told among =
@@ -102,12 +105,14 @@ whole_put {H = H} done history window all wanted copied earlier last whole told 
       whole = whole;
       told = told;
       among = among;
-      sent = λ len is. subst (λ (h : H). SentWhole done from part to wanted.job.begins_at len (history wanted.local) h
+      sent = λ len is. subst (λ (h : H). SentWhole done from part to wanted.job.sync wanted.job.begins_at len (history
+          wanted.local) h
           (last ∷ earlier)) told
-          (sent_whole done from part to window wanted.job.begins_at len wanted.job.mode wanted.job.attrs (history wanted.local) earlier
+          (sent_whole done from part to wanted.job.sync window wanted.job.begins_at len wanted.job.mode
+          wanted.job.attrs (history wanted.local) earlier
           last
           (subst (λ (r : Result ℕ CopyError). IsWholeCopy (IsPutLeg done from part to)
-          (put_begun window wanted.job.begins_at wanted.job.mode wanted.job.attrs)
+          (put_begun window wanted.job.begins_at wanted.job.mode wanted.job.attrs wanted.job.sync)
           (history wanted.local) earlier last r) is whole));
     }
 
@@ -219,8 +224,7 @@ ended_copies {F = F} state done history window all notes old new copied c (n, la
 begun_copying : {F H : Type 0} (done : LocalAct → H → H) (history : F → H) (window : ℕ) (all : List (JobLeg H))
     (wanted : Wanted F) (w : Direction)
     → wanted.job.way ≡ w
-    → IsCopyingBy done history window all wanted wanted.local (copy_begun w window wanted.job.begins_at
-    wanted.job.mode wanted.job.attrs)
+    → IsCopyingBy done history window all wanted wanted.local (copy_begun w window wanted.job)
 begun_copying done history window all wanted way.Get is =
     record { earlier = []; legs = tt; stands = refl; now = refl; among = tt; way_is = is }
 begun_copying done history window all wanted way.Put is =

@@ -48,8 +48,8 @@ pub record IsGettingBy {F H : Type 0} (done : LocalAct → H → H) (history : F
   pub earlier : List (CopyStep FileGet H)
   pub legs : AreLegs (IsGetLeg done (string_bytes wanted.job.from) (string_bytes wanted.job.part)
       (string_bytes wanted.job.to))
-      (get_begun window wanted.job.begins_at) (history wanted.local) earlier
-  pub stands : g ≡ state_behind (get_begun window wanted.job.begins_at) earlier
+      (get_begun window wanted.job.begins_at wanted.job.sync) (history wanted.local) earlier
+  pub stands : g ≡ state_behind (get_begun window wanted.job.begins_at wanted.job.sync) earlier
   pub now : history local ≡ history_behind (history wanted.local) earlier
   pub among : AreInOrderAmong (legs_of state.Get wanted.job earlier) all
   pub way_is : wanted.job.way ≡ way.Get
@@ -60,8 +60,10 @@ pub record IsPuttingBy {F H : Type 0} (done : LocalAct → H → H) (history : F
   pub earlier : List (CopyStep FilePut H)
   pub legs : AreLegs (IsPutLeg done (string_bytes wanted.job.from) (string_bytes wanted.job.part)
       (string_bytes wanted.job.to))
-      (put_begun window wanted.job.begins_at wanted.job.mode wanted.job.attrs) (history wanted.local) earlier
-  pub stands : p ≡ state_behind (put_begun window wanted.job.begins_at wanted.job.mode wanted.job.attrs) earlier
+      (put_begun window wanted.job.begins_at wanted.job.mode wanted.job.attrs wanted.job.sync) (history wanted.local)
+      earlier
+  pub stands : p ≡ state_behind (put_begun window wanted.job.begins_at wanted.job.mode wanted.job.attrs
+      wanted.job.sync) earlier
   pub now : history local ≡ history_behind (history wanted.local) earlier
   pub among : AreInOrderAmong (legs_of state.Put wanted.job earlier) all
   pub way_is : wanted.job.way ≡ way.Put
@@ -188,7 +190,7 @@ pub get_follows : {F H : Type 0} (done : LocalAct → H → H) (history : F → 
     → job ≡ wanted.job → CopyStepDid done job core (state.Get g) after (state.Get k) (history old) (history new) result
     → FollowsSteps (IsGetLeg done (string_bytes wanted.job.from) (string_bytes wanted.job.part)
     (string_bytes wanted.job.to))
-    (get_begun window wanted.job.begins_at) (history wanted.local) so.earlier
+    (get_begun window wanted.job.begins_at wanted.job.sync) (history wanted.local) so.earlier
     (record { core = core; old = g; before = history old; after = after; new = k; now = history new; result = result })
 get_follows done history window all wanted job core after g k old new result so is did = record {
   did = subst (λ (j : CopyJob). CopyStepDid done j core (state.Get g) after (state.Get k) (history old) (history new)
@@ -204,7 +206,8 @@ pub put_follows : {F H : Type 0} (done : LocalAct → H → H) (history : F → 
     → job ≡ wanted.job → CopyStepDid done job core (state.Put p) after (state.Put q) (history old) (history new) result
     → FollowsSteps (IsPutLeg done (string_bytes wanted.job.from) (string_bytes wanted.job.part)
     (string_bytes wanted.job.to))
-    (put_begun window wanted.job.begins_at wanted.job.mode wanted.job.attrs) (history wanted.local) so.earlier
+    (put_begun window wanted.job.begins_at wanted.job.mode wanted.job.attrs wanted.job.sync) (history wanted.local)
+    so.earlier
     (record { core = core; old = p; before = history old; after = after; new = q; now = history new; result = result })
 put_follows done history window all wanted job core after p q old new result so is did = record {
   did = subst (λ (j : CopyJob). CopyStepDid done j core (state.Put p) after (state.Put q) (history old) (history new)

@@ -2,7 +2,6 @@
 use Rattle.std.proofs.Common.{◌≡◌, ◌≢◌, inl, inr, ℕ, List, [], ◌∷◌, ◌++◌, refl, sym, ap, ◌∙◌, subst, Option, Some, None}
 use Rattle.std.specs.Prelude.{IsTrue, IsSome, Result}
 use Rattle.sftp_model.specs.declared.answers.Expected.{Expected}
-use Rattle.sftp_model.specs.declared.file_attrs.FileAttrs.{FileAttrs}
 use Rattle.sftp_core.specs.declared.handshake.Handshake.{Handshake}
 use Rattle.sftp_core.specs.declared.id_record.IdRecord.{IdRecord}
 use Rattle.sftp_core.specs.declared.id_record.IdRecord.TheVariants.{Granted}
@@ -207,18 +206,16 @@ apart_none : {F : Type 0} (rs : List (Running F)) → AreApartFrom nothing_held 
 apart_none [] = tt
 apart_none (r ∷ later) = (λ id is. record { file = tt; parts = tt }, apart_none later)
 
-begun_held : (way : Direction) (window from : ℕ) (mode : Option ℕ) (attrs : Option FileAttrs)
-    → holding_of (copy_begun way window from mode attrs)
-    ≡ nothing_held
-begun_held way.Get window from mode attrs = refl
-begun_held way.Put window from mode attrs = refl
+begun_held : (way : Direction) (window : ℕ) (job : CopyJob) → holding_of (copy_begun way window job) ≡ nothing_held
+begun_held way.Get window job = refl
+begun_held way.Put window job = refl
 
 pub together_begun : {F : Type 0} (core : Core) (rs new : List (Running F)) (job : CopyJob) (local : F) (s : CopyState)
     (window : ℕ)
     → s ≡ job_begun job window → MayStepCopy core s → new ≡ rs ++ record { job = job; local = local; state = s } ∷ []
     → AreTogether core rs → AreTogether core new
 together_begun {F = F} core rs new job local s window is may now all =
-    let none : holding_of s ≡ nothing_held = ap holding_of is ∙ begun_held job.way window job.begins_at job.mode job.attrs in
+    let none : holding_of s ≡ nothing_held = ap holding_of is ∙ begun_held job.way window job in
     let apart = subst (λ (h : HoldingValue). AreApartFrom h rs) (sym none) (apart_none rs) in
     subst (λ (l : List (Running F)). AreTogether core l) (sym now)
     (together_last core rs (record { job = job; local = local; state = s }) all apart may)

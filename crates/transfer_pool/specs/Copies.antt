@@ -20,7 +20,6 @@ use Rattle.std.specs.Prelude.{
 }
 use Rattle.std.specs.String.{string_bytes}
 use Rattle.sftp_model.specs.declared.error.Error.{Error}
-use Rattle.sftp_model.specs.declared.file_attrs.FileAttrs.{FileAttrs}
 use Rattle.sftp_core.specs.Core.{Core, record_at}
 use Rattle.sftp_core.specs.declared.id_record.IdRecord.{IdRecord}
 use Rattle.sftp_link.specs.Views.{LinkView}
@@ -50,14 +49,14 @@ use Rattle.transfer_args.specs.declared.asked.Direction.TheVariants as way
 
 -- ---- One copy
 
--- A copy from an offset on that has asked for nothing. A copy to the server gives the file attributes.
-abbrev pub copy_begun : Direction → ℕ → ℕ → Option ℕ → Option FileAttrs → CopyState
-copy_begun way.Get window from mode attrs = state.Get (get_begun window from)
-copy_begun way.Put window from mode attrs = state.Put (put_begun window from mode attrs)
+-- A copy in this direction that has asked for nothing, at its offset and with the attributes and the sync of its job.
+abbrev pub copy_begun : Direction → ℕ → CopyJob → CopyState
+copy_begun way.Get window job = state.Get (get_begun window job.begins_at job.sync)
+copy_begun way.Put window job = state.Put (put_begun window job.begins_at job.mode job.attrs job.sync)
 
 -- The copy of a job, at its start.
 abbrev pub job_begun : CopyJob → ℕ → CopyState
-job_begun job window = copy_begun job.way window job.begins_at job.mode job.attrs
+job_begun job window = copy_begun job.way window job
 
 -- The entries that it has in the core.
 abbrev pub holding_of : CopyState → HoldingValue

@@ -128,11 +128,12 @@ pub record HasGot {F H : Type 0} (done : LocalAct → H → H) (history : F → 
   pub last : CopyStep FileGet H
   pub whole : IsWholeCopy
       (IsGetLeg done (string_bytes wanted.job.from) (string_bytes wanted.job.part) (string_bytes wanted.job.to))
-      (get_begun window wanted.job.begins_at) (history wanted.local) earlier last copied.result
+      (get_begun window wanted.job.begins_at wanted.job.sync) (history wanted.local) earlier last copied.result
   pub told : last.now ≡ history copied.local
   pub among : AreInOrderAmong (legs_of state.Get wanted.job (last ∷ earlier)) all
   pub got : (len : ℕ) → copied.result ≡ Ok len → GotWhole done (string_bytes wanted.job.from)
-      (string_bytes wanted.job.part) (string_bytes wanted.job.to) wanted.job.begins_at len (history wanted.local)
+      (string_bytes wanted.job.part) (string_bytes wanted.job.to) wanted.job.sync wanted.job.begins_at len (history
+      wanted.local)
       (history copied.local) (last ∷ earlier)
 
 -- All steps of the copy of a file to the server. If it returned a count, the bytes that were read were carried by
@@ -143,11 +144,13 @@ pub record HasPut {F H : Type 0} (done : LocalAct → H → H) (history : F → 
   pub last : CopyStep FilePut H
   pub whole : IsWholeCopy
       (IsPutLeg done (string_bytes wanted.job.from) (string_bytes wanted.job.part) (string_bytes wanted.job.to))
-      (put_begun window wanted.job.begins_at wanted.job.mode wanted.job.attrs) (history wanted.local) earlier last copied.result
+      (put_begun window wanted.job.begins_at wanted.job.mode wanted.job.attrs wanted.job.sync) (history wanted.local)
+      earlier last copied.result
   pub told : last.now ≡ history copied.local
   pub among : AreInOrderAmong (legs_of state.Put wanted.job (last ∷ earlier)) all
   pub sent : (len : ℕ) → copied.result ≡ Ok len → SentWhole done (string_bytes wanted.job.from)
-      (string_bytes wanted.job.part) (string_bytes wanted.job.to) wanted.job.begins_at len (history wanted.local)
+      (string_bytes wanted.job.part) (string_bytes wanted.job.to) wanted.job.sync wanted.job.begins_at len (history
+      wanted.local)
       (history copied.local) (last ∷ earlier)
 
 abbrev pub HasLegs : {F H : Type 0} → (LocalAct → H → H) → (F → H) → ℕ → List (JobLeg H) → Wanted F → Copied F → Direction

@@ -91,14 +91,7 @@ impl<F: LocalFile + Drop> Copier<F> {
         if self.running.reserve(1).is_err() {
             return Err(OutOfMemory);
         }
-        let state = CopyState::new(
-            self.alloc,
-            job.way,
-            window,
-            job.begins_at,
-            job.mode,
-            job.attrs,
-        );
+        let state = CopyState::new(self.alloc, &job, window);
         self.running
             .push_back_reserved(Running { job, local, state });
         Ok(())

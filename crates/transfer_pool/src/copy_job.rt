@@ -3,7 +3,7 @@ ghost use Rattle.std.specs.Prelude.{◌≡◌, IsSome};
 ghost use Rattle.sftp_core.specs.Core.{Core as CoreValue};
 ghost use Rattle.sftp_core.specs.Info.{info_of};
 ghost use Rattle.transfer_copy.specs.Holdings.{SparesIds, nothing_held};
-ghost use Rattle.transfer_pool.specs.Copies.{StepsCopy, IsEndedAs, MayCancel, MayStepCopy, copy_begun, holding_of};
+ghost use Rattle.transfer_pool.specs.Copies.{StepsCopy, IsEndedAs, MayCancel, MayStepCopy, holding_of, job_begun};
 
 use sftp_core::Core;
 use sftp_model::FileAttrs;
@@ -27,6 +27,9 @@ pub struct CopyJob {
     pub mode: Option<u32>,
     /// The attributes that a file of the server is given before it is closed, if the copy is one to the server.
     pub attrs: Option<FileAttrs>,
+    /// Whether the part file is written through to the disk before it is renamed; on the local side its directory is
+    /// too after the rename. A server that does not offer the fsync is not asked for it.
+    pub sync: bool,
 }
 
 /// The state of a copy.
@@ -61,22 +64,18 @@ pub struct Copied<F> {
 }
 
 impl CopyState {
-    /// Returns a copy from an offset on that has asked for nothing. A copy to the server creates the part file with
-    /// these permissions, and gives it these attributes.
-    pub(crate) fn new(
-        alloc: Global,
-        way: Direction,
-        window: u32,
-        begins_at: u64,
-        mode: Option<u32>,
-        attrs: Option<FileAttrs>,
-    ) -> CopyState
-        ensures new { result ≡ copy_begun way window begins_at mode attrs }
+    /// Returns the copy of a job, which has asked for nothing. A copy to the server creates the part file with the
+    /// permissions of the job, and gives it its attributes.
+    pub(crate) fn new(alloc: Global, job: &CopyJob, window: u32) -> CopyState
+        ensures new { result ≡ job_begun job.now window }
         ensures may { (core : CoreValue) → IsSome (info_of core.phase) → MayStepCopy core result }
     {
-        match way {
-            Direction::Get => CopyState::Get(FileGet::new(alloc, window, begins_at)),
-            Direction::Put => CopyState::Put(FilePut::new(alloc, window, begins_at, mode, attrs)),
+        let from = job.begins_at;
+        match job.way {
+            Direction::Get => CopyState::Get(FileGet::new(alloc, window, from, job.sync)),
+            Direction::Put => {
+                CopyState::Put(FilePut::new(alloc, window, from, job.mode, job.attrs, job.sync))
+            }
         }
     }
 

@@ -10,6 +10,6 @@ mod wait;
 pub use listing::list_remote;
 pub use paths::{
     make_remote_folder, make_remote_link, read_remote_link, remote_link_metadata, remote_metadata,
-    remove_remote, rename_remote, set_remote_attrs,
+    remove_remote, remove_remote_folder, rename_remote, set_remote_attrs,
 };
 pub use remote_error::RemoteError;

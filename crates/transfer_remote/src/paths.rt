@@ -1,6 +1,6 @@
 //! Calls on paths.
 ghost use Rattle.std.specs.Prelude.{[], option_map};
-ghost use Rattle.plan_model.specs.PathPlans.{lstat_next, read_link_next, remove_next, rename_next, stat_next, symlink_next};
+ghost use Rattle.plan_model.specs.PathPlans.{lstat_next, read_link_next, remove_next, rename_next, rmdir_next, stat_next, symlink_next};
 ghost use Rattle.plan_state.specs.Asked.{IsReady};
 ghost use Rattle.sftp_file.specs.Settles.{settle_meaning};
 ghost use Rattle.sftp_file.specs.Tells.{attrs_meaning};
@@ -124,6 +124,31 @@ pub fn remove_remote<L: Link>(
     match ready(sftp) {
         Ok(()) => {
             let started = plain_paths(alloc).start_remove_file(alloc, sftp.core(), path);
+            finish(sftp, started)
+        }
+        Err(e) => Err(e),
+    }
+}
+
+/// Removes an empty directory (draft-ietf-secsh-filexfer-02, section 6.6).
+///
+/// # Errors
+///
+/// A `RemoteError` if the server refuses, for example because the directory is not empty, the session fails, an
+/// allocation fails or 18446744073709551615 steps were not enough; the session stays open.
+pub fn remove_remote_folder<L: Link>(
+    alloc: Global,
+    sftp: &mut Sftp<L>,
+    path: &[u8],
+) -> Result<(), RemoteError>
+    requires { IsGoing L.LinkState.state sftp.old }
+    ensures { RunsCall L.LinkState.state settle_meaning (StartsFrom settle_meaning (rmdir_next path.now) [])
+        sftp.old sftp.new result }
+{
+    // No `?`: it converts the error, and the clause is by cases on the result.
+    match ready(sftp) {
+        Ok(()) => {
+            let started = plain_paths(alloc).start_remove_dir(alloc, sftp.core(), path);
             finish(sftp, started)
         }
         Err(e) => Err(e),

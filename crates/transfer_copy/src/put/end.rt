@@ -6,28 +6,18 @@ ghost use Rattle.sftp_model.specs.declared.answers.Expected.TheVariants as expec
 ghost use Rattle.sftp_model.specs.declared.request.Request.TheVariants as request;
 ghost use Rattle.transfer_copy.specs.declared.put.PutStage.TheVariants as stage;
 ghost use Rattle.transfer_copy.specs.Holdings.{IsOnly};
-ghost use Rattle.transfer_copy.specs.Puts.{AsksAt, AwaitsStatus, ChecksOrFails, EndsWriting, FindsPart, IsBetween, IsClosedAt, MayPut, NamedOrChecks, PutHasEnded, PutLeaves, PutNamed, RemovesTarget, offers_rename, rename_of, rename_stage};
+ghost use Rattle.transfer_copy.specs.PutRequests.{offers_rename, rename_of};
+ghost use Rattle.transfer_copy.specs.Puts.{AsksAt, AwaitsStatus, ChecksOrFails, EndsWriting, FindsPart, IsBetween, IsClosedAt, MayPut, NamedOrChecks, PutHasEnded, PutLeaves, PutNamed, RemovesTarget, rename_stage};
 
 use super::{FilePut, PutStage};
 use crate::copy_error::CopyError;
 use crate::holding::StatusAnswer;
-use crate::paths::{lstat_request, remove_request, rename_request};
+use crate::paths::{lstat_request, offers, remove_request, rename_request};
 use crate::progress::Progress;
 use crate::refusals::is_failure;
-use bitflags::Flags;
 use sftp_core::Core;
 use sftp_model::{Extensions, Request};
 use ssh_encoding::OutOfMemory;
-
-/// Returns true if the server can replace a file by a rename (OpenSSH's PROTOCOL, section 4.3).
-fn replaces(core: &Core) -> bool
-    ensures { result ≡ offers_rename core.now }
-{
-    match core.info() {
-        Some(info) => info.extensions.bits() & Extensions::POSIX_RENAME.bits() != 0,
-        None => false,
-    }
-}
 
 impl FilePut {
     /// Continues with the status of the CLOSE.
@@ -73,7 +63,7 @@ impl FilePut {
         ensures leaves { PutLeaves core.old self.old core.new self.new }
         ensures ended { PutHasEnded self.new.stage result }
     {
-        if replaces(core) {
+        if offers(core, Extensions::POSIX_RENAME) {
             return self.ask_rename(core, part, remote, true, PutStage::Replacing);
         }
         self.ask_rename(core, part, remote, false, PutStage::Renaming)

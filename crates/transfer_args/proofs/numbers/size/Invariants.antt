@@ -1,5 +1,5 @@
 use Rattle.std.proofs.Common.{◌≡◌, ◌≤◌, length}
-use Rattle.transfer_args.specs.Words.{size_behind}
+use Rattle.transfer_args.specs.Numbers.{size_behind}
 use Rattle.transfer_args.proofs.numbers.size.Given as goal
 
 abbrev pub invariant-loop-rest : goal.invariant-loop-rest
