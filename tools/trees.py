@@ -118,7 +118,8 @@ def difference(one, other):
 
 
 def run(program, socket, way, source, target, kill_after=None):
-    command = [program, f"unix:{socket}", way, "--delete", "--delete-at-most", "1000000", "-q", source, target]
+    options = ["--delete", "--delete-at-most", "1000000", "--links", "as-is", "-q"]
+    command = [program, f"unix:{socket}", way, *options, source, target]
     process = subprocess.Popen(command, stdin=subprocess.DEVNULL, stderr=subprocess.PIPE)
     if kill_after is not None:
         time.sleep(kill_after)
