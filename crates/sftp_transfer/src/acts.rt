@@ -237,7 +237,12 @@ impl<'a, L: Link> Worker<'a, L> {
                 self.record(from.as_bytes(), settled(moved))
             }
             Act::Link { text, path } => {
-                let made = make_remote_link(alloc, &mut self.sftp, text.as_bytes(), path.as_bytes());
+                let made = make_remote_link(
+                    alloc,
+                    &mut self.sftp,
+                    text.as_bytes(),
+                    path.as_bytes(),
+                );
                 self.record(path.as_bytes(), settled(made))
             }
         };
@@ -249,13 +254,7 @@ impl<'a, L: Link> Worker<'a, L> {
 /// The work on each path of a job.
 #[derive(Clone, Copy)]
 enum Each {
-    Remove {
-        recursive: bool,
-    },
-    MakeDirectories {
-        parents: bool,
-    },
-    SetMode {
-        mode: u32,
-    },
+    Remove { recursive: bool },
+    MakeDirectories { parents: bool },
+    SetMode { mode: u32 },
 }

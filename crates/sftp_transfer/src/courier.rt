@@ -20,8 +20,8 @@ use transfer_args::Direction;
 use transfer_plan::{Found, Hand, JobVerdict, Tally, Task, leads_out, part_path};
 use transfer_pool::{CopyError, copy_all};
 use transfer_remote::{
-    RemoteError, make_remote_folder, make_remote_link, read_remote_link, remote_link_metadata, remote_metadata,
-    remove_remote, rename_remote, set_remote_attrs,
+    RemoteError, make_remote_folder, make_remote_link, read_remote_link, remote_link_metadata,
+    remote_metadata, remove_remote, rename_remote, set_remote_attrs,
 };
 
 /// The status of a request that failed for a reason that no other status says (draft-ietf-secsh-filexfer-02, section
@@ -95,7 +95,12 @@ impl<'a, L: Link> Courier<'a, L> {
             Some(info) => info.read_len.max(info.write_len),
             None => 1,
         };
-        window_for(self.manner.options.window, self.manner.options.limit, files, len)
+        window_for(
+            self.manner.options.window,
+            self.manner.options.limit,
+            files,
+            len,
+        )
     }
 
     /// Removes a part file of this run. If that fails, it stays.
@@ -180,13 +185,7 @@ impl<'a, L: Link> Courier<'a, L> {
             tally,
             starts: starts.as_slice(),
         };
-        let mut batch = Batch::new(
-            self.rt,
-            self.manner,
-            files,
-            self.totals,
-            verdicts,
-        );
+        let mut batch = Batch::new(self.rt, self.manner, files, self.totals, verdicts);
         let copied = copy_all(alloc, &mut self.sftp, &mut batch, count as usize, window);
         let BatchEnd {
             totals,
@@ -362,7 +361,11 @@ impl<'a, L: Link> Courier<'a, L> {
         ensures { IsGoing L.LinkState.state self.new.sftp }
     {
         match self.manner.way {
-            Direction::Get => Ok(keep_local(self.rt, text_of(target)?, &kept_attrs(Kept::All, attrs))?),
+            Direction::Get => Ok(keep_local(
+                self.rt,
+                text_of(target)?,
+                &kept_attrs(Kept::All, attrs),
+            )?),
             Direction::Put => {
                 let attrs = kept_attrs(Kept::All, attrs);
                 match set_remote_attrs(self.rt.alloc(), &mut self.sftp, target, attrs) {

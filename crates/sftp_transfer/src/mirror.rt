@@ -5,13 +5,13 @@ ghost use Rattle.transfer_pool.specs.Sessions.{IsGoing};
 use crate::connection::is_lost;
 use crate::courier::{Courier, text_of};
 use crate::ended::{Reach, ended_by};
+use crate::listing::without_output;
 use crate::local_side::{attrs_of, is_folder};
 use crate::patterns::filter_of;
 use crate::planned::{PlannedJobs, Touched, is_removal, jobs_of, tell_conflicts, write_plan};
 use crate::transfer_error::{TransferError, is_starved, tell, tell_of};
 use crate::tree::{Reading, Side, SourceTree};
 use crate::work::{carry_jobs, has_target};
-use crate::listing::without_output;
 use sftp_link::Link;
 use sftp_model::{Error, FileAttrs};
 use sftp_values::ByteText;
@@ -101,10 +101,14 @@ impl<'a, L: Link> Courier<'a, L> {
                         Ok(Some(metadata.into_inner()))
                     }
                     Ok(_) => Err(no_directory()),
-                    Err(RemoteError::Remote(Error::SftpError {
-                        code: NO_SUCH_FILE,
-                        ..
-                    })) => Ok(None),
+                    Err(
+                        RemoteError::Remote(
+                            Error::SftpError {
+                                code: NO_SUCH_FILE,
+                                ..
+                            },
+                        ),
+                    ) => Ok(None),
                     Err(e) => Err(e.into()),
                 }
             }
@@ -296,7 +300,12 @@ fn carry_out_plan<L: Link>(
 {
     let removed = courier.remove_entries(plan, mirror.to);
     if courier.sftp.core().fault().is_some() {
-        return ended_by(courier.totals.starved, is_lost(&mut courier.sftp), false, false);
+        return ended_by(
+            courier.totals.starved,
+            is_lost(&mut courier.sftp),
+            false,
+            false,
+        );
     }
     let PlannedJobs { jobs, touched } = match jobs_of(courier.rt.alloc(), source, plan, is_new) {
         Ok(planned) => planned,
@@ -310,7 +319,12 @@ fn carry_out_plan<L: Link>(
     let kept = courier.touch(&touched);
     courier.tell_end(true);
     let is_lost = is_lost(&mut courier.sftp);
-    ended_by(courier.totals.starved, is_lost, complete, removed && made && kept)
+    ended_by(
+        courier.totals.starved,
+        is_lost,
+        complete,
+        removed && made && kept,
+    )
 }
 
 /// Returns the plan for a target that does not exist, which is that for an empty directory.

@@ -30,7 +30,11 @@ fn add_rule(rt: &HostRuntime, filter: &mut Filter, effect: Effect, pattern: &str
             false
         }
         Err(FilterError::BadPattern) => {
-            tell(rt, pattern, &TransferError::Refused("not a pattern that is understood"));
+            tell(
+                rt,
+                pattern,
+                &TransferError::Refused("not a pattern that is understood"),
+            );
             false
         }
     }
@@ -48,7 +52,11 @@ fn add_file(rt: &HostRuntime, filter: &mut Filter, path: &str) -> bool {
     for line in text.as_str().lines() {
         let (effect, pattern) = rule_of(line);
         if !is_remark(line) && !add_rule(rt, filter, effect, pattern) {
-            tell(rt, path, &TransferError::Refused("its patterns can't be used"));
+            tell(
+                rt,
+                path,
+                &TransferError::Refused("its patterns can't be used"),
+            );
             return false;
         }
     }

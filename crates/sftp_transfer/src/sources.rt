@@ -4,8 +4,8 @@ ghost use Rattle.transfer_pool.specs.Sessions.{IsGoing};
 
 use crate::courier::Courier;
 use crate::local_side::{attrs_of, kind_of, list_local};
-use crate::tree::{Side, Untouched, path_below};
 use crate::transfer_error::{TransferError, is_starved, tell_of};
+use crate::tree::{Side, Untouched, path_below};
 use sftp_link::Link;
 use sftp_meta::FileType;
 use sftp_model::FileAttrs;

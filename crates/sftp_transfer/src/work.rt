@@ -120,7 +120,11 @@ fn copy_over<L: Connection + Drop>(
     let manner = Manner {
         way: transfer.way,
         options: transfer.options,
-        kept: if transfer.options.preserve { Kept::All } else { Kept::Nothing },
+        kept: if transfer.options.preserve {
+            Kept::All
+        } else {
+            Kept::Nothing
+        },
     };
     let mut courier = new_courier(rt, sftp, run, manner);
     let reach = copy(&mut courier, transfer);
@@ -130,11 +134,7 @@ fn copy_over<L: Connection + Drop>(
 
 /// Makes one tree like another over a session, and returns the result. Files are given the times of their sources, by
 /// which the next run knows that they did not change.
-fn mirror_over<L: Connection + Drop>(
-    rt: &HostRuntime,
-    sftp: Sftp<L>,
-    mirror: &Mirror<'_>,
-) -> Reach
+fn mirror_over<L: Connection + Drop>(rt: &HostRuntime, sftp: Sftp<L>, mirror: &Mirror<'_>) -> Reach
     requires { IsGoing L.LinkState.state sftp }
 {
     let Some(run) = run_number(rt) else {
@@ -143,7 +143,11 @@ fn mirror_over<L: Connection + Drop>(
     let manner = Manner {
         way: mirror.way,
         options: mirror.options,
-        kept: if mirror.options.preserve { Kept::All } else { Kept::Times },
+        kept: if mirror.options.preserve {
+            Kept::All
+        } else {
+            Kept::Times
+        },
     };
     let mut courier = new_courier(rt, sftp, run, manner);
     let reach = mirror_trees(&mut courier, mirror);
