@@ -213,6 +213,28 @@ tell 'the front, several sources up' $?
 front list "t:$room/far/into"
 [ $status -eq 0 ] && [ "$(sort "$room/out" | tr '\n' ' ')" = 'empty sub ' ]
 tell 'the front, a listing' $?
+front mkdir -p "t:$room/far/www/releases"
+[ $status -eq 0 ] && [ -d "$room/far/www/releases" ]
+tell 'the front, directories' $?
+front push --delete "$room/near/sub" "t:$room/far/www/releases/1"
+[ $status -eq 0 ] && diff -r "$room/near/sub" "$room/far/www/releases/1"
+tell 'the front, a directory that is made like another' $?
+front push -n --delete --exclude '*.none' "$room/near/sub" "t:$room/far/www/releases/1"
+[ $status -eq 0 ] && ! [ -s "$room/out" ]
+tell 'the front, nothing that changed' $?
+front link releases/1 "t:$room/far/www/next"
+front move "t:$room/far/www/next" "t:$room/far/www/current"
+[ $status -eq 0 ] && [ "$(readlink "$room/far/www/current")" = releases/1 ]
+tell 'the front, a link that gets its name' $?
+front chmod 700 "t:$room/far/www"
+[ $status -eq 0 ] && [ "$(stat -c %a "$room/far/www")" = 700 ]
+tell 'the front, permissions' $?
+front pull "t:$room/far/www/releases/1" "$room/pulled"
+[ $status -eq 0 ] && diff -r "$room/near/sub" "$room/pulled"
+tell 'the front, a local directory that is made like another' $?
+front remove -r "t:$room/far/www"
+[ $status -eq 0 ] && ! [ -e "$room/far/www" ]
+tell 'the front, a tree that is removed' $?
 front get "locked:$room/far/file" "$room/got"
 [ $status -eq 0 ] && [ "$(cat "$room/got")" = hello ]
 tell 'the front, with a key that has a passphrase' $?

@@ -93,6 +93,40 @@ if mount -t tmpfs -o size=8m tmpfs "$room/full" 2>"$room/err"; then
     umount "$room/full"
 fi
 
+# ---- files that are written through to the disk before they have their names
+
+printf '#!/bin/sh\nexec %s -e -l DEBUG3 2>>%s\n' "$server" "$room/log" >"$room/logs"
+chmod +x "$room/logs"
+socat "UNIX-LISTEN:$room/logged,fork" "EXEC:$room/logs" 2>/dev/null &
+ninth=$!
+socat "UNIX-LISTEN:$room/unsynced,fork" "EXEC:$server -P fsync" 2>/dev/null &
+tenth=$!
+trap 'kill $first $second $third $sixth $seventh $ninth $tenth 2>/dev/null; rm -rf "$room"' EXIT
+for each in logged unsynced; do
+    tries=0
+    while ! [ -S "$room/$each" ] && [ $tries -lt 100 ]; do
+        sleep 0.1
+        tries=$((tries + 1))
+    done
+done
+run logged put --sync "$room/near/big" "$room/far/synced"
+[ $status -eq 0 ] && cmp -s "$room/near/big" "$room/far/synced" && ! [ -s "$room/err" ] &&
+    [ "$(grep -oE '^(fsync|posix-rename) ' "$room/log" | tr -d '\n')" = 'fsync posix-rename ' ]
+tell 'a file of the server is written through to the disk' $?
+run unsynced put --sync "$room/near/big" "$room/far/synced"
+[ $status -eq 0 ] && grep -q 'the server does not offer fsync@openssh.com' "$room/err"
+tell 'a server that writes nothing through to the disk' $?
+run socket get --sync "$room/far/file" "$room/near/synced"
+[ $status -eq 0 ] && cmp -s "$room/far/file" "$room/near/synced" && ! [ -s "$room/err" ]
+tell 'a local file is written through to the disk' $?
+if command -v strace >/dev/null; then
+    timeout 60 strace -o "$room/calls" -e trace=fsync,rename "$program" "unix:$room/socket" get --sync "$room/far/file" \
+        "$room/near/synced" 2>"$room/err"
+    status=$?
+    [ $status -eq 0 ] && [ "$(grep -oE '^(fsync|rename)' "$room/calls" | tr '\n' ' ')" = 'fsync rename fsync ' ]
+    tell 'a local file and then its directory are written through to the disk' $?
+fi
+
 # ---- two runs at once on one target: in the end it is one of the two files, whole
 
 head -c 30000000 /dev/zero >"$room/near/zeros"
