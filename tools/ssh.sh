@@ -185,8 +185,16 @@ tell 'two runs at once over one connection' $?
 run get "$room/far/missing" "$room/three"
 [ $status -eq 1 ] && grep -q "^sftp_transfer: $room/far/missing: " "$room/err"
 tell 'a file that is missing' $?
-(sleep 0.3 && ssh -S "$room/m" -O exit t 2>/dev/null) &
-run get "$room/far/near/large" "$room/far/near/large" "$room/far/near/large" "$room/far/near/large" "$room/cut"
+# the master ends once the copy has begun, which has one request in flight, so that it isn't done before
+(
+    tries=0
+    while [ -z "$(find "$room/cut" -name '*.part' 2>/dev/null)" ] && [ $tries -lt 1000 ]; do
+        sleep 0.01
+        tries=$((tries + 1))
+    done
+    ssh -S "$room/m" -O exit t 2>/dev/null
+) &
+run get --window 1 "$room/far/near/large" "$room/far/near/large" "$room/cut"
 wait $!
 [ $status -eq 7 ] && grep -q '^sftp_transfer: ssh: the connection to the master was lost$' "$room/err" &&
     ! [ -e "$room/cut/large" ]
