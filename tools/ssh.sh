@@ -55,7 +55,7 @@ serve() {
     name=$1
     tries=0
     while [ $tries -lt 20 ]; do
-        port=$((20000 + ($$ + tries * 977 + $(date +%S) * 31) % 10000))
+        port=$((20000 + ($$ + tries * 977 + 1$(date +%S) * 31) % 10000))
         tries=$((tries + 1))
         listens "$port" && continue
         cat >"$room/$name.conf" <<END
