@@ -410,8 +410,8 @@ def put_file(program, server, status, cause, wanted):
         expect(case, ended == status, f"status {ended}, {status} wanted: {told[:200]}")
         expect(case, cause in told, f"{cause!r} isn't told: {told[:200]}")
         expect(case, server.files.get(b"/up") == wanted, "there are other bytes under the name")
-        if status == 1:
-            expect(case, not server.files.keys() - {b"/up", b"/a"}, f"a part is left: {sorted(server.files)}")
+        if status in (0, 1):
+            expect(case, not server.files.keys() - {b"/up", b"/a"}, f"another file is left: {sorted(server.files)}")
 
 
 def put_tree(program, server, status, cause, wanted):

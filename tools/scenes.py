@@ -8,7 +8,10 @@ a name has its old or its whole content.
 import os, signal, socket, subprocess, sys, tempfile, threading
 
 import hostile
-from hostile import CLOSE, DATA, EOF, FILE, HANDLE, INIT, NO_SUCH_FILE, READ, RENAME, VERSION, Server, Tree, number, string
+from hostile import (
+    CLOSE, DATA, EOF, FAILURE, FILE, HANDLE, INIT, MKDIR, NO_SUCH_FILE, READ, REMOVE, RENAME, VERSION, Server, Tree, number,
+    string,
+)
 
 EXTENDED, EXTENDED_REPLY = 200, 201
 
@@ -73,8 +76,14 @@ class HasOld(Server):
         self.files = {b"/up": b"old"}
 
 
+def renamed(body):
+    """The two names of a RENAME."""
+    length = int.from_bytes(body[4:8], "big")
+    return body[8:8 + length], body[12 + length:]
+
+
 class RefusesRenames(HasOld):
-    """Each RENAME is refused with this status, which is not FAILURE."""
+    """Each RENAME is refused with this status."""
     def __init__(self, code):
         super().__init__()
         self.code = code
@@ -82,6 +91,68 @@ class RefusesRenames(HasOld):
     def answer(self, kind, body):
         if kind == RENAME:
             return self.status(int.from_bytes(body[:4], "big"), self.code)
+        return super().answer(kind, body)
+
+
+class RefusesParts(HasOld):
+    """Each RENAME of a part is refused, the first with FAILURE and later ones with this status."""
+    def __init__(self, code):
+        super().__init__()
+        self.codes = [code, FAILURE]
+
+    def answer(self, kind, body):
+        if kind == RENAME and renamed(body)[0].endswith(b".part"):
+            return self.status(int.from_bytes(body[:4], "big"), self.codes.pop() if self.codes[1:] else self.codes[0])
+        return super().answer(kind, body)
+
+
+class KeepsOld(HasOld):
+    """Each REMOVE is refused."""
+    def answer(self, kind, body):
+        if kind == REMOVE:
+            return self.status(int.from_bytes(body[:4], "big"), FAILURE)
+        return super().answer(kind, body)
+
+
+class RefusesBack(HasOld):
+    """Each RENAME of a part is refused, and each one of a file that is aside."""
+    def answer(self, kind, body):
+        if kind == RENAME and renamed(body)[0].endswith((b".part", b".old")):
+            return self.status(int.from_bytes(body[:4], "big"), FAILURE)
+        return super().answer(kind, body)
+
+
+class HasFolder(Server):
+    """A folder has the name that a file is to get."""
+    def __init__(self):
+        super().__init__()
+        self.files = {}
+        self.folders[b"/up/ab"] = []
+        self.moved = False
+
+    def answer(self, kind, body):
+        id = int.from_bytes(body[:4], "big")
+        if kind == MKDIR:
+            self.folders[body[8:8 + int.from_bytes(body[4:8], "big")]] = []
+        if kind == RENAME:
+            old, to = renamed(body)
+            self.moved |= old in self.folders
+            if to in self.folders or old in self.folders:
+                return self.status(id, FAILURE)
+        return super().answer(kind, body)
+
+
+class LongNameOld(HasOld):
+    """A name of 255 bytes has a file, and no name may have more."""
+    name = b"/" + b"n" * 255
+
+    def __init__(self):
+        super().__init__()
+        self.files = {self.name: b"old"}
+
+    def answer(self, kind, body):
+        if kind == RENAME and any(len(name) > 256 for name in renamed(body)):
+            return self.status(int.from_bytes(body[:4], "big"), FAILURE)
         return super().answer(kind, body)
 
 
@@ -117,8 +188,34 @@ def allowed(program):
         server = FewBytes(step)
         hostile.get_file(program, server, 0, "", server.files[b"/a"])
     hostile.put_file(program, HasOld(), 0, "", b"abc" * 100)
-    for code in (NO_SUCH_FILE, 3, 8):
+    for code in (NO_SUCH_FILE, 3, FAILURE, 8):
         hostile.put_file(program, RefusesRenames(code), 1, f"(status {code})", b"old")
+        hostile.put_file(program, RefusesParts(code), 1, f"(status {code})", b"old")
+    kept_aside(program)
+
+
+def kept_aside(program):
+    """The old file stays aside if it can't be removed or renamed back, and a folder and a long name are no such case."""
+    new = b"abc" * 100
+    for server, status, named in ((KeepsOld(), 0, new), (RefusesBack(), 1, None)):
+        with tempfile.TemporaryDirectory() as folder:
+            with open(os.path.join(folder, "up"), "wb") as f:
+                f.write(new)
+            ended, told = hostile.run(program, folder, server, ["put", "up", "/up"])
+        case = type(server).__name__
+        hostile.expect(case, ended == status, f"status {ended}: {told[:200]}")
+        hostile.expect(case, server.files.pop(b"/up", None) == named, "there are other bytes under the name")
+        left = list(server.files.items())
+        hostile.expect(case, len(left) == 1 and left[0][0].endswith(b".part.old") and left[0][1] == b"old", f"{left} is left")
+    server = HasFolder()
+    hostile.put_tree(program, server, 1, "up/ab", {b"/up/a/b": b"a/b"})
+    hostile.expect("HasFolder", not server.moved, "the folder was renamed")
+    server = LongNameOld()
+    with tempfile.TemporaryDirectory() as folder:
+        with open(os.path.join(folder, "up"), "wb") as f:
+            f.write(new)
+        ended, told = hostile.run(program, folder, server, ["put", "up", os.fsdecode(server.name)])
+    hostile.expect("LongNameOld", ended == 0 and server.files == {server.name: new}, f"status {ended}: {told[:200]}")
 
 
 def ended(program, way, at, sign):
@@ -149,8 +246,8 @@ def ended(program, way, at, sign):
         else:
             now = server.files.get(b"/far")
         hostile.expect(case, status in (0, -sign), f"status {status}")
-        # without posix-rename the old file is removed before the new one gets its name
-        between = way == "put" and now is None and any(kept == new for kept in server.files.values())
+        # without posix-rename the old file is aside before the new one gets its name
+        between = way == "put" and now is None and {old, new} <= set(server.files.values())
         hostile.expect(case, now in (old, new) or between, f"{len(now or b'')} bytes have the name")
         hostile.expect(case, status != 0 or now == new, "the status is 0, and the name has the old bytes")
 
@@ -159,7 +256,7 @@ def main():
     program = os.path.abspath(sys.argv[1])
     allowed(program)
     for sign in (signal.SIGKILL, signal.SIGTERM, signal.SIGINT):
-        for at in range(1, 15):
+        for at in range(1, 19):
             ended(program, "get", at, sign)
             ended(program, "put", at, sign)
     for failure in hostile.failures:

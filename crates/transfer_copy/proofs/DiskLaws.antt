@@ -8,11 +8,13 @@ use Rattle.sftp_model.specs.Pieces.{joined_pieces}
 use Rattle.transfer_copy.specs.Disks.{Disk, IsCopied, after_act, with_file}
 use Rattle.transfer_copy.specs.Local.{Created, Renamed, Reopened, Wrote, all_done, naming_acts, writes_of}
 
-here : (files : List ℕ → Option (List ℕ)) (name : List ℕ) (bytes : Option (List ℕ)) → with_file files name bytes name
+pub here : (files : List ℕ → Option (List ℕ)) (name : List ℕ) (bytes : Option (List ℕ))
+    → with_file files name bytes name
     ≡ bytes
 here files name bytes = ap (λ (b : Bool). if b then bytes else files name) ((bytes_eq-Decides name name).1 refl)
 
-elsewhere : (files : List ℕ → Option (List ℕ)) (name : List ℕ) (bytes : Option (List ℕ)) (other : List ℕ) → other ≢ name
+pub elsewhere : (files : List ℕ → Option (List ℕ)) (name : List ℕ) (bytes : Option (List ℕ)) (other : List ℕ)
+    → other ≢ name
     → with_file files name bytes other ≡ files other
 elsewhere files name bytes other ne = ap (λ (b : Bool). if b then bytes else files other)
     (by_test (bytes_eq other name) refl)

@@ -14,3 +14,5 @@ mod SyncLaws
 mod WholePutLaws
 mod WholePutStages
 pub mod WholePutSteps
+mod AsideLaws
+mod KeptFileLaws

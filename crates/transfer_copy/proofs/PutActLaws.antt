@@ -12,7 +12,8 @@ use Rattle.transfer_copy.specs.declared.put.PutStage.TheVariants as stage
 use Rattle.transfer_copy.specs.Acts.{HasReadFile, IsReadOnly, SentAfter, SentSoFar, end_acts}
 use Rattle.transfer_copy.specs.Holdings.{HoldingValue, bytes_under_way}
 use Rattle.transfer_copy.specs.Local.{AreGot, Failed, Got, HasDone, IsGot, LocalAct, Opened, reads_of}
-use Rattle.transfer_copy.specs.Puts.{AcceptsWrite, IsWritingOn, MayPut, PutAsksAttrs, PutAsksSync, PutNamed, PutStepDid, PutFinishes, PutGivesUp, PutReadsNext, PutSentAll, StandsPut, PutWritesNext, rename_stage}
+use Rattle.transfer_copy.specs.PutEnds.{PutNamed, PutStepDid, rename_stage}
+use Rattle.transfer_copy.specs.Puts.{AcceptsWrite, IsWritingOn, MayPut, PutAsksAttrs, PutAsksSync, PutFinishes, PutGivesUp, PutReadsNext, PutSentAll, StandsPut, PutWritesNext}
 use Rattle.transfer_copy.specs.PutRequests.{offers_rename}
 use Rattle.transfer_copy.proofs.ActLaws.{acts_join, failed_is, total_last}
 
@@ -340,17 +341,15 @@ sent_on done name part remote from core after old new first before now stage.Clo
     (never, same) = absurd never
 sent_on done name part remote from core after old new first before now stage.Replacing result at may so (named, same) =
     named_so done name from core after old new first before now stage.Replacing result at so so named same
-sent_on done name part remote from core after old new first before now stage.RenamingAgain result at may so
-    (named, same) =
-    named_so done name from core after old new first before now stage.RenamingAgain result at so so named same
 sent_on done name part remote from core after old new first before now stage.Renaming progress.Waits at may so
     ((missing, (core_is, is)), same) =
     put_still done name from old new first before now stage.Renaming at so is same
 sent_on done name part remote from core after old new first before now stage.Renaming progress.Moved at may so
     (asks, same) =
-    subst (λ (s : PutStage). SentSoFar done name from new first now s) (sym (ap (λ (x : FilePut). x.stage) asks.asks.1))
+    subst (λ (s : PutStage). SentSoFar done name from new first now s)
+    (sym (ap (λ (x : FilePut). x.stage) asks.asks.asks.1))
     (read_still done name from true old.offset new.offset first before now so same
-    (ap (λ (x : FilePut). x.offset) asks.asks.1))
+    (ap (λ (x : FilePut). x.offset) asks.asks.asks.1))
 sent_on done name part remote from core after old new first before now stage.Renaming (progress.Ended (Ok len)) at may
     so ((ok, len_is, over), same) =
     read_still done name from true old.offset len first before now so same len_is
@@ -372,18 +371,67 @@ sent_on done name part remote from core after old new first before now stage.Che
     now so same refl)
 sent_on done name part remote from core after old new first before now stage.Checking (progress.Ended (Ok len)) at may
     so (never, same) = absurd never
-sent_on done name part remote from core after old new first before now stage.Removing progress.Waits at may so
+sent_on done name part remote from core after old new first before now stage.SettingAside progress.Waits at may so
     ((missing, (core_is, is)), same) =
-    put_still done name from old new first before now stage.Removing at so is same
-sent_on done name part remote from core after old new first before now stage.Removing progress.Moved at may so
+    put_still done name from old new first before now stage.SettingAside at so is same
+sent_on done name part remote from core after old new first before now stage.SettingAside progress.Moved at may so
     (asks, same) =
     subst (λ (s : PutStage). SentSoFar done name from new first now s) (sym (ap (λ (x : FilePut). x.stage) asks.asks.1))
     (read_still done name from true old.offset new.offset first before now so same
     (ap (λ (x : FilePut). x.offset) asks.asks.1))
-sent_on done name part remote from core after old new first before now stage.Removing (progress.Ended (Err e)) at may so
+sent_on done name part remote from core after old new first before now stage.SettingAside (progress.Ended (Err e)) at
+    may so
     (over, same) =
     read_of done name from true old.offset first now (read_still done name from true old.offset old.offset first before
     now so same refl)
-sent_on done name part remote from core after old new first before now stage.Removing (progress.Ended (Ok len)) at may
+sent_on done name part remote from core after old new first before now stage.SettingAside (progress.Ended (Ok len)) at
+    may
+    so (never, same) = absurd never
+sent_on done name part remote from core after old new first before now stage.RenamingAgain progress.Waits at may so
+    ((missing, (core_is, is)), same) =
+    put_still done name from old new first before now stage.RenamingAgain at so is same
+sent_on done name part remote from core after old new first before now stage.RenamingAgain progress.Moved at may so
+    (inl asks, same) =
+    subst (λ (s : PutStage). SentSoFar done name from new first now s) (sym (ap (λ (x : FilePut). x.stage) asks.asks.1))
+    (read_still done name from true old.offset new.offset first before now so same
+    (ap (λ (x : FilePut). x.offset) asks.asks.1))
+sent_on done name part remote from core after old new first before now stage.RenamingAgain progress.Moved at may so
+    (inr asks, same) =
+    subst (λ (s : PutStage). SentSoFar done name from new first now s)
+    (sym (ap (λ (x : FilePut). x.stage) asks.asks.asks.1))
+    (read_still done name from true old.offset new.offset first before now so same
+    (ap (λ (x : FilePut). x.offset) asks.asks.asks.1))
+sent_on done name part remote from core after old new first before now stage.RenamingAgain (progress.Ended (Ok len)) at
+    may
+    so (((e, asks), len_is), same) =
+    read_still done name from true old.offset len first before now so same len_is
+sent_on done name part remote from core after old new first before now stage.RenamingAgain (progress.Ended (Err e)) at
+    may so
+    (over, same) =
+    read_of done name from true old.offset first now (read_still done name from true old.offset old.offset first before
+    now so same refl)
+sent_on done name part remote from core after old new first before now stage.RemovingOld progress.Waits at may so
+    ((missing, (core_is, is)), same) =
+    put_still done name from old new first before now stage.RemovingOld at so is same
+sent_on done name part remote from core after old new first before now stage.RemovingOld progress.Moved at may
+    so (never, same) = absurd never
+sent_on done name part remote from core after old new first before now stage.RemovingOld (progress.Ended (Ok len)) at
+    may
+    so ((settled, len_is, over), same) =
+    read_still done name from true old.offset len first before now so same len_is
+sent_on done name part remote from core after old new first before now stage.RemovingOld (progress.Ended (Err e)) at may
+    so (never, same) = absurd never
+sent_on done name part remote from core after old new first before now stage.RestoringOld progress.Waits at may so
+    ((missing, (core_is, is)), same) =
+    put_still done name from old new first before now stage.RestoringOld at so is same
+sent_on done name part remote from core after old new first before now stage.RestoringOld progress.Moved at may
+    so (never, same) = absurd never
+sent_on done name part remote from core after old new first before now stage.RestoringOld (progress.Ended (Err e)) at
+    may so
+    (over, same) =
+    read_of done name from true old.offset first now (read_still done name from true old.offset old.offset first before
+    now so same refl)
+sent_on done name part remote from core after old new first before now stage.RestoringOld (progress.Ended (Ok len)) at
+    may
     so (never, same) = absurd never
 sent_on done name part remote from core after old new first before now stage.Ended result at may so never = absurd never

@@ -1,6 +1,6 @@
 -- Steps of a copy to the server.
-use Rattle.std.proofs.Common.{◌≡◌, ◌⊎◌, inl, inr, ◌<◌, ℕ, ◌+◌, ◌^◌, Bool, false, List, [], ◌∷◌, length, refl, sym, ap, ◌∙◌, subst, arith, Option, Some, None}
-use Rattle.std.specs.Prelude.{Ok, Err, IsSome}
+use Rattle.std.proofs.Common.{◌≡◌, ◌⊎◌, inl, inr, ◌<◌, ℕ, ◌+◌, ◌^◌, Bool, true, false, List, [], ◌∷◌, length, refl, sym, ap, ◌∙◌, subst, arith, Option, Some, None}
+use Rattle.std.specs.Prelude.{Ok, Err, IsSome, Result}
 use Rattle.sftp_model.specs.Answers.{expected_of}
 use Rattle.sftp_model.specs.Numbers.{POSIX_RENAME}
 use Rattle.sftp_model.specs.declared.file_attrs.FileAttrs.{FileAttrs}
@@ -19,41 +19,58 @@ use Rattle.transfer_copy.specs.declared.progress.Progress.TheVariants as progres
 use Rattle.transfer_copy.specs.declared.put.FilePut.{FilePut}
 use Rattle.transfer_copy.specs.declared.put.PutStage.{PutStage}
 use Rattle.transfer_copy.specs.declared.put.PutStage.TheVariants as stage
+use Rattle.transfer_copy.specs.declared.holding.FileHold.TheVariants as hold
+use Rattle.transfer_copy.specs.Asides.{is_directory}
 use Rattle.transfer_copy.specs.Holdings.{
+  AsksFile,
   AsksForAttrs,
   AsksForPart,
   AsksForSync,
   AsksForWrite,
   HoldingValue,
   WasFound,
+  WasNotFound,
   WasNotOk,
   WasOk,
+  WasSettled,
   IsFileOpen,
+  IsOnly,
   KeepsApart,
   TakesPart,
   bytes_under_way,
   file_handle,
+  nothing_held,
+}
+use Rattle.transfer_copy.specs.PutEnds.{
+  AsksNaming,
+  ChecksOrFails,
+  EndsRefused,
+  EndsWriting,
+  FindsFile,
+  IsAside,
+  IsClosedAt,
+  NamedAgain,
+  NamedOrChecks,
+  OldRestored,
+  RemovesOld,
+  rename_stage,
 }
 use Rattle.transfer_copy.specs.Puts.{
   AcceptsWrite,
-  AsksAt,
-  ChecksOrFails,
-  EndsWriting,
-  FindsPart,
-  IsClosedAt,
+  IsBetween,
+  IsNaming,
+  IsPutUnended,
   IsWritingOn,
-  NamedOrChecks,
-  PutGivesUp,
-  PutLeaves,
-  PutsNoMore,
-  RemovesTarget,
-  PutSendsOn,
   PutEndsSending,
+  PutGivesUp,
+  PutHasEnded,
+  PutLeaves,
+  PutSendsOn,
+  PutsNoMore,
   StandsPut,
   WritesOn,
-  rename_stage,
 }
-use Rattle.transfer_copy.specs.PutRequests.{has_extension, offers_rename, rename_of}
+use Rattle.transfer_copy.specs.PutRequests.{has_extension, naming_request, offers_rename}
 use Rattle.transfer_copy.specs.Local.{LocalAct}
 use Rattle.transfer_copy.proofs.GetLaws.{last_bytes, still_open}
 use Rattle.transfer_copy.proofs.HoldingLaws.{apart_both}
@@ -216,11 +233,67 @@ write_idle done core mid after old new left before now result idle sends =
 
 -- ---- the end
 
+naming_going : (to : PutStage) (kept : Option CopyError) → IsNaming to kept → IsPutUnended to
+naming_going stage.Replacing kept may = tt
+naming_going stage.Renaming kept may = tt
+naming_going stage.Checking kept may = tt
+naming_going stage.SettingAside kept may = tt
+naming_going stage.RenamingAgain kept may = tt
+naming_going stage.RemovingOld kept may = tt
+naming_going stage.RestoringOld kept may = tt
+naming_going stage.Starting kept never = absurd never
+naming_going stage.Opening kept never = absurd never
+naming_going stage.Writing kept never = absurd never
+naming_going stage.Closing kept never = absurd never
+naming_going stage.Ended kept never = absurd never
+
+naming_stands : (part remote : List ℕ) (to : PutStage) (p : FilePut) → IsNaming to p.failure
+    → IsOnly (expected_of (naming_request part remote to)) p.holding → StandsPut to p
+naming_stands part remote stage.Replacing p may only = only
+naming_stands part remote stage.Renaming p may only = only
+naming_stands part remote stage.Checking p may only = record { only = only; refused = may }
+naming_stands part remote stage.SettingAside p may only = record { only = only; refused = may }
+naming_stands part remote stage.RenamingAgain p may only = only
+naming_stands part remote stage.RemovingOld p may only = only
+naming_stands part remote stage.RestoringOld p may only = record { only = only; refused = may }
+naming_stands part remote stage.Starting p never only = absurd never
+naming_stands part remote stage.Opening p never only = absurd never
+naming_stands part remote stage.Writing p never only = absurd never
+naming_stands part remote stage.Closing p never only = absurd never
+naming_stands part remote stage.Ended p never only = absurd never
+
+-- the request of a stage is awaited there
+pub naming_asked : (core after : Core) (old : FilePut) (held : HoldingValue) (part remote : List ℕ) (to : PutStage)
+    → IsBetween core old → IsNaming to old.failure
+    → AsksFile core old.holding (naming_request part remote to) after held → KeepsApart old.holding held core after
+    → PutLeaves core old after (record old { holding = held; stage = to })
+naming_asked core after old held part remote to between may asks apart =
+    let kind = expected_of (naming_request part remote to) in
+    let new : FilePut = record old { holding = held; stage = to } in
+    let holds : held ≡ record { file = hold.Asked asks.ticket kind; parts = [] } =
+    asks.now ∙ ap (λ (h : HoldingValue). record h { file = hold.Asked asks.ticket kind }) between.none in
+    record {
+      putting = record {
+        opened = still_open core after old.holding held apart between.opened;
+        held = apart.held;
+        stands = naming_stands part remote to new may (asks.ticket, holds);
+      };
+      apart = apart;
+    }
+
+pub naming_moved : (to : PutStage) (kept : Option CopyError) → IsNaming to kept → PutHasEnded to progress.Moved
+naming_moved to kept may = naming_going to kept may
+
+pub refused_ended : (old new : FilePut) (result : Progress) → EndsRefused old new result → PutHasEnded new.stage result
+refused_ended old new (progress.Ended (Err e)) (some, is) = ap (λ (x : FilePut). x.stage) is
+refused_ended old new (progress.Ended (Ok len)) never = absurd never
+refused_ended old new progress.Waits never = absurd never
+refused_ended old new progress.Moved never = absurd never
+
 named_close : (core mid after : Core) (old new : FilePut) (left : HoldingValue) (part remote : List ℕ)
     (result : Progress)
     → WasOk core old.holding mid left → old.failure ≡ None
-    → AsksAt (rename_of part remote (offers_rename core)) (rename_stage (offers_rename core)) mid
-    (record old { holding = left }) after new result
+    → AsksNaming part remote (rename_stage (offers_rename core)) mid (record old { holding = left }) after new result
     → EndsWriting part remote core old after new result
 named_close core mid after old new left part remote progress.Waits ok none never = absurd never
 named_close core mid after old new left part remote progress.Moved ok none asks =
@@ -243,48 +316,158 @@ pub put_closed : (core mid after : Core) (old new : FilePut) (left : HoldingValu
     → EndsWriting part remote core old after new result
 put_closed core mid after old new left part remote result ok phase (inl (none, asks)) =
     named_close core mid after old new left part remote result ok none
-    (subst (λ (b : Bool). AsksAt (rename_of part remote b) (rename_stage b) mid (record old { holding = left }) after
-    new result) (ap (λ (p : Handshake). has_extension POSIX_RENAME (info_of p)) phase) asks)
+    (subst (λ (b : Bool). AsksNaming part remote (rename_stage b) mid (record old { holding = left }) after new result)
+    (ap (λ (p : Handshake). has_extension POSIX_RENAME (info_of p)) phase) asks)
 put_closed core mid after old new left part remote result ok phase (inr (first, some, is, same, over)) =
     failed_close core mid after old new part remote first result some is over
 
-pub put_checks : (core mid after : Core) (old new : FilePut) (left : HoldingValue) (part : List ℕ) (why : CopyError)
+pub put_checks : (core mid after : Core) (old new : FilePut) (left : HoldingValue) (part remote : List ℕ)
+    (why : CopyError)
     (result : Progress)
     → WasNotOk core old.holding mid left why
-    → ChecksOrFails why part mid (record old { holding = left }) after new result
-    → NamedOrChecks part core old after new result
-put_checks core mid after old new left part why progress.Waits not_ok (inl (failed, never)) = absurd never
-put_checks core mid after old new left part why progress.Moved not_ok (inl (failed, asks)) =
-    record { mid = mid; left = left; why = why; not_ok = not_ok; failed = failed; asks = asks }
-put_checks core mid after old new left part why (progress.Ended (Err e)) not_ok (inl (failed, asks)) =
-    inr (record { mid = mid; left = left; why = why; not_ok = not_ok; failed = failed; asks = asks })
-put_checks core mid after old new left part why (progress.Ended (Ok len)) not_ok (inl (failed, never)) = absurd never
-put_checks core mid after old new left part why result not_ok (inr (cause, is, same, now)) =
+    → ChecksOrFails why part remote mid (record old { holding = left }) after new result
+    → NamedOrChecks part remote core old after new result
+put_checks core mid after old new left part remote why progress.Waits not_ok (inl (failed, never)) = absurd never
+put_checks core mid after old new left part remote why progress.Moved not_ok (inl (failed, asks)) = record {
+  why = why;
+  failed = failed;
+  asks = record { mid = mid; left = left; not_ok = not_ok; asks = asks };
+}
+put_checks core mid after old new left part remote why (progress.Ended (Err e)) not_ok (inl (failed, asks)) =
+    inr (record {
+      why = why;
+      failed = failed;
+      asks = record { mid = mid; left = left; not_ok = not_ok; asks = asks };
+    })
+put_checks core mid after old new left part remote why (progress.Ended (Ok len)) not_ok (inl (failed, never)) =
+    absurd never
+put_checks core mid after old new left part remote why result not_ok (inr (cause, is, same, now)) =
     let holds : new.holding ≡ left = ap (λ (x : FilePut). x.holding) now in
     let left_so = subst (λ (h : HoldingValue). WasNotOk core old.holding mid h why) (sym holds) not_ok in
     let not_named = subst (λ (x : Core). WasNotOk core old.holding x new.holding why) (sym same) left_so in
-    subst (λ x. NamedOrChecks part core old after new x) (sym is)
+    subst (λ x. NamedOrChecks part remote core old after new x) (sym is)
     (inl (not_named, cause, ap (λ (x : FilePut). x.stage) now))
 
-pub put_finds : (core mid after : Core) (old new : FilePut) (left : HoldingValue) (remote : List ℕ) (result : Progress)
-    → WasFound core old.holding mid left
-    → AsksAt (request.Remove remote) stage.Removing mid (record old { holding = left }) after new result
-    → FindsPart remote core old after new result
-put_finds core mid after old new left remote progress.Waits found never = absurd never
-put_finds core mid after old new left remote progress.Moved found asks =
-    record { mid = mid; left = left; found = found; asks = asks }
-put_finds core mid after old new left remote (progress.Ended (Err e)) found asks =
-    inr (record { mid = mid; left = left; found = found; asks = asks })
-put_finds core mid after old new left remote (progress.Ended (Ok len)) found never = absurd never
+pub put_finds : (core mid after : Core) (old new : FilePut) (left : HoldingValue) (part remote : List ℕ)
+    (attrs : FileAttrs) (result : Progress)
+    → WasFound attrs core old.holding mid left → is_directory attrs ≡ false
+    → AsksNaming part remote stage.SettingAside mid (record old { holding = left }) after new result
+    → FindsFile part remote core old after new result
+put_finds core mid after old new left part remote attrs progress.Waits found plain never = absurd never
+put_finds core mid after old new left part remote attrs progress.Moved found plain asks =
+    record { mid = mid; left = left; attrs = attrs; found = found; plain = plain; asks = asks }
+put_finds core mid after old new left part remote attrs (progress.Ended (Err e)) found plain asks =
+    inr (record { mid = mid; left = left; attrs = attrs; found = found; plain = plain; asks = asks })
+put_finds core mid after old new left part remote attrs (progress.Ended (Ok len)) found plain never = absurd never
 
-pub put_removed : (core mid after : Core) (old new : FilePut) (left : HoldingValue) (part remote : List ℕ)
+pub put_finds_none : (core after : Core) (old new : FilePut) (left : HoldingValue) (part remote : List ℕ)
+    (result : Progress) → WasNotFound core old.holding after left
+    → EndsRefused (record old { holding = left }) new result → FindsFile part remote core old after new result
+put_finds_none core after old new left part remote (progress.Ended (Err e)) none (some, is) =
+    let at = subst (λ (h : HoldingValue). WasNotFound core old.holding after h)
+    (sym (ap (λ (x : FilePut). x.holding) is)) none in
+    inl (inl at, some, ap (λ (x : FilePut). x.stage) is)
+put_finds_none core after old new left part remote (progress.Ended (Ok len)) none never = absurd never
+put_finds_none core after old new left part remote progress.Waits none never = absurd never
+put_finds_none core after old new left part remote progress.Moved none never = absurd never
+
+pub put_finds_directory : (core after : Core) (old new : FilePut) (left : HoldingValue) (part remote : List ℕ)
+    (attrs : FileAttrs) (result : Progress) → WasFound attrs core old.holding after left → is_directory attrs ≡ true
+    → EndsRefused (record old { holding = left }) new result → FindsFile part remote core old after new result
+put_finds_directory core after old new left part remote attrs (progress.Ended (Err e)) found yes_one (some, is) =
+    let at = subst (λ (h : HoldingValue). WasFound attrs core old.holding after h)
+    (sym (ap (λ (x : FilePut). x.holding) is)) found in
+    inl (inr (attrs, at, yes_one), some, ap (λ (x : FilePut). x.stage) is)
+put_finds_directory core after old new left part remote attrs (progress.Ended (Ok len)) found yes_one never =
+    absurd never
+put_finds_directory core after old new left part remote attrs progress.Waits found yes_one never = absurd never
+put_finds_directory core after old new left part remote attrs progress.Moved found yes_one never = absurd never
+
+pub put_aside : (core mid after : Core) (old new : FilePut) (left : HoldingValue) (part remote : List ℕ)
     (result : Progress)
-    → WasOk core old.holding mid left → AsksAt (rename_of part remote false) stage.RenamingAgain mid
-    (record old { holding = left }) after new result
-    → RemovesTarget part remote core old after new result
-put_removed core mid after old new left part remote progress.Waits ok never = absurd never
-put_removed core mid after old new left part remote progress.Moved ok asks =
+    → WasOk core old.holding mid left
+    → AsksNaming part remote stage.RenamingAgain mid (record old { holding = left }) after new result
+    → IsAside part remote core old after new result
+put_aside core mid after old new left part remote progress.Waits ok never = absurd never
+put_aside core mid after old new left part remote progress.Moved ok asks =
     record { mid = mid; left = left; ok = ok; asks = asks }
-put_removed core mid after old new left part remote (progress.Ended (Err e)) ok asks =
+put_aside core mid after old new left part remote (progress.Ended (Err e)) ok asks =
     inr (record { mid = mid; left = left; ok = ok; asks = asks })
-put_removed core mid after old new left part remote (progress.Ended (Ok len)) ok never = absurd never
+put_aside core mid after old new left part remote (progress.Ended (Ok len)) ok never = absurd never
+
+pub put_not_aside : (core after : Core) (old new : FilePut) (left : HoldingValue) (part remote : List ℕ)
+    (why : CopyError) (result : Progress) → WasNotOk core old.holding after left why
+    → EndsRefused (record old { holding = left }) new result → IsAside part remote core old after new result
+put_not_aside core after old new left part remote why (progress.Ended (Err e)) not_ok (some, is) =
+    let at = subst (λ (h : HoldingValue). WasNotOk core old.holding after h why)
+    (sym (ap (λ (x : FilePut). x.holding) is)) not_ok in
+    inl ((why, at), some, ap (λ (x : FilePut). x.stage) is)
+put_not_aside core after old new left part remote why (progress.Ended (Ok len)) not_ok never = absurd never
+put_not_aside core after old new left part remote why progress.Waits not_ok never = absurd never
+put_not_aside core after old new left part remote why progress.Moved not_ok never = absurd never
+
+pub put_unasked : (core after : Core) (old new : FilePut) (part remote : List ℕ) (result : Result ℕ CopyError)
+    (asked : Progress) → asked ≡ progress.Ended result
+    → AsksNaming part remote stage.RemovingOld core old after new asked
+    → RemovesOld part remote core old after new (progress.Ended (Ok new.offset))
+put_unasked core after old new part remote (Err e) asked is asks =
+    let unasked = subst (λ x. AsksNaming part remote stage.RemovingOld core old after new x) is asks in
+    ((e, unasked), ap (λ (p : FilePut). p.offset) unasked.1)
+put_unasked core after old new part remote (Ok len) asked is asks =
+    absurd (subst (λ x. AsksNaming part remote stage.RemovingOld core old after new x) is asks)
+
+pub put_again : (core mid after : Core) (old new : FilePut) (left : HoldingValue) (part remote : List ℕ)
+    (result : Progress)
+    → WasOk core old.holding mid left
+    → RemovesOld part remote mid (record old { holding = left }) after new result
+    → NamedAgain part remote core old after new result
+put_again core mid after old new left part remote progress.Waits ok never = absurd never
+put_again core mid after old new left part remote progress.Moved ok asks =
+    inl (record { mid = mid; left = left; ok = ok; asks = asks })
+put_again core mid after old new left part remote (progress.Ended (Err e)) ok never = absurd never
+put_again core mid after old new left part remote (progress.Ended (Ok len)) ok ((e, asks), len_is) =
+    ((e, record { mid = mid; left = left; ok = ok; asks = asks }), len_is)
+
+pub put_restores : (core mid after : Core) (old new : FilePut) (left : HoldingValue) (part remote : List ℕ)
+    (why : CopyError) (result : Progress)
+    → WasNotOk core old.holding mid left why
+    → AsksNaming part remote stage.RestoringOld mid (record old { holding = left; failure = Some why }) after new result
+    → NamedAgain part remote core old after new result
+put_restores core mid after old new left part remote why progress.Waits not_ok never = absurd never
+put_restores core mid after old new left part remote why progress.Moved not_ok asks =
+    inr (record { why = why; asks = record { mid = mid; left = left; not_ok = not_ok; asks = asks } })
+put_restores core mid after old new left part remote why (progress.Ended (Err e)) not_ok asks =
+    record { why = why; asks = record { mid = mid; left = left; not_ok = not_ok; asks = asks } }
+put_restores core mid after old new left part remote why (progress.Ended (Ok len)) not_ok never = absurd never
+
+pub put_restored : (core after : Core) (old new : FilePut) (left : HoldingValue) (result : Progress)
+    → WasSettled core old.holding after left → EndsRefused (record old { holding = left }) new result
+    → OldRestored core old after new result
+put_restored core after old new left (progress.Ended (Err e)) settled (some, is) =
+    let at = subst (λ (h : HoldingValue). WasSettled core old.holding after h)
+    (sym (ap (λ (x : FilePut). x.holding) is)) settled in
+    (at, some, ap (λ (x : FilePut). x.stage) is)
+put_restored core after old new left (progress.Ended (Ok len)) settled never = absurd never
+put_restored core after old new left progress.Waits settled never = absurd never
+put_restored core after old new left progress.Moved settled never = absurd never
+
+-- ---- what remains after the copy ended with a refusal that was kept
+
+pub refused_leaves : (core mid : Core) (old new : FilePut) (left : HoldingValue) (result : Progress)
+    → IsSome (info_of core.phase) → left ≡ nothing_held → KeepsApart old.holding left core mid
+    → EndsRefused (record old { holding = left }) new result
+    → PutLeaves core old mid new
+refused_leaves core mid old new left (progress.Ended (Err e)) opened none apart (some, is) =
+    let holds = ap (λ (x : FilePut). x.holding) is in
+    let apart_so = subst (λ (h : HoldingValue). KeepsApart old.holding h core mid) (sym holds) apart in
+    record {
+      putting = record {
+        opened = still_open core mid old.holding new.holding apart_so opened;
+        held = apart_so.held;
+        stands = subst (λ (s : PutStage). StandsPut s new) (sym (ap (λ (x : FilePut). x.stage) is)) (holds ∙ none);
+      };
+      apart = apart_so;
+    }
+refused_leaves core mid old new left (progress.Ended (Ok len)) opened none apart never = absurd never
+refused_leaves core mid old new left progress.Waits opened none apart never = absurd never
+refused_leaves core mid old new left progress.Moved opened none apart never = absurd never

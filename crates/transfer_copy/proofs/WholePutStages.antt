@@ -9,15 +9,16 @@ use Rattle.transfer_copy.specs.declared.put.PutStage.{PutStage}
 use Rattle.transfer_copy.specs.declared.put.PutStage.TheVariants as stage
 use Rattle.transfer_copy.specs.Legs.{HasWaited, CopyStep}
 use Rattle.transfer_copy.specs.WholePuts.{
-  AsksAgain,
+  AsksAside,
+  AsksLook,
   AsksOpen,
-  AsksPart,
   AsksRemove,
   AsksRename,
   Closes,
   DidPut,
   PutDeed,
   SentWhole,
+  asked_again,
 }
 use Rattle.transfer_copy.proofs.LegLaws.{waits_on}
 use Rattle.transfer_copy.proofs.WholePutLaws.{
@@ -46,11 +47,14 @@ IsSentUpTo done name part remote sync from legs p first now stage.Replacing =
 IsSentUpTo done name part remote sync from legs p first now stage.Renaming =
     IsSent done name part remote sync from (AsksRename ∷ []) legs p.offset first now
 IsSentUpTo done name part remote sync from legs p first now stage.Checking =
-    IsSent done name part remote sync from (AsksPart ∷ AsksRename ∷ []) legs p.offset first now
-IsSentUpTo done name part remote sync from legs p first now stage.Removing =
-    IsSent done name part remote sync from (AsksRemove ∷ AsksPart ∷ AsksRename ∷ []) legs p.offset first now
+    IsSent done name part remote sync from (AsksLook ∷ AsksRename ∷ []) legs p.offset first now
+IsSentUpTo done name part remote sync from legs p first now stage.SettingAside =
+    IsSent done name part remote sync from (AsksAside ∷ AsksLook ∷ AsksRename ∷ []) legs p.offset first now
 IsSentUpTo done name part remote sync from legs p first now stage.RenamingAgain =
-    IsSent done name part remote sync from (AsksAgain ∷ AsksRemove ∷ AsksPart ∷ AsksRename ∷ []) legs p.offset first now
+    IsSent done name part remote sync from asked_again legs p.offset first now
+IsSentUpTo done name part remote sync from legs p first now stage.RemovingOld =
+    IsSent done name part remote sync from (AsksRemove ∷ asked_again) legs p.offset first now
+IsSentUpTo done name part remote sync from legs p first now stage.RestoringOld = Unit {0}
 IsSentUpTo done name part remote sync from legs p first now stage.Ended = Unit {0}
 
 abbrev pub IsSentAfter : {H : Type 0} → (LocalAct → H → H) → List ℕ → List ℕ → List ℕ → Bool → ℕ
@@ -137,15 +141,16 @@ waits_at done name part remote sync from legs leg p first now stage.Replacing wa
 waits_at done name part remote sync from legs leg p first now stage.Renaming waited so =
     sent_waits done name part remote sync from (AsksRename ∷ []) legs leg p.offset first now waited so
 waits_at done name part remote sync from legs leg p first now stage.Checking waited so =
-    sent_waits done name part remote sync from (AsksPart ∷ AsksRename ∷ []) legs leg p.offset first now waited so
-waits_at done name part remote sync from legs leg p first now stage.Removing waited so =
-    sent_waits done name part remote sync from (AsksRemove ∷ AsksPart ∷ AsksRename ∷ []) legs leg p.offset first now
+    sent_waits done name part remote sync from (AsksLook ∷ AsksRename ∷ []) legs leg p.offset first now waited so
+waits_at done name part remote sync from legs leg p first now stage.SettingAside waited so =
+    sent_waits done name part remote sync from (AsksAside ∷ AsksLook ∷ AsksRename ∷ []) legs leg p.offset first now
     waited
     so
 waits_at done name part remote sync from legs leg p first now stage.RenamingAgain waited so =
-    sent_waits done name part remote sync from (AsksAgain ∷ AsksRemove ∷ AsksPart ∷ AsksRename ∷ []) legs leg p.offset
-    first
-    now waited so
+    sent_waits done name part remote sync from asked_again legs leg p.offset first now waited so
+waits_at done name part remote sync from legs leg p first now stage.RemovingOld waited so =
+    sent_waits done name part remote sync from (AsksRemove ∷ asked_again) legs leg p.offset first now waited so
+waits_at done name part remote sync from legs leg p first now stage.RestoringOld waited so = tt
 waits_at done name part remote sync from legs leg p first now stage.Ended waited so = tt
 
 pub put_waits : {H : Type 0} (done : LocalAct → H → H) (name part remote : List ℕ) (sync : Bool) (from : ℕ)

@@ -3,6 +3,7 @@ use Rattle.std.proofs.Common.{◌≡◌, inl, inr, ℕ, Bool, true, false, List,
 use Rattle.std.specs.Prelude.{Ok, Err, Option, Some}
 use Rattle.sftp_model.specs.declared.file_attrs.FileAttrs.{FileAttrs}
 use Rattle.sftp_core.specs.Core.{Core}
+use Rattle.transfer_copy.specs.declared.copy_error.CopyError.{CopyError}
 use Rattle.transfer_copy.specs.Local.{LocalAct}
 use Rattle.transfer_copy.specs.declared.progress.Progress.{Progress}
 use Rattle.transfer_copy.specs.declared.progress.Progress.TheVariants as progress
@@ -11,21 +12,29 @@ use Rattle.transfer_copy.specs.declared.put.PutStage.{PutStage}
 use Rattle.transfer_copy.specs.declared.put.PutStage.TheVariants as stage
 use Rattle.transfer_copy.specs.Holdings.{HoldingValue, WasOk}
 use Rattle.transfer_copy.specs.Legs.{AreDeeds, AreLegs, FollowsSteps, HasGoneOn, IsWholeCopy, CopyStep, history_behind, state_behind}
-use Rattle.transfer_copy.specs.Puts.{AcceptsWrite, AsksName, PutAsksAttrs, PutAsksSync, PutGivesUp, PutNamed, PutReadsNext, PutStepDid, PutSyncs, PutsReply, put_begun, rename_stage}
+use Rattle.transfer_copy.specs.PutEnds.{AsksName, AsksThen, PutNamed, PutStepDid, rename_stage}
+use Rattle.transfer_copy.specs.Puts.{AcceptsWrite, PutAsksAttrs, PutAsksSync, PutGivesUp, PutReadsNext, PutSyncs, PutsReply, put_begun}
 use Rattle.transfer_copy.specs.PutRequests.{offers_rename, offers_sync}
 use Rattle.transfer_copy.specs.WholePuts.{
   AreWrittenFromTo,
   AsksAgain,
-  AsksPart,
+  AsksAside,
+  AsksLook,
   AsksRemove,
   AsksRename,
+  AtOnce,
   Closes,
   DidPut,
+  EndsRemove,
   IsPutLeg,
   Names,
+  Naming,
+  AgainRemoved,
+  Again,
   PutDeed,
   SentWhole,
-  is_named_by,
+  asked_again,
+  naming_deeds,
 }
 use Rattle.transfer_copy.proofs.ActLaws.{failed_is}
 use Rattle.transfer_copy.proofs.SyncLaws.{due_wanted}
@@ -158,23 +167,23 @@ put_closed done name part remote sync from legs leg first so asks same =
     (sent_then done name part remote sync from AsksRename [] legs leg leg.old.offset leg.new.offset first so.sent
     (so.file, asks, same) (ap (λ (p : FilePut). p.offset) asks.asks.1) same)
 
--- the last rename had OK
-sent_named : {H : Type 0} (done : LocalAct → H → H) (name part remote : List ℕ) (sync : Bool) (from len : ℕ) (again :
-    Bool)
+-- the last deed gave the part its name, or followed that
+sent_last : {H : Type 0} (done : LocalAct → H → H) (name part remote : List ℕ) (sync : Bool) (from len : ℕ)
+    (naming : Naming) (deed : PutDeed)
     (behind : List PutDeed)
-    (legs : List (CopyStep FilePut H)) (leg : CopyStep FilePut H) (first : H) → is_named_by again ≡ Names ∷ behind
-    → IsSent done name part remote sync from behind legs leg.old.offset first leg.before
-    → WasOk leg.core leg.old.holding leg.after leg.new.holding → len ≡ leg.old.offset → leg.now ≡ leg.before
+    (legs : List (CopyStep FilePut H)) (leg : CopyStep FilePut H) (first : H) → naming_deeds naming ≡ deed ∷ behind
+    → (so : IsSent done name part remote sync from behind legs leg.old.offset first leg.before)
+    → DidPut done name part remote from so.grant deed leg → len ≡ leg.old.offset → leg.now ≡ leg.before
     → SentWhole done name part remote sync from len first leg.now (leg ∷ legs)
-sent_named done name part remote sync from len again behind legs leg first named so ok len_is same = record {
+sent_last done name part remote sync from len naming deed behind legs leg first named so did len_is same = record {
   grant = so.grant;
   writing = so.writing;
   writes = so.writes;
   offered = so.offered;
-  removed = again;
+  naming = naming;
   deeds = subst (λ (l : List PutDeed). AreDeeds (DidPut done name part remote from so.grant) (leg ∷ legs)
       (l ++ Closes so.offered ∷ write_deeds so.writing))
-      (sym named) (inr ((ok, same), so.deeds));
+      (sym named) (inr (did, so.deeds));
   answered = so.answered;
   in_order = subst (λ n. AreWrittenFromTo from so.writes n) (sym len_is) so.in_order;
   synced = so.synced;
@@ -182,24 +191,43 @@ sent_named done name part remote sync from len again behind legs leg first named
   acts = same ∙ so.acts;
 }
 
-put_named : {H : Type 0} (done : LocalAct → H → H) (name part remote : List ℕ) (sync : Bool) (from : ℕ) (again : Bool)
-    (behind : List PutDeed)
-    (legs : List (CopyStep FilePut H)) (leg : CopyStep FilePut H) (first : H) (s : PutStage) (result : Progress)
-    → is_named_by again ≡ Names ∷ behind
-    → leg.old.stage ≡ s → IsSentUpTo done name part remote sync from legs leg.old first leg.before s
-    → IsSent done name part remote sync from behind legs leg.old.offset first leg.before
+-- the second rename had OK, and the removal of the old file could not be asked
+unremoved : {H : Type 0} (part remote : List ℕ) (e : CopyError) (leg : CopyStep FilePut H)
+    → AsksThen part remote stage.RemovingOld leg.core leg.old leg.after leg.new (progress.Ended (Err e))
+    → WasOk leg.core leg.old.holding leg.after leg.new.holding
+unremoved part remote e leg asks =
+    subst (λ (c : Core). WasOk leg.core leg.old.holding c leg.new.holding) (sym asks.asks.0)
+    (subst (λ (h : HoldingValue). WasOk leg.core leg.old.holding asks.mid h)
+    (sym (ap (λ (p : FilePut). p.holding) asks.asks.1)) asks.ok)
+
+put_named : {H : Type 0} (done : LocalAct → H → H) (name part remote : List ℕ) (sync : Bool) (from : ℕ)
+    (legs : List (CopyStep FilePut H)) (leg : CopyStep FilePut H) (first : H) (result : Progress)
+    → leg.old.stage ≡ stage.Replacing
+    → IsSent done name part remote sync from (AsksRename ∷ []) legs leg.old.offset first leg.before
     → PutNamed leg.core leg.old leg.after leg.new result → leg.now ≡ leg.before
     → IsSentAfter done name part remote sync from (leg ∷ legs) leg.new first leg.now result
-put_named done name part remote sync from again behind legs leg first s progress.Waits named here so sent
-    (missing, (core_is, is)) same =
-    put_waits done name part remote sync from legs leg first s here so core_is is same
-put_named done name part remote sync from again behind legs leg first s progress.Moved named here so sent never same =
-    absurd never
-put_named done name part remote sync from again behind legs leg first s (progress.Ended (Ok len)) named here so sent
-    (ok, len_is, over) same =
-    sent_named done name part remote sync from len again behind legs leg first named sent ok len_is same
-put_named done name part remote sync from again behind legs leg first s (progress.Ended (Err e)) named here so sent
-    (not_ok, over) same = tt
+put_named done name part remote sync from legs leg first progress.Waits here so (missing, (core_is, is)) same =
+    put_waits done name part remote sync from legs leg first stage.Replacing here so core_is is same
+put_named done name part remote sync from legs leg first progress.Moved here so never same = absurd never
+put_named done name part remote sync from legs leg first (progress.Ended (Ok len)) here so (ok, len_is, over) same =
+    sent_last done name part remote sync from len AtOnce Names (AsksRename ∷ []) legs leg first refl so (ok, same)
+    len_is same
+put_named done name part remote sync from legs leg first (progress.Ended (Err e)) here so (not_ok, over) same = tt
+
+-- another request of the end was asked, and the stage is the one at which it is awaited
+put_then : {H : Type 0} (done : LocalAct → H → H) (name part remote : List ℕ) (sync : Bool) (from : ℕ) (deed : PutDeed)
+    (behind : List PutDeed)
+    (legs : List (CopyStep FilePut H)) (leg : CopyStep FilePut H) (first : H) (to : PutStage)
+    (so : IsSent done name part remote sync from behind legs leg.old.offset first leg.before)
+    → DidPut done name part remote from so.grant deed leg → leg.new.stage ≡ to → leg.new.offset ≡ leg.old.offset
+    → leg.now ≡ leg.before
+    → (IsSent done name part remote sync from (deed ∷ behind) (leg ∷ legs) leg.new.offset first leg.now
+    → IsSentUpTo done name part remote sync from (leg ∷ legs) leg.new first leg.now to)
+    → IsSentUpTo done name part remote sync from (leg ∷ legs) leg.new first leg.now leg.new.stage
+put_then done name part remote sync from deed behind legs leg first to so did at offset same there =
+    subst (λ (s : PutStage). IsSentUpTo done name part remote sync from (leg ∷ legs) leg.new first leg.now s) (sym at)
+    (there (sent_then done name part remote sync from deed behind legs leg leg.old.offset leg.new.offset first so did
+    offset same))
 
 -- ---- each step
 
@@ -283,13 +311,7 @@ put_on done name part remote sync from legs leg first stage.Closing (progress.En
 put_on done name part remote sync from legs leg first stage.Closing (progress.Ended (Ok len)) here so (never, same) =
     absurd never
 put_on done name part remote sync from legs leg first stage.Replacing result here so (named, same) =
-    put_named done name part remote sync from false (AsksRename ∷ []) legs leg first stage.Replacing result refl here
-    so so
-    named same
-put_on done name part remote sync from legs leg first stage.RenamingAgain result here so (named, same) =
-    put_named done name part remote sync from true (AsksAgain ∷ AsksRemove ∷ AsksPart ∷ AsksRename ∷ []) legs leg first
-    stage.RenamingAgain result refl here so so
-    named same
+    put_named done name part remote sync from legs leg first result here so named same
 put_on done name part remote sync from legs leg first stage.Renaming progress.Waits here so (
   (missing, (core_is, is)),
   same,
@@ -297,15 +319,12 @@ put_on done name part remote sync from legs leg first stage.Renaming progress.Wa
     =
     put_waits done name part remote sync from legs leg first stage.Renaming here so core_is is same
 put_on done name part remote sync from legs leg first stage.Renaming progress.Moved here so (asks, same) =
-    subst (λ (s : PutStage). IsSentUpTo done name part remote sync from (leg ∷ legs) leg.new first leg.now s)
-    (sym (ap (λ (x : FilePut). x.stage) asks.asks.1))
-    (sent_then done name part remote sync from AsksPart (AsksRename ∷ []) legs leg leg.old.offset leg.new.offset first
-    so
-    (asks, same)
-    (ap (λ (x : FilePut). x.offset) asks.asks.1) same)
+    put_then done name part remote sync from AsksLook (AsksRename ∷ []) legs leg first stage.Checking so (asks, same)
+    (ap (λ (x : FilePut). x.stage) asks.asks.asks.1) (ap (λ (x : FilePut). x.offset) asks.asks.asks.1) same (λ s. s)
 put_on done name part remote sync from legs leg first stage.Renaming (progress.Ended (Ok len)) here so
     ((ok, len_is, over), same) =
-    sent_named done name part remote sync from len false (AsksRename ∷ []) legs leg first refl so ok len_is same
+    sent_last done name part remote sync from len AtOnce Names (AsksRename ∷ []) legs leg first refl so (ok, same)
+    len_is same
 put_on done name part remote sync from legs leg first stage.Renaming (progress.Ended (Err e)) here so did = tt
 put_on done name part remote sync from legs leg first stage.Checking progress.Waits here so (
   (missing, (core_is, is)),
@@ -314,30 +333,67 @@ put_on done name part remote sync from legs leg first stage.Checking progress.Wa
     =
     put_waits done name part remote sync from legs leg first stage.Checking here so core_is is same
 put_on done name part remote sync from legs leg first stage.Checking progress.Moved here so (asks, same) =
-    subst (λ (s : PutStage). IsSentUpTo done name part remote sync from (leg ∷ legs) leg.new first leg.now s)
-    (sym (ap (λ (x : FilePut). x.stage) asks.asks.1))
-    (sent_then done name part remote sync from AsksRemove (AsksPart ∷ AsksRename ∷ []) legs leg leg.old.offset
-    leg.new.offset first so (asks, same)
-    (ap (λ (x : FilePut). x.offset) asks.asks.1) same)
+    put_then done name part remote sync from AsksAside (AsksLook ∷ AsksRename ∷ []) legs leg first stage.SettingAside so
+    (asks, same)
+    (ap (λ (x : FilePut). x.stage) asks.asks.1) (ap (λ (x : FilePut). x.offset) asks.asks.1) same (λ s. s)
 put_on done name part remote sync from legs leg first stage.Checking (progress.Ended (Err e)) here so did = tt
 put_on done name part remote sync from legs leg first stage.Checking (progress.Ended (Ok len)) here so (never, same) =
     absurd never
-put_on done name part remote sync from legs leg first stage.Removing progress.Waits here so (
+put_on done name part remote sync from legs leg first stage.SettingAside progress.Waits here so (
   (missing, (core_is, is)),
   same,
 )
     =
-    put_waits done name part remote sync from legs leg first stage.Removing here so core_is is same
-put_on done name part remote sync from legs leg first stage.Removing progress.Moved here so (asks, same) =
+    put_waits done name part remote sync from legs leg first stage.SettingAside here so core_is is same
+put_on done name part remote sync from legs leg first stage.SettingAside progress.Moved here so (asks, same) =
+    put_then done name part remote sync from AsksAgain (AsksAside ∷ AsksLook ∷ AsksRename ∷ []) legs leg first
+    stage.RenamingAgain so (asks, same)
+    (ap (λ (x : FilePut). x.stage) asks.asks.1) (ap (λ (x : FilePut). x.offset) asks.asks.1) same (λ s. s)
+put_on done name part remote sync from legs leg first stage.SettingAside (progress.Ended (Err e)) here so did = tt
+put_on done name part remote sync from legs leg first stage.SettingAside (progress.Ended (Ok len)) here so (never, same)
+    = absurd never
+put_on done name part remote sync from legs leg first stage.RenamingAgain progress.Waits here so (
+  (missing, (core_is, is)),
+  same,
+)
+    =
+    put_waits done name part remote sync from legs leg first stage.RenamingAgain here so core_is is same
+put_on done name part remote sync from legs leg first stage.RenamingAgain progress.Moved here so (inl asks, same) =
+    put_then done name part remote sync from AsksRemove asked_again legs leg first stage.RemovingOld so (asks, same)
+    (ap (λ (x : FilePut). x.stage) asks.asks.1) (ap (λ (x : FilePut). x.offset) asks.asks.1) same (λ s. s)
+put_on done name part remote sync from legs leg first stage.RenamingAgain progress.Moved here so (inr restores, same) =
     subst (λ (s : PutStage). IsSentUpTo done name part remote sync from (leg ∷ legs) leg.new first leg.now s)
-    (sym (ap (λ (x : FilePut). x.stage) asks.asks.1))
-    (sent_then done name part remote sync from AsksAgain (AsksRemove ∷ AsksPart ∷ AsksRename ∷ []) legs leg
-    leg.old.offset
-    leg.new.offset first so (asks, same)
-    (ap (λ (x : FilePut). x.offset) asks.asks.1) same)
-put_on done name part remote sync from legs leg first stage.Removing (progress.Ended (Err e)) here so did = tt
-put_on done name part remote sync from legs leg first stage.Removing (progress.Ended (Ok len)) here so (never, same) =
+    (sym (ap (λ (x : FilePut). x.stage) restores.asks.asks.1)) tt
+put_on done name part remote sync from legs leg first stage.RenamingAgain (progress.Ended (Ok len)) here so
+    (((e, asks), len_is), same) =
+    sent_last done name part remote sync from len Again Names asked_again legs leg first refl so
+    (unremoved part remote e leg asks, same) len_is same
+put_on done name part remote sync from legs leg first stage.RenamingAgain (progress.Ended (Err e)) here so did = tt
+put_on done name part remote sync from legs leg first stage.RemovingOld progress.Waits here so (
+  (missing, (core_is, is)),
+  same,
+)
+    =
+    put_waits done name part remote sync from legs leg first stage.RemovingOld here so core_is is same
+put_on done name part remote sync from legs leg first stage.RemovingOld progress.Moved here so (never, same) =
     absurd never
+put_on done name part remote sync from legs leg first stage.RemovingOld (progress.Ended (Ok len)) here so
+    ((settled, len_is, over), same) =
+    sent_last done name part remote sync from len AgainRemoved EndsRemove (AsksRemove ∷ asked_again) legs leg first refl
+    so (settled, same) len_is same
+put_on done name part remote sync from legs leg first stage.RemovingOld (progress.Ended (Err e)) here so (never, same) =
+    absurd never
+put_on done name part remote sync from legs leg first stage.RestoringOld progress.Waits here so (
+  (missing, (core_is, is)),
+  same,
+)
+    =
+    put_waits done name part remote sync from legs leg first stage.RestoringOld here so core_is is same
+put_on done name part remote sync from legs leg first stage.RestoringOld progress.Moved here so (never, same) =
+    absurd never
+put_on done name part remote sync from legs leg first stage.RestoringOld (progress.Ended (Ok len)) here so (never, same)
+    = absurd never
+put_on done name part remote sync from legs leg first stage.RestoringOld (progress.Ended (Err e)) here so did = tt
 put_on done name part remote sync from legs leg first stage.Ended result here so never = absurd never
 
 -- ---- all legs

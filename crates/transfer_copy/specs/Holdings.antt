@@ -20,6 +20,8 @@ use Rattle.plan_state.specs.Asked.{HoldsTicket, SubmitsAsking, request_of}
 use Rattle.plan_state.specs.declared.submission.Asking.{Asking}
 use Rattle.plan_state.specs.declared.submission.Asking.TheVariants.{Whole, Parts}
 use Rattle.transfer_copy.specs.declared.copy_error.CopyError.{CopyError}
+use Rattle.transfer_copy.specs.declared.holding.AttrsAnswer.{AttrsAnswer}
+use Rattle.transfer_copy.specs.declared.holding.AttrsAnswer.TheVariants as attrs_answer
 use Rattle.transfer_copy.specs.declared.holding.FileAnswer.{FileAnswer}
 use Rattle.transfer_copy.specs.declared.holding.FileAnswer.TheVariants as file_answer
 use Rattle.transfer_copy.specs.declared.holding.FileHold.{FileHold}
@@ -207,6 +209,10 @@ pub record WasOk (core : Core) (old : HoldingValue) (after : Core) (new : Holdin
   pub came : SettlesFile core old after new (file_answer.Came status)
   pub ok : IsOkStatus status
 
+-- The server answered it in some way, or a fault is kept in place of its reply.
+abbrev pub WasSettled : Core → HoldingValue → Core → HoldingValue → Type 0
+WasSettled core old after new = WasOk core old after new ⊎ ((e : CopyError) × WasNotOk core old after new e)
+
 -- Only a request of the file is in flight, and this is its result.
 abbrev pub SettlesStatus : Core → HoldingValue → Core → HoldingValue → StatusAnswer → Type 0
 SettlesStatus core old after new status_answer.Missing = SettlesFile core old core old file_answer.Missing
@@ -214,11 +220,9 @@ SettlesStatus core old after new status_answer.Missing = SettlesFile core old co
 SettlesStatus core old after new status_answer.Done = WasOk core old after new × (new ≡ nothing_held)
 SettlesStatus core old after new (status_answer.NotDone e) = WasNotOk core old after new e × (new ≡ nothing_held)
 
--- The server answered it with ATTRS.
-pub record WasFound (core : Core) (old : HoldingValue) (after : Core) (new : HoldingValue) : Type 0 where
-  pub answered : Reply
-  pub came : SettlesFile core old after new (file_answer.Came answered)
-  pub attrs : is_attrs answered ≡ true
+-- The server answered it with these attributes.
+abbrev pub WasFound : FileAttrs → Core → HoldingValue → Core → HoldingValue → Type 0
+WasFound attrs core old after new = SettlesFile core old after new (file_answer.Came (reply.Attrs attrs))
 
 -- It had a reply other than ATTRS, or a fault is kept in place of its reply.
 abbrev pub WasNotFound : Core → HoldingValue → Core → HoldingValue → Type 0
@@ -227,11 +231,11 @@ WasNotFound core old after new = ((r : Reply) × SettlesFile core old after new 
     ⊎ ((fault : Fault) × SettlesFile core old after new (file_answer.Failed fault))
 
 -- Only a request for attributes is in flight, and this is its result.
-abbrev pub SettlesAttrs : Core → HoldingValue → Core → HoldingValue → StatusAnswer → Type 0
-SettlesAttrs core old after new status_answer.Missing = SettlesFile core old core old file_answer.Missing
+abbrev pub SettlesAttrs : Core → HoldingValue → Core → HoldingValue → AttrsAnswer → Type 0
+SettlesAttrs core old after new attrs_answer.Missing = SettlesFile core old core old file_answer.Missing
     × (after ≡ core) × (new ≡ old)
-SettlesAttrs core old after new status_answer.Done = WasFound core old after new × (new ≡ nothing_held)
-SettlesAttrs core old after new (status_answer.NotDone e) = WasNotFound core old after new × (new ≡ nothing_held)
+SettlesAttrs core old after new (attrs_answer.Found attrs) = WasFound attrs core old after new × (new ≡ nothing_held)
+SettlesAttrs core old after new attrs_answer.NotFound = WasNotFound core old after new × (new ≡ nothing_held)
 
 -- The first part was taken, and this is known of it.
 pub record TakesFirst (Known : Part → Type 0) (core : Core) (old : HoldingValue) (after : Core) (new : HoldingValue) :

@@ -3,8 +3,11 @@ pub mod Answers
 pub mod Refusals
 pub mod Holdings
 pub mod Gets
+pub mod Asides
 pub mod PutRequests
 pub mod Puts
+pub mod PutEnds
+pub mod KeptFiles
 pub mod Acts
 pub mod Disks
 pub mod Legs

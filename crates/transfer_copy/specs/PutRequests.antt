@@ -11,6 +11,9 @@ use Rattle.sftp_model.specs.declared.request.Request.TheVariants as request
 use Rattle.sftp_core.specs.Core.{Core}
 use Rattle.sftp_core.specs.Info.{info_of}
 use Rattle.sftp_core.specs.declared.info.Info.{Info}
+use Rattle.transfer_copy.specs.Asides.{aside_of}
+use Rattle.transfer_copy.specs.declared.put.PutStage.{PutStage}
+use Rattle.transfer_copy.specs.declared.put.PutStage.TheVariants as stage
 
 -- The flags of an open for writing from an offset on. From 0 the open must create the file, so the server refuses it if
 -- an entry has the name, also a symbolic link; otherwise the file must exist.
@@ -22,10 +25,17 @@ write_flags from = flags_of (record nothing_chosen { write = true; create_new = 
 abbrev pub open_part : ℕ → Option ℕ → List ℕ → Request
 open_part from mode part = request.OpenFile part (write_flags from) (record no_attributes { permissions = mode })
 
--- A rename, which replaces a file that has the name at once, or is a plain RENAME.
-abbrev pub rename_of : List ℕ → List ℕ → Bool → Request
-rename_of from to true = request.PosixRename from to
-rename_of from to false = request.Rename from to
+-- The request that is in flight at a stage of the end. The part gets the name at once, which replaces a file that has
+-- it, or by a plain RENAME. If that is refused, the entry that has the name is looked for. It is renamed to the name
+-- aside, the part gets the name, and the old file is removed. If the part did not get it, the old file is renamed back.
+abbrev pub naming_request : List ℕ → List ℕ → PutStage → Request
+naming_request part remote stage.Replacing = request.PosixRename part remote
+naming_request part remote stage.Renaming = request.Rename part remote
+naming_request part remote stage.SettingAside = request.Rename remote (aside_of part)
+naming_request part remote stage.RenamingAgain = request.Rename part remote
+naming_request part remote stage.RemovingOld = request.Remove (aside_of part)
+naming_request part remote stage.RestoringOld = request.Rename (aside_of part) remote
+naming_request part remote other = request.Lstat remote
 
 -- The server offers this extension.
 abbrev pub has_extension : ℕ → Option Info → Bool

@@ -1,6 +1,5 @@
--- believed, except PutHasEnded, put_is_over, IsOpenToWrite, IsBehindWrite, IsBetween, AwaitsStatus, PutSendsOn,
---   IsClosedAt, ChecksOrFails, PutLeaves
--- A copy from a local file to the server, step by step.
+-- believed, except PutHasEnded, put_is_over, IsOpenToWrite, IsBehindWrite, IsBetween, IsNaming, PutSendsOn, PutLeaves
+-- A copy from a local file to the server, step by step, until the part file is closed.
 use Rattle.std.specs.Prelude.{
   ◌≡◌,
   ◌⊎◌,
@@ -24,11 +23,11 @@ use Rattle.std.specs.Prelude.{
   IsSome,
   if◌then◌else◌,
 }
+use Rattle.sftp_model.specs.declared.answers.Expected.{Expected}
 use Rattle.sftp_model.specs.declared.answers.Expected.TheVariants as expected
 use Rattle.sftp_model.specs.declared.file_attrs.FileAttrs.{FileAttrs}
 use Rattle.sftp_model.specs.declared.reply.Reply.{Reply}
 use Rattle.sftp_model.specs.declared.request.Request.{Request}
-use Rattle.sftp_model.specs.declared.request.Request.TheVariants as request
 use Rattle.sftp_core.specs.Core.{Core}
 use Rattle.sftp_core.specs.Info.{info_of}
 use Rattle.transfer_copy.specs.declared.copy_error.CopyError.{CopyError}
@@ -46,10 +45,6 @@ use Rattle.transfer_copy.specs.Holdings.{
   AsksForWrite,
   HoldingValue,
   HoldsAll,
-  WasFound,
-  WasNotFound,
-  WasNotOk,
-  WasOk,
   IsOnly,
   IsFileOpen,
   WasRefused,
@@ -61,8 +56,8 @@ use Rattle.transfer_copy.specs.Holdings.{
   nothing_held,
 }
 use Rattle.transfer_copy.specs.Local.{Failed, Got, LocalAct, Opened}
-use Rattle.transfer_copy.specs.PutRequests.{offers_rename, offers_sync, open_part, rename_of}
-use Rattle.transfer_copy.specs.Refusals.{IsOkStatus, IsUnasked, is_failure}
+use Rattle.transfer_copy.specs.PutRequests.{offers_sync, open_part}
+use Rattle.transfer_copy.specs.Refusals.{IsOkStatus, IsUnasked}
 
 -- ---- The stage of a copy
 
@@ -83,6 +78,11 @@ pub record IsUnwritten (Holds : HoldingValue → Type 0) (p : FilePut) : Type 0 
   pub wide : 1 ≤ p.window
   pub unfailed : p.failure ≡ None
 
+-- Only one request is in flight, and a refusal is kept, with which the copy may end.
+pub record IsRefusedOnly (kind : Expected) (p : FilePut) : Type 0 where
+  pub only : IsOnly kind p.holding
+  pub refused : IsSome p.failure
+
 abbrev pub StandsPut : PutStage → FilePut → Type 0
 StandsPut stage.Starting p = IsUnwritten (λ h. h ≡ nothing_held) p
 StandsPut stage.Opening p = IsUnwritten (IsOnly expected.Handle) p
@@ -90,9 +90,11 @@ StandsPut stage.Writing p = IsWritingOn p
 StandsPut stage.Closing p = IsOnly expected.Status p.holding
 StandsPut stage.Replacing p = IsOnly expected.Status p.holding
 StandsPut stage.Renaming p = IsOnly expected.Status p.holding
-StandsPut stage.Checking p = IsOnly expected.Attrs p.holding
-StandsPut stage.Removing p = IsOnly expected.Status p.holding
+StandsPut stage.Checking p = IsRefusedOnly expected.Attrs p
+StandsPut stage.SettingAside p = IsRefusedOnly expected.Status p
 StandsPut stage.RenamingAgain p = IsOnly expected.Status p.holding
+StandsPut stage.RemovingOld p = IsOnly expected.Status p.holding
+StandsPut stage.RestoringOld p = IsRefusedOnly expected.Status p
 StandsPut stage.Ended p = p.holding ≡ nothing_held
 
 -- A copy over a core of an open session: the core awaits the replies that the copy awaits. After its end the copy
@@ -156,14 +158,16 @@ pub record IsBetween (core : Core) (p : FilePut) : Type 0 where
   pub opened : IsSome (info_of core.phase)
   pub none : p.holding ≡ nothing_held
 
--- A stage at which only a status is awaited.
-abbrev pub AwaitsStatus : PutStage → Type 0
-AwaitsStatus stage.Starting = ⊥
-AwaitsStatus stage.Opening = ⊥
-AwaitsStatus stage.Writing = ⊥
-AwaitsStatus stage.Checking = ⊥
-AwaitsStatus stage.Ended = ⊥
-AwaitsStatus other = Unit {0}
+-- A stage of the end at which a request is awaited. At three of them a refusal is kept.
+abbrev pub IsNaming : PutStage → Option CopyError → Type 0
+IsNaming stage.Replacing kept = Unit {0}
+IsNaming stage.Renaming kept = Unit {0}
+IsNaming stage.Checking kept = IsSome kept
+IsNaming stage.SettingAside kept = IsSome kept
+IsNaming stage.RenamingAgain kept = Unit {0}
+IsNaming stage.RemovingOld kept = Unit {0}
+IsNaming stage.RestoringOld kept = IsSome kept
+IsNaming other kept = ⊥
 
 -- ---- Steps
 
@@ -324,147 +328,6 @@ WritesOn done core old after new before now progress.Moved =
     ⊎ ((now ≡ before)
     × (PutsReply core old after new ⊎ PutEndsSending core old after new ⊎ PutsNoMore core old after new))
 WritesOn done core old after new before now (progress.Ended result) = ⊥
-
--- ---- The end
-
--- The server answered with OK, and then this was asked, which the copy awaits at this stage.
-pub record AsksThen (asked : Request) (to : PutStage) (core : Core) (old : FilePut) (after : Core) (new : FilePut)
-    (result : Progress) : Type 0 where
-  pub mid : Core
-  pub left : HoldingValue
-  pub ok : WasOk core old.holding mid left
-  pub asks : AsksAt asked to mid (record old { holding = left }) after new result
-
--- The server refused a plain RENAME with FAILURE, which names no cause. This refusal is kept, and then the attributes
--- of the part file were asked.
-pub record ChecksPart (part : List ℕ) (core : Core) (old : FilePut) (after : Core) (new : FilePut) (result : Progress) :
-    Type 0 where
-  pub mid : Core
-  pub left : HoldingValue
-  pub why : CopyError
-  pub not_ok : WasNotOk core old.holding mid left why
-  pub failed : is_failure why ≡ true
-  pub asks : AsksAt (request.Lstat part) stage.Checking mid (record old { holding = left; failure = Some why }) after
-      new result
-
--- The attributes of the part file came, so it is still there. Then the file that has the name was asked to be removed.
-pub record RemovesOther (remote : List ℕ) (core : Core) (old : FilePut) (after : Core) (new : FilePut)
-    (result : Progress) : Type 0 where
-  pub mid : Core
-  pub left : HoldingValue
-  pub found : WasFound core old.holding mid left
-  pub asks : AsksAt (request.Remove remote) stage.Removing mid (record old { holding = left }) after new result
-
--- The stage at which such a rename is awaited.
-abbrev pub rename_stage : Bool → PutStage
-rename_stage true = stage.Replacing
-rename_stage false = stage.Renaming
-
--- The reply is missing, and nothing changed.
-abbrev pub PutWaits : Core → FilePut → Core → FilePut → Type 0
-PutWaits core old after new = SettlesFile core old.holding core old.holding file_answer.Missing
-    × IsPutStill core old after new
-
--- The server answered with OK, and then the rename of the part file was asked. It replaces a file that has the name
--- exactly if the server offers that.
-abbrev pub AsksName : List ℕ → List ℕ → Core → FilePut → Core → FilePut → Progress → Type 0
-AsksName part remote core old after new result =
-    AsksThen (rename_of part remote (offers_rename core)) (rename_stage (offers_rename core)) core old after new result
-
--- The file is closed. If nothing failed, the rename of the part file is asked; otherwise the first failure is returned.
-abbrev pub IsClosedAt : List ℕ → List ℕ → Core → FilePut → Core → FilePut → Progress → Type 0
-IsClosedAt part remote core old after new result = ((old.failure ≡ None)
-    × AsksAt (rename_of part remote (offers_rename core)) (rename_stage (offers_rename core)) core old after new result)
-    ⊎ ((first : CopyError) × (old.failure ≡ Some first) × (result ≡ progress.Ended (Err first)) × (after ≡ core)
-    × (new.stage ≡ stage.Ended))
-
--- Nothing failed and the server answered the CLOSE with OK, and the rename of the part file is asked. Otherwise the
--- first failure is returned.
-abbrev pub EndsWriting : List ℕ → List ℕ → Core → FilePut → Core → FilePut → Progress → Type 0
-EndsWriting part remote core old after new progress.Waits = PutWaits core old after new
-EndsWriting part remote core old after new progress.Moved = (old.failure ≡ None)
-    × AsksName part remote core old after new progress.Moved
-EndsWriting part remote core old after new (progress.Ended (Err e)) =
-    ((old.failure ≡ Some e) × (new.stage ≡ stage.Ended))
-    ⊎ ((old.failure ≡ None) × WasNotOk core old.holding after new.holding e × (new.stage ≡ stage.Ended))
-    ⊎ ((old.failure ≡ None) × AsksName part remote core old after new (progress.Ended (Err e)))
-EndsWriting part remote core old after new (progress.Ended (Ok len)) = ⊥
-
--- The last rename was OK, or it was not.
-abbrev pub PutNamed : Core → FilePut → Core → FilePut → Progress → Type 0
-PutNamed core old after new progress.Waits = PutWaits core old after new
-PutNamed core old after new progress.Moved = ⊥
-PutNamed core old after new (progress.Ended (Ok len)) = WasOk core old.holding after new.holding × (len ≡ old.offset)
-    × (new.stage ≡ stage.Ended)
-PutNamed core old after new (progress.Ended (Err e)) = WasNotOk core old.holding after new.holding e
-    × (new.stage ≡ stage.Ended)
-
--- After a plain RENAME that was refused so: if the server named no cause, the part file is looked for; otherwise the
--- copy ends with this refusal.
-abbrev pub ChecksOrFails : CopyError → List ℕ → Core → FilePut → Core → FilePut → Progress → Type 0
-ChecksOrFails why part core old after new result = ((is_failure why ≡ true)
-    × AsksAt (request.Lstat part) stage.Checking core (record old { failure = Some why }) after new result)
-    ⊎ ((is_failure why ≡ false) × (result ≡ progress.Ended (Err why)) × (after ≡ core)
-    × (new ≡ record old { stage = stage.Ended }))
-
--- A plain RENAME was OK. Or it was refused: if the server named no cause, the part file is looked for; otherwise the
--- copy ends with this refusal.
-abbrev pub NamedOrChecks : List ℕ → Core → FilePut → Core → FilePut → Progress → Type 0
-NamedOrChecks part core old after new progress.Waits = PutWaits core old after new
-NamedOrChecks part core old after new progress.Moved = ChecksPart part core old after new progress.Moved
-NamedOrChecks part core old after new (progress.Ended (Ok len)) = WasOk core old.holding after new.holding
-    × (len ≡ old.offset) × (new.stage ≡ stage.Ended)
-NamedOrChecks part core old after new (progress.Ended (Err e)) = (WasNotOk core old.holding after new.holding e
-    × (is_failure e ≡ false) × (new.stage ≡ stage.Ended))
-    ⊎ ChecksPart part core old after new (progress.Ended (Err e))
-
--- The part file is still there, and the file that has the name is removed. Or it was not found, and the copy ends with
--- the refusal of the RENAME.
-abbrev pub FindsPart : List ℕ → Core → FilePut → Core → FilePut → Progress → Type 0
-FindsPart remote core old after new progress.Waits = PutWaits core old after new
-FindsPart remote core old after new progress.Moved = RemovesOther remote core old after new progress.Moved
-FindsPart remote core old after new (progress.Ended (Err e)) = (WasNotFound core old.holding after new.holding
-    × ((first : CopyError) → old.failure ≡ Some first → e ≡ first) × (new.stage ≡ stage.Ended))
-    ⊎ RemovesOther remote core old after new (progress.Ended (Err e))
-FindsPart remote core old after new (progress.Ended (Ok len)) = ⊥
-
--- The file was removed, and the plain rename is asked again.
-abbrev pub RemovesTarget : List ℕ → List ℕ → Core → FilePut → Core → FilePut → Progress → Type 0
-RemovesTarget part remote core old after new progress.Waits = PutWaits core old after new
-RemovesTarget part remote core old after new progress.Moved =
-    AsksThen (rename_of part remote false) stage.RenamingAgain core old after new progress.Moved
-RemovesTarget part remote core old after new (progress.Ended (Err e)) =
-    (WasNotOk core old.holding after new.holding e × (new.stage ≡ stage.Ended))
-    ⊎ AsksThen (rename_of part remote false) stage.RenamingAgain core old after new (progress.Ended (Err e))
-RemovesTarget part remote core old after new (progress.Ended (Ok len)) = ⊥
-
--- ---- One step
-
--- The effect of a step, by the stage of the copy before it.
-abbrev pub PutStepDid : {H : Type 0} → (LocalAct → H → H) → List ℕ → List ℕ → List ℕ → Core → FilePut → Core → FilePut
-    → H
-    → H → Progress → PutStage → Type 0
-PutStepDid done name part remote core old after new before now result stage.Starting =
-    StartsPut done name part core old after new before now result
-PutStepDid done name part remote core old after new before now result stage.Opening = OpensPut core old after new result
-    × (now ≡ before)
-PutStepDid done name part remote core old after new before now result stage.Writing =
-    WritesOn done core old after new before now result
-PutStepDid done name part remote core old after new before now result stage.Closing =
-    EndsWriting part remote core old after new result × (now ≡ before)
-PutStepDid done name part remote core old after new before now result stage.Replacing =
-    PutNamed core old after new result
-    × (now ≡ before)
-PutStepDid done name part remote core old after new before now result stage.Renaming =
-    NamedOrChecks part core old after new result × (now ≡ before)
-PutStepDid done name part remote core old after new before now result stage.Checking =
-    FindsPart remote core old after new result × (now ≡ before)
-PutStepDid done name part remote core old after new before now result stage.Removing =
-    RemovesTarget part remote core old after new result × (now ≡ before)
-PutStepDid done name part remote core old after new before now result stage.RenamingAgain =
-    PutNamed core old after new result
-    × (now ≡ before)
-PutStepDid done name part remote core old after new before now result stage.Ended = ⊥
 
 -- The copy continues or has ended, and the entries of others in the core are unchanged.
 pub record PutLeaves (core : Core) (old : FilePut) (after : Core) (new : FilePut) : Type 0 where

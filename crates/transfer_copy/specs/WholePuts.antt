@@ -28,10 +28,10 @@ use Rattle.transfer_copy.specs.declared.holding.FileHold.TheVariants as hold
 use Rattle.transfer_copy.specs.declared.progress.Progress.TheVariants as progress
 use Rattle.transfer_copy.specs.declared.put.FilePut.{FilePut}
 use Rattle.transfer_copy.specs.declared.put.PutStage.TheVariants as stage
-use Rattle.transfer_copy.specs.Holdings.{AsksFile, AsksForAttrs, AsksForSync, AsksForWrite, LetsFileGo, WasOk}
+use Rattle.transfer_copy.specs.Holdings.{AsksFile, AsksForAttrs, AsksForSync, AsksForWrite, LetsFileGo, WasOk, WasSettled}
 use Rattle.transfer_copy.specs.Legs.{AnswersFirst, AreDeeds, CopyStep}
-use Rattle.transfer_copy.specs.PutRequests.{offers_sync, open_part, rename_of}
-use Rattle.transfer_copy.specs.Puts.{AsksName, AsksThen, ChecksPart, PutStepDid, RemovesOther}
+use Rattle.transfer_copy.specs.PutEnds.{AsksName, AsksThen, ChecksName, PutStepDid, SetsAside}
+use Rattle.transfer_copy.specs.PutRequests.{offers_sync, open_part}
 use Rattle.transfer_copy.specs.Refusals.{IsOkStatus}
 
 -- A step of a copy to the server.
@@ -103,17 +103,20 @@ carried_by writes = map (λ (w : AskedWrite). w.bytes) writes
 
 -- The local file was opened and the OPEN asked; its HANDLE came; bytes were sent and answered; the CLOSE was queued,
 -- and the server offered the fsync then if this is true; the CLOSE had OK, and the rename was asked; FAILURE refused
--- it, and the LSTAT of the part was asked; ATTRS came, and the REMOVE was asked; that had OK, and the rename was asked
--- again; or the last rename had OK.
+-- it, and the LSTAT of the name was asked; ATTRS came, and the rename of the old file aside was asked; that had OK, and
+-- the rename of the part was asked again; that had OK, and the REMOVE of the old file was asked; the REMOVE was
+-- answered; or the last rename had OK.
 pub data PutDeed : Type 0 where
   AsksOpen : PutDeed
   Opens : PutDeed
   Writing : WriteDeed → PutDeed
   Closes : Bool → PutDeed
   AsksRename : PutDeed
-  AsksPart : PutDeed
-  AsksRemove : PutDeed
+  AsksLook : PutDeed
+  AsksAside : PutDeed
   AsksAgain : PutDeed
+  AsksRemove : PutDeed
+  EndsRemove : PutDeed
   Names : PutDeed
 
 -- Bytes or the end were read, a WRITE, the FSETSTAT or the fsync was asked, or one of them had OK.
@@ -151,24 +154,41 @@ DidPut done name part remote from grant (Closes offered) leg = (leg.old.holding.
 DidPut done name part remote from grant AsksRename leg = (leg.old.holding.file ≡ hold.Asked grant.id expected.Status)
     × AsksName part remote leg.core leg.old leg.after leg.new progress.Moved
     × (leg.now ≡ leg.before)
-DidPut done name part remote from grant AsksPart leg =
-    ChecksPart part leg.core leg.old leg.after leg.new progress.Moved
+DidPut done name part remote from grant AsksLook leg =
+    ChecksName part remote leg.core leg.old leg.after leg.new progress.Moved
     × (leg.now ≡ leg.before)
-DidPut done name part remote from grant AsksRemove leg =
-    RemovesOther remote leg.core leg.old leg.after leg.new progress.Moved
+DidPut done name part remote from grant AsksAside leg =
+    SetsAside part remote leg.core leg.old leg.after leg.new progress.Moved
     × (leg.now ≡ leg.before)
 DidPut done name part remote from grant AsksAgain leg =
-    AsksThen (rename_of part remote false) stage.RenamingAgain leg.core leg.old leg.after leg.new progress.Moved
+    AsksThen part remote stage.RenamingAgain leg.core leg.old leg.after leg.new progress.Moved
+    × (leg.now ≡ leg.before)
+DidPut done name part remote from grant AsksRemove leg =
+    AsksThen part remote stage.RemovingOld leg.core leg.old leg.after leg.new progress.Moved
+    × (leg.now ≡ leg.before)
+DidPut done name part remote from grant EndsRemove leg =
+    WasSettled leg.core leg.old.holding leg.after leg.new.holding
     × (leg.now ≡ leg.before)
 DidPut done name part remote from grant Names leg =
     WasOk leg.core leg.old.holding leg.after leg.new.holding
     × (leg.now ≡ leg.before)
 
--- The last rename had OK. It was the first one, or a second one after a file that had the name was removed. Before
--- that, FAILURE refused the first one, and the part was found.
-abbrev pub is_named_by : Bool → List PutDeed
-is_named_by false = Names ∷ AsksRename ∷ []
-is_named_by true = Names ∷ AsksAgain ∷ AsksRemove ∷ AsksPart ∷ AsksRename ∷ []
+-- FAILURE refused the first rename, a file was found under the name and renamed aside, and the rename of the part was
+-- asked again.
+abbrev pub asked_again : List PutDeed
+asked_again = AsksAgain ∷ AsksAside ∷ AsksLook ∷ AsksRename ∷ []
+
+-- How the part got its name: by the first rename; or by the second one, after which the removal of the old file could
+-- not be asked, or was asked and answered.
+pub data Naming : Type 0 where
+  AtOnce : Naming
+  Again : Naming
+  AgainRemoved : Naming
+
+abbrev pub naming_deeds : Naming → List PutDeed
+naming_deeds AtOnce = Names ∷ AsksRename ∷ []
+naming_deeds Again = Names ∷ asked_again
+naming_deeds AgainRemoved = EndsRemove ∷ AsksRemove ∷ asked_again
 
 -- ---- The whole copy
 
@@ -176,17 +196,17 @@ is_named_by true = Names ∷ AsksAgain ∷ AsksRemove ∷ AsksPart ∷ AsksRenam
 -- opened there and the OPEN asked, which brought the grant. Bytes were read, and a WRITE of its handle was asked for
 -- each piece, at the offset where those before end, with no gap up to `len`. Each WRITE had OK, and none was in flight
 -- when the CLOSE was queued. With `sync` an fsync of the handle had OK after them, if the server offered it when the
--- CLOSE was queued; without `sync` none was asked. The CLOSE had OK, and then the rename had. Nothing more was done to
--- the local file.
+-- CLOSE was queued; without `sync` none was asked. The CLOSE had OK, and then a rename of the part to its name had.
+-- Nothing more was done to the local file.
 pub record SentWhole {H : Type 0} (done : LocalAct → H → H) (name part remote : List ℕ) (sync : Bool) (from len : ℕ)
     (first now : H) (legs : List (CopyStep FilePut H)) : Type 0 where
   pub grant : GrantValue
   pub writing : List WriteDeed
   pub writes : List AskedWrite
   pub offered : Bool
-  pub removed : Bool
+  pub naming : Naming
   pub deeds : AreDeeds (DidPut done name part remote from grant) legs
-      (is_named_by removed ++ Closes offered ∷ (map Writing writing ++ Opens ∷ AsksOpen ∷ []))
+      (naming_deeds naming ++ Closes offered ∷ (map Writing writing ++ Opens ∷ AsksOpen ∷ []))
   pub answered : writes_after writing ≡ record { under_way = []; accepted = writes }
   pub in_order : AreWrittenFromTo from writes len
   pub synced : sync ≡ true → offered ≡ true → IsSynced writing

@@ -10,7 +10,7 @@ ghost use Rattle.transfer_copy.specs.declared.holding.FileHold.{FileHold as File
 
 use crate::answers::{TicketAnswer, answer_to};
 use crate::copy_error::CopyError;
-use crate::refusals::{faulted, found, settled};
+use crate::refusals::{faulted, settled};
 use crate::submission::{submit, submit_write};
 use bytes::Bytes;
 use sftp_core::{Core, Grant, Ticket};
@@ -56,14 +56,24 @@ pub(crate) enum FileAnswer {
     Failed(Fault),
 }
 
-/// The result of a request of the file that OK or ATTRS answers if it is granted.
+/// The result of a request of the file that a status answers.
 pub(crate) enum StatusAnswer {
     /// The reply is missing, and no fault is kept.
     Missing,
-    /// The server answered with OK, or with ATTRS if these were asked for.
+    /// The server answered with OK.
     Done,
     /// The server answered otherwise, or a fault is kept.
     NotDone(CopyError),
+}
+
+/// The result of a request for attributes.
+pub(crate) enum AttrsAnswer {
+    /// The reply is missing, and no fault is kept.
+    Missing,
+    /// The server answered with these attributes.
+    Found(FileAttrs),
+    /// The server answered otherwise, or a fault is kept.
+    NotFound,
 }
 
 /// The result of the first part.
@@ -200,20 +210,20 @@ impl Holding {
     }
 
     /// Returns the result of the request of the file, which ATTRS or a refusal answers, if nothing else is in flight.
-    pub(crate) fn settle_attrs(&mut self, core: &mut Core) -> StatusAnswer
+    pub(crate) fn settle_attrs(&mut self, core: &mut Core) -> AttrsAnswer
         requires only { IsOnly expected.Attrs self.old }
         requires held { HoldsAll core.old self.old }
         ensures answers { SettlesAttrs core.old self.old core.new self.new result }
         ensures apart { KeepsApart self.old self.new core.old core.new }
     {
         match self.settle(core) {
-            FileAnswer::Missing => StatusAnswer::Missing,
+            FileAnswer::Missing => AttrsAnswer::Missing,
             FileAnswer::Granted => unreachable!(),
-            FileAnswer::Came(reply) => match found(reply) {
-                Ok(()) => StatusAnswer::Done,
-                Err(e) => StatusAnswer::NotDone(e),
+            FileAnswer::Came(reply) => match reply {
+                Reply::Attrs(attrs) => AttrsAnswer::Found(attrs),
+                _ => AttrsAnswer::NotFound,
             },
-            FileAnswer::Failed(fault) => StatusAnswer::NotDone(faulted(fault)),
+            FileAnswer::Failed(_fault) => AttrsAnswer::NotFound,
         }
     }
 

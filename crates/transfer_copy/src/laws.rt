@@ -1,5 +1,5 @@
 //! Laws of the definitions; the functions do nothing, and their ensures clauses hold for all values.
-ghost use Rattle.std.specs.Prelude.{◌≡◌, ◌≢◌, ◌∷◌, ◌++◌, ℕ, Bool, List, Option, Some, Ok};
+ghost use Rattle.std.specs.Prelude.{◌≡◌, ◌≢◌, ◌≤◌, ◌∷◌, ◌++◌, ℕ, Bool, List, Option, Some, Ok};
 ghost use Rattle.sftp_model.specs.Pieces.{joined_pieces};
 ghost use Rattle.sftp_core.specs.Core.{Core};
 ghost use Rattle.sftp_model.specs.declared.file_attrs.FileAttrs.{FileAttrs};
@@ -8,11 +8,16 @@ ghost use Rattle.transfer_copy.specs.Acts.{GotAfter, GotSoFar, SentAfter, SentSo
 ghost use Rattle.transfer_copy.specs.Disks.{Disk, IsCopied, after_act};
 ghost use Rattle.transfer_copy.specs.Gets.{GetStepDid, get_begun};
 ghost use Rattle.transfer_copy.specs.Legs.{IsWholeCopy, CopyStep};
-ghost use Rattle.transfer_copy.specs.Puts.{MayPut, PutStepDid, put_begun};
+ghost use Rattle.transfer_copy.specs.Asides.{aside_of, name_len_from};
+ghost use Rattle.transfer_copy.specs.KeptFiles.{AreAtStage, Files, IsApart, IsKept, after_request, files_after};
+ghost use Rattle.transfer_copy.specs.PutEnds.{PutStepDid};
+ghost use Rattle.transfer_copy.specs.PutRequests.{naming_request};
+ghost use Rattle.transfer_copy.specs.Puts.{MayPut, put_begun};
 ghost use Rattle.transfer_copy.specs.WholeGets.{GotWhole, IsGetLeg};
 ghost use Rattle.transfer_copy.specs.WholePuts.{IsPutLeg, SentWhole};
 ghost use Rattle.transfer_copy.specs.declared.get.FileGet.{FileGet};
 ghost use Rattle.transfer_copy.specs.declared.put.FilePut.{FilePut};
+ghost use Rattle.transfer_copy.specs.declared.put.PutStage.{PutStage};
 ghost use Rattle.transfer_copy.specs.declared.put.PutStage.TheVariants as put;
 ghost use Rattle.transfer_copy.specs.declared.get.GetStage.TheVariants as get;
 ghost use Rattle.transfer_copy.specs.declared.progress.Progress.{Progress};
@@ -78,4 +83,25 @@ pub fn one_name_is_changed()
         → d.files part ≡ Some had
         → mid ≡ all_done after_act (Reopened part len ∷ writes_of pieces) d
         → IsCopied part name (had ++ joined_pieces pieces) d (all_done after_act (naming_acts sync part name) mid) }
+{}
+
+/// States that no copy to the server loses a file, whatever the server answers. At every moment from the CLOSE on, the
+/// old file has its name, or the name of the part with `.old` after it, or the new file has the name: before the
+/// request that is in flight is carried out, and after it. This holds on a server that carries out a request before it
+/// answers with OK, and does not carry out one that it refuses.
+pub fn no_file_is_lost<F: LocalFile>()
+    ensures goes { (name part remote : List ℕ) (core after : Core) (old new : FilePut) (before now : F.History) (result : Progress)
+        (closed files : Files) → IsApart part remote
+        → PutStepDid F.done name part remote core old after new before now result old.stage
+        → AreAtStage part remote closed files old.stage
+        → AreAtStage part remote closed (files_after part remote core old files) new.stage }
+    ensures kept { (part remote : List ℕ) (closed files : Files) (s : PutStage) → IsApart part remote
+        → AreAtStage part remote closed files s
+        → IsKept part remote closed files
+        × IsKept part remote closed (after_request (naming_request part remote s) files) }
+{}
+
+/// States that the name of an old file fits if that of the part does: it has at most 255 bytes then, too.
+pub fn old_names_fit()
+    ensures { (part : List ℕ) → name_len_from 0 part ≤ 255 → name_len_from 0 (aside_of part) ≤ 255 }
 {}

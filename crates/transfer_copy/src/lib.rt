@@ -2,6 +2,7 @@
 #![tactic(auto)]
 
 mod answers;
+mod aside;
 mod copy_error;
 mod get;
 mod holding;
@@ -17,8 +18,8 @@ pub use copy_error::CopyError;
 pub use get::{FileGet, GetStage};
 pub use holding::{FileHold, Holding, Part};
 pub use laws::{
-    gets_are_whole, gets_write_their_part, one_name_is_changed, puts_are_whole,
-    puts_read_their_file,
+    gets_are_whole, gets_write_their_part, no_file_is_lost, old_names_fit, one_name_is_changed,
+    puts_are_whole, puts_read_their_file,
 };
 pub use local::{LocalError, LocalFile};
 pub use progress::Progress;

@@ -2,14 +2,14 @@
 ghost use Rattle.std.specs.Prelude.{◌≡◌, true, IfOk};
 ghost use Rattle.sftp_core.specs.Core.{is_call};
 ghost use Rattle.sftp_model.specs.OpenOptions.{flags_of};
-ghost use Rattle.sftp_model.specs.Answers.{expected_of};
 ghost use Rattle.sftp_model.specs.Frames.{no_attributes};
-ghost use Rattle.sftp_model.specs.declared.answers.Expected.TheVariants as expected;
 ghost use Rattle.sftp_model.specs.declared.request.Request.TheVariants as request;
 ghost use Rattle.plan_model.specs.FilePlans.{open_request};
 ghost use Rattle.sftp_core.specs.Info.{info_of};
-ghost use Rattle.transfer_copy.specs.PutRequests.{has_extension, rename_of};
+ghost use Rattle.transfer_copy.specs.PutRequests.{has_extension, naming_request};
 
+use crate::aside::aside_of;
+use crate::put::PutStage;
 use bitflags::Flags;
 use sftp_core::Core;
 use sftp_model::{Extensions, FileAttrs, OpenOptions, RemotePath, Request};
@@ -70,42 +70,48 @@ pub(crate) fn open_with(
     })
 }
 
-/// Returns the RENAME, or the extension that replaces a file that has the name. Fails only if an allocation fails.
-pub(crate) fn rename_request(
+/// Returns the RENAME of the part (draft-ietf-secsh-filexfer-02, section 6.5). Fails only if an allocation fails.
+fn rename_request(alloc: Global, part: &str, remote: &str) -> Result<Request, OutOfMemory>
+    ensures is { IfOk result (λ asked. asked ≡ request.Rename part.now remote.now) }
+    ensures call { IfOk result (λ asked. is_call asked ≡ true) }
+{
+    Ok(Request::Rename {
+        old: path(alloc, part)?,
+        to: path(alloc, remote)?,
+    })
+}
+
+/// Returns the request that is awaited at a stage of the end, at which the part gets its name. Fails only if an
+/// allocation fails.
+pub(crate) fn naming_request(
     alloc: Global,
-    from: &str,
-    to: &str,
-    replaces: bool,
+    part: &str,
+    remote: &str,
+    stage: PutStage,
 ) -> Result<Request, OutOfMemory>
-    ensures is { IfOk result (λ asked. asked ≡ rename_of from.now to.now replaces) }
+    ensures is { IfOk result (λ asked. asked ≡ naming_request part.now remote.now stage) }
     ensures call { IfOk result (λ asked. is_call asked ≡ true) }
-    ensures status { IfOk result (λ asked. expected_of asked ≡ expected.Status) }
 {
-    let old = path(alloc, from)?;
-    let to = path(alloc, to)?;
-    if replaces {
-        return Ok(Request::PosixRename { old, to });
+    match stage {
+        PutStage::Replacing => Ok(Request::PosixRename {
+            old: path(alloc, part)?,
+            to: path(alloc, remote)?,
+        }),
+        PutStage::Renaming => rename_request(alloc, part, remote),
+        PutStage::SettingAside => Ok(Request::Rename {
+            old: path(alloc, remote)?,
+            to: aside_of(alloc, part)?,
+        }),
+        PutStage::RenamingAgain => rename_request(alloc, part, remote),
+        PutStage::RemovingOld => Ok(Request::Remove {
+            path: aside_of(alloc, part)?,
+        }),
+        PutStage::RestoringOld => Ok(Request::Rename {
+            old: aside_of(alloc, part)?,
+            to: path(alloc, remote)?,
+        }),
+        _ => Ok(Request::Lstat {
+            path: path(alloc, remote)?,
+        }),
     }
-    Ok(Request::Rename { old, to })
-}
-
-/// Returns the LSTAT of a path. Fails only if an allocation fails.
-pub(crate) fn lstat_request(alloc: Global, name: &str) -> Result<Request, OutOfMemory>
-    ensures is { IfOk result (λ asked. asked ≡ request.Lstat name.now) }
-    ensures call { IfOk result (λ asked. is_call asked ≡ true) }
-{
-    Ok(Request::Lstat {
-        path: path(alloc, name)?,
-    })
-}
-
-/// Returns the REMOVE of a path. Fails only if an allocation fails.
-pub(crate) fn remove_request(alloc: Global, name: &str) -> Result<Request, OutOfMemory>
-    ensures is { IfOk result (λ asked. asked ≡ request.Remove name.now) }
-    ensures call { IfOk result (λ asked. is_call asked ≡ true) }
-    ensures status { IfOk result (λ asked. expected_of asked ≡ expected.Status) }
-{
-    Ok(Request::Remove {
-        path: path(alloc, name)?,
-    })
 }

@@ -5,8 +5,9 @@ ghost use Rattle.sftp_core.specs.Info.{info_of};
 ghost use Rattle.sftp_model.specs.OpenOptions.{flags_of};
 ghost use Rattle.transfer_copy.specs.declared.put.PutStage.TheVariants as stage;
 ghost use Rattle.transfer_copy.specs.Holdings.{SparesIds, drops_file, drops_parts, nothing_held};
+ghost use Rattle.transfer_copy.specs.PutEnds.{PutStepDid};
 ghost use Rattle.transfer_copy.specs.PutRequests.{open_part, write_flags};
-ghost use Rattle.transfer_copy.specs.Puts.{AcceptsWrite, AsksAt, IsBehindWrite, IsOpenToWrite, IsPutting, MayPut, OpensPut, PutAsksAttrs, PutAsksSync, PutEndsSending, PutStepDid, PutFinishes, PutGivesUp, PutHasEnded, PutLeaves, PutReadsNext, PutSendsOn, PutSyncsOrCloses, StartsPut, PutWritesNext, WritesOn, is_sync_due, put_begun, put_is_over};
+ghost use Rattle.transfer_copy.specs.Puts.{AcceptsWrite, AsksAt, IsBehindWrite, IsOpenToWrite, IsPutting, MayPut, OpensPut, PutAsksAttrs, PutAsksSync, PutEndsSending, PutFinishes, PutGivesUp, PutHasEnded, PutLeaves, PutReadsNext, PutSendsOn, PutSyncsOrCloses, StartsPut, PutWritesNext, WritesOn, is_sync_due, put_begun, put_is_over};
 
 mod end;
 
@@ -39,12 +40,16 @@ pub enum PutStage {
     Replacing,
     /// A plain RENAME is in flight.
     Renaming,
-    /// The LSTAT of the part file is in flight, after FAILURE refused a plain RENAME.
+    /// The LSTAT of the entry that has the name is in flight, after FAILURE refused a plain RENAME.
     Checking,
-    /// The REMOVE of a file with the name is in flight.
-    Removing,
-    /// The RENAME after the REMOVE is in flight.
+    /// The rename of the old file to the name of the part with `.old` after it is in flight.
+    SettingAside,
+    /// The RENAME of the part file after that is in flight.
     RenamingAgain,
+    /// The REMOVE of the old file is in flight, after the part file got its name.
+    RemovingOld,
+    /// The rename of the old file to its name is in flight, after the second RENAME of the part file was refused.
+    RestoringOld,
     /// The copy has ended.
     Ended,
 }
@@ -55,6 +60,10 @@ pub enum PutStage {
 /// If the part file has the first bytes already, the copy starts after them, and does not compare them. If there are
 /// attributes, the part file is given them after its last bytes, before it is closed. With `sync` it is written through
 /// to the server's disk then, if the server offers that.
+///
+/// If the server offers posix-rename@openssh.com, one rename replaces a file that has the name. Otherwise that file is
+/// first renamed to the name of the part with `.old` after it, and removed once the new file has the name. If the new
+/// one does not get it, the old file is renamed back. So neither is lost. Directories are not replaced.
 ///
 /// Used in `crates/transfer_copy/src/laws.rt`.
 #[must_use]
@@ -135,7 +144,9 @@ impl FilePut {
     ///
     /// The copy ends with the size of the target in bytes, including those that the part file had at first. Or it ends
     /// with the first failure: the server refused a request, the local file failed, the core keeps a fault, or an
-    /// allocation failed. The file on the server is closed then. The part file stays as far as it was written.
+    /// allocation failed. The file on the server is closed then. The part file stays as far as it was written, and a
+    /// file that had the name still has it. If it was renamed aside and can't be renamed back, it stays there. If it
+    /// can't be removed after the new file has the name, it stays aside, too, and the copy has succeeded.
     pub fn step<F: LocalFile>(
         &mut self,
         core: &mut Core,
@@ -154,11 +165,13 @@ impl FilePut {
             PutStage::Opening => self.open(core),
             PutStage::Writing => self.write(core, local),
             PutStage::Closing => self.close(core, part, remote),
-            PutStage::Replacing => self.last(core),
-            PutStage::Renaming => self.rename(core, part),
-            PutStage::Checking => self.check(core, remote),
-            PutStage::Removing => self.remove(core, part, remote),
-            PutStage::RenamingAgain => self.last(core),
+            PutStage::Replacing => self.replace(core),
+            PutStage::Renaming => self.rename(core, part, remote),
+            PutStage::Checking => self.check(core, part, remote),
+            PutStage::SettingAside => self.set_aside(core, part, remote),
+            PutStage::RenamingAgain => self.name_again(core, part, remote),
+            PutStage::RemovingOld => self.remove_old(core),
+            PutStage::RestoringOld => self.restore_old(core),
             PutStage::Ended => unreachable!(),
         }
     }

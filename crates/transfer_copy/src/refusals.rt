@@ -1,6 +1,5 @@
 //! The failure of a copy, by the reply of the server or the fault of the session.
 ghost use Rattle.std.specs.Prelude.{◌≡◌, true, false, IfErr, OnOk, OnErr};
-ghost use Rattle.sftp_model.specs.Answers.{is_attrs};
 ghost use Rattle.sftp_model.specs.declared.error.Error.TheVariants as error;
 ghost use Rattle.transfer_copy.specs.declared.copy_error.CopyError.TheVariants as copy_error;
 ghost use Rattle.transfer_copy.specs.Refusals.{IsOkStatus, faulted_by, is_failure, refusal_of};
@@ -59,17 +58,6 @@ pub(crate) fn settled(reply: Reply) -> Result<(), CopyError>
             }
             Err(status_failure(code, message, language))
         }
-        other => Err(refused(other)),
-    }
-}
-
-/// Returns `Ok` exactly if the reply is ATTRS.
-pub(crate) fn found(reply: Reply) -> Result<(), CopyError>
-    ensures ok { OnOk result (is_attrs reply ≡ true) }
-    ensures err { OnErr result (is_attrs reply ≡ false) }
-{
-    match reply {
-        Reply::Attrs(_attrs) => Ok(()),
         other => Err(refused(other)),
     }
 }

@@ -33,7 +33,8 @@ use Rattle.transfer_copy.specs.declared.progress.Progress.TheVariants as progres
 use Rattle.transfer_copy.specs.Gets.{GetStepDid, IsGetting, MayGet, get_begun}
 use Rattle.transfer_copy.specs.Holdings.{HoldingValue, IsOfOthers, SparesIds, nothing_held}
 use Rattle.transfer_copy.specs.Local.{LocalAct}
-use Rattle.transfer_copy.specs.Puts.{IsPutting, MayPut, PutStepDid, put_begun}
+use Rattle.transfer_copy.specs.PutEnds.{PutStepDid}
+use Rattle.transfer_copy.specs.Puts.{IsPutting, MayPut, put_begun}
 use Rattle.transfer_pool.specs.Sessions.{IsGoing, TookTurn}
 use Rattle.transfer_pool.specs.declared.copier.Advance.{Advance}
 use Rattle.transfer_pool.specs.declared.copier.Advance.TheVariants as advance

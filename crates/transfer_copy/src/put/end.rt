@@ -1,22 +1,19 @@
-//! The end of a copy to the server: its file is closed and renamed.
-ghost use Rattle.std.specs.Prelude.{◌≡◌, true, Some};
-ghost use Rattle.sftp_core.specs.Core.{is_call};
-ghost use Rattle.sftp_model.specs.Answers.{expected_of};
-ghost use Rattle.sftp_model.specs.declared.answers.Expected.TheVariants as expected;
-ghost use Rattle.sftp_model.specs.declared.request.Request.TheVariants as request;
+//! The end of a copy to the server: the CLOSE, and the requests that give the part file its name.
+ghost use Rattle.std.specs.Prelude.{◌≡◌, None, IsSome};
 ghost use Rattle.transfer_copy.specs.declared.put.PutStage.TheVariants as stage;
-ghost use Rattle.transfer_copy.specs.Holdings.{IsOnly};
-ghost use Rattle.transfer_copy.specs.PutRequests.{offers_rename, rename_of};
-ghost use Rattle.transfer_copy.specs.Puts.{AsksAt, AwaitsStatus, ChecksOrFails, EndsWriting, FindsPart, IsBetween, IsClosedAt, MayPut, NamedOrChecks, PutHasEnded, PutLeaves, PutNamed, RemovesTarget, rename_stage};
+ghost use Rattle.transfer_copy.specs.PutEnds.{AsksNaming, ChecksOrFails, EndsRefused, EndsWriting, FindsFile, IsAside, IsClosedAt, NamedAgain, NamedOrChecks, OldRemoved, OldRestored, PutNamed, RemovesOld, rename_stage};
+ghost use Rattle.transfer_copy.specs.PutRequests.{offers_rename};
+ghost use Rattle.transfer_copy.specs.Puts.{IsBetween, IsNaming, MayPut, PutHasEnded, PutLeaves};
 
 use super::{FilePut, PutStage};
+use crate::aside::is_directory;
 use crate::copy_error::CopyError;
-use crate::holding::StatusAnswer;
-use crate::paths::{lstat_request, offers, remove_request, rename_request};
+use crate::holding::{AttrsAnswer, StatusAnswer};
+use crate::paths::{naming_request, offers};
 use crate::progress::Progress;
 use crate::refusals::is_failure;
 use sftp_core::Core;
-use sftp_model::{Extensions, Request};
+use sftp_model::Extensions;
 use ssh_encoding::OutOfMemory;
 
 impl FilePut {
@@ -59,50 +56,32 @@ impl FilePut {
     /// Asks for the part file to be renamed. The rename replaces a file that has the name, if the server can do that.
     fn name(&mut self, core: &mut Core, part: &str, remote: &str) -> Progress
         requires { IsBetween core.old self.old }
-        ensures did { AsksAt (rename_of part.now remote.now (offers_rename core.old)) (rename_stage (offers_rename core.old)) core.old self.old core.new self.new result }
+        ensures did { AsksNaming part.now remote.now (rename_stage (offers_rename core.old)) core.old self.old core.new self.new result }
         ensures leaves { PutLeaves core.old self.old core.new self.new }
         ensures ended { PutHasEnded self.new.stage result }
     {
         if offers(core, Extensions::POSIX_RENAME) {
-            return self.ask_rename(core, part, remote, true, PutStage::Replacing);
+            return self.ask(core, part, remote, PutStage::Replacing);
         }
-        self.ask_rename(core, part, remote, false, PutStage::Renaming)
+        self.ask(core, part, remote, PutStage::Renaming)
     }
 
-    /// Asks for a rename, which is awaited at this stage.
-    fn ask_rename(
-        &mut self,
-        core: &mut Core,
-        part: &str,
-        remote: &str,
-        replaces: bool,
-        to: PutStage,
-    ) -> Progress
+    /// Submits the request of a stage, which is awaited there. If that fails, the copy has ended.
+    fn ask(&mut self, core: &mut Core, part: &str, remote: &str, to: PutStage) -> Progress
         requires between { IsBetween core.old self.old }
-        requires stage { AwaitsStatus to }
-        ensures did { AsksAt (rename_of part.now remote.now replaces) to core.old self.old core.new self.new result }
+        requires stage { IsNaming to self.old.failure }
+        ensures did { AsksNaming part.now remote.now to core.old self.old core.new self.new result }
         ensures leaves { PutLeaves core.old self.old core.new self.new }
         ensures ended { PutHasEnded self.new.stage result }
     {
-        match rename_request(core.alloc(), part, remote, replaces) {
-            Ok(request) => self.ask(core, &request, to),
+        let request = match naming_request(core.alloc(), part, remote, to) {
+            Ok(request) => request,
             Err(OutOfMemory) => {
                 self.stage = PutStage::Ended;
-                Progress::Ended(Err(CopyError::OutOfMemory))
+                return Progress::Ended(Err(CopyError::OutOfMemory));
             }
-        }
-    }
-
-    /// Submits a request of the file that a status answers, which is awaited at this stage.
-    fn ask(&mut self, core: &mut Core, request: &Request, to: PutStage) -> Progress
-        requires between { IsBetween core.old self.old }
-        requires stage { AwaitsStatus to }
-        requires asks { (is_call request.now ≡ true) × (expected_of request.now ≡ expected.Status) }
-        ensures did { AsksAt request.now to core.old self.old core.new self.new result }
-        ensures leaves { PutLeaves core.old self.old core.new self.new }
-        ensures ended { PutHasEnded self.new.stage result }
-    {
-        match self.holding.ask(core, request) {
+        };
+        match self.holding.ask(core, &request) {
             Ok(()) => {
                 self.stage = to;
                 Progress::Moved
@@ -114,9 +93,21 @@ impl FilePut {
         }
     }
 
-    /// Continues with the status of the last rename.
-    pub(super) fn last(&mut self, core: &mut Core) -> Progress
-        requires { MayPut core.old self.old × IsOnly expected.Status self.old.holding }
+    /// Ends the copy with the refusal that is kept.
+    fn end_refused(&mut self) -> Progress
+        requires { IsSome self.old.failure }
+        ensures { EndsRefused self.old self.new result }
+    {
+        self.stage = PutStage::Ended;
+        match self.failure.take() {
+            Some(first) => Progress::Ended(Err(first)),
+            None => unreachable!(),
+        }
+    }
+
+    /// Continues with the status of the rename that replaces a file.
+    pub(super) fn replace(&mut self, core: &mut Core) -> Progress
+        requires { MayPut core.old self.old × (self.old.stage ≡ stage.Replacing) }
         ensures did { PutNamed core.old self.old core.new self.new result }
         ensures leaves { PutLeaves core.old self.old core.new self.new }
         ensures ended { PutHasEnded self.new.stage result }
@@ -135,9 +126,9 @@ impl FilePut {
     }
 
     /// Continues with the status of a plain RENAME.
-    pub(super) fn rename(&mut self, core: &mut Core, part: &str) -> Progress
+    pub(super) fn rename(&mut self, core: &mut Core, part: &str, remote: &str) -> Progress
         requires { MayPut core.old self.old × (self.old.stage ≡ stage.Renaming) }
-        ensures did { NamedOrChecks part.now core.old self.old core.new self.new result }
+        ensures did { NamedOrChecks part.now remote.now core.old self.old core.new self.new result }
         ensures leaves { PutLeaves core.old self.old core.new self.new }
         ensures ended { PutHasEnded self.new.stage result }
     {
@@ -147,105 +138,127 @@ impl FilePut {
                 self.stage = PutStage::Ended;
                 Progress::Ended(Ok(self.offset))
             }
-            StatusAnswer::NotDone(e) => self.check_or_fail(core, part, e),
+            StatusAnswer::NotDone(e) => self.check_or_fail(core, part, remote, e),
         }
     }
 
     /// Continues after a plain RENAME was refused. If the refusal is FAILURE, which names no cause, a file may have the
-    /// name: the part file is looked for before that file is removed. Otherwise the copy ends.
-    fn check_or_fail(&mut self, core: &mut Core, part: &str, e: CopyError) -> Progress
+    /// name: the entry that has it is looked for, without following a link. Otherwise the copy ends.
+    fn check_or_fail(&mut self, core: &mut Core, part: &str, remote: &str, e: CopyError) -> Progress
         requires { IsBetween core.old self.old }
-        ensures did { ChecksOrFails e part.now core.old self.old core.new self.new result }
+        ensures did { ChecksOrFails e part.now remote.now core.old self.old core.new self.new result }
         ensures leaves { PutLeaves core.old self.old core.new self.new }
         ensures ended { PutHasEnded self.new.stage result }
     {
         if is_failure(&e) {
             self.failure = Some(e);
-            return self.ask_part(core, part);
+            return self.ask(core, part, remote, PutStage::Checking);
         }
         self.stage = PutStage::Ended;
         Progress::Ended(Err(e))
     }
 
-    /// Asks for the attributes of the part file, without following a link.
-    fn ask_part(&mut self, core: &mut Core, part: &str) -> Progress
-        requires { IsBetween core.old self.old }
-        ensures did { AsksAt (request.Lstat part.now) stage.Checking core.old self.old core.new self.new result }
-        ensures leaves { PutLeaves core.old self.old core.new self.new }
-        ensures ended { PutHasEnded self.new.stage result }
-    {
-        let request = match lstat_request(core.alloc(), part) {
-            Ok(request) => request,
-            Err(OutOfMemory) => {
-                self.stage = PutStage::Ended;
-                return Progress::Ended(Err(CopyError::OutOfMemory));
-            }
-        };
-        match self.holding.ask(core, &request) {
-            Ok(()) => {
-                self.stage = PutStage::Checking;
-                Progress::Moved
-            }
-            Err(e) => {
-                self.stage = PutStage::Ended;
-                Progress::Ended(Err(e))
-            }
-        }
-    }
-
-    /// Continues with the attributes of the part file. If it is still there, the file that has the name is removed.
-    /// Otherwise the copy ends with the refusal of the RENAME.
-    pub(super) fn check(&mut self, core: &mut Core, remote: &str) -> Progress
+    /// Continues with the attributes of the entry that has the name. If it is no directory, it is renamed aside.
+    /// Otherwise, and if there is none, the copy ends with the refusal of the RENAME.
+    pub(super) fn check(&mut self, core: &mut Core, part: &str, remote: &str) -> Progress
         requires { MayPut core.old self.old × (self.old.stage ≡ stage.Checking) }
-        ensures did { FindsPart remote.now core.old self.old core.new self.new result }
+        ensures did { FindsFile part.now remote.now core.old self.old core.new self.new result }
         ensures leaves { PutLeaves core.old self.old core.new self.new }
         ensures ended { PutHasEnded self.new.stage result }
     {
         match self.holding.settle_attrs(core) {
-            StatusAnswer::Missing => Progress::Waits,
-            StatusAnswer::Done => self.ask_remove(core, remote),
-            StatusAnswer::NotDone(e) => {
-                self.stage = PutStage::Ended;
-                match self.failure.take() {
-                    Some(first) => Progress::Ended(Err(first)),
-                    None => Progress::Ended(Err(e)),
+            AttrsAnswer::Missing => Progress::Waits,
+            AttrsAnswer::NotFound => self.end_refused(),
+            AttrsAnswer::Found(attrs) => {
+                if is_directory(&attrs) {
+                    return self.end_refused();
                 }
+                self.ask(core, part, remote, PutStage::SettingAside)
             }
         }
     }
 
-    /// Asks for the file that has the name to be removed.
-    fn ask_remove(&mut self, core: &mut Core, remote: &str) -> Progress
-        requires { IsBetween core.old self.old }
-        ensures did { AsksAt (request.Remove remote.now) stage.Removing core.old self.old core.new self.new result }
+    /// Continues after the rename of the old file aside: the part file is renamed again. If the old file was not
+    /// renamed, the copy ends with the refusal of the first RENAME.
+    pub(super) fn set_aside(&mut self, core: &mut Core, part: &str, remote: &str) -> Progress
+        requires { MayPut core.old self.old × (self.old.stage ≡ stage.SettingAside) }
+        ensures did { IsAside part.now remote.now core.old self.old core.new self.new result }
         ensures leaves { PutLeaves core.old self.old core.new self.new }
         ensures ended { PutHasEnded self.new.stage result }
     {
-        match remove_request(core.alloc(), remote) {
-            Ok(request) => self.ask(core, &request, PutStage::Removing),
-            Err(OutOfMemory) => {
-                self.stage = PutStage::Ended;
-                Progress::Ended(Err(CopyError::OutOfMemory))
+        match self.holding.settle_status(core) {
+            StatusAnswer::Missing => Progress::Waits,
+            StatusAnswer::Done => self.ask(core, part, remote, PutStage::RenamingAgain),
+            StatusAnswer::NotDone(_e) => self.end_refused(),
+        }
+    }
+
+    /// Continues with the status of the second RENAME. If the part file has the name, the old file is removed;
+    /// otherwise the old file is renamed back.
+    pub(super) fn name_again(&mut self, core: &mut Core, part: &str, remote: &str) -> Progress
+        requires { MayPut core.old self.old × (self.old.stage ≡ stage.RenamingAgain) }
+        ensures did { NamedAgain part.now remote.now core.old self.old core.new self.new result }
+        ensures leaves { PutLeaves core.old self.old core.new self.new }
+        ensures ended { PutHasEnded self.new.stage result }
+    {
+        match self.holding.settle_status(core) {
+            StatusAnswer::Missing => Progress::Waits,
+            StatusAnswer::Done => self.ask_removal(core, part, remote),
+            StatusAnswer::NotDone(e) => {
+                self.failure = Some(e);
+                self.ask(core, part, remote, PutStage::RestoringOld)
             }
         }
     }
 
-    /// Continues with the status of the REMOVE.
-    pub(super) fn remove(&mut self, core: &mut Core, part: &str, remote: &str) -> Progress
-        requires { MayPut core.old self.old × (self.old.stage ≡ stage.Removing) }
-        ensures did { RemovesTarget part.now remote.now core.old self.old core.new self.new result }
+    /// Asks for the old file to be removed, after the part file got the name. If that can't be submitted, the old file
+    /// stays aside, and the copy has ended all the same.
+    fn ask_removal(&mut self, core: &mut Core, part: &str, remote: &str) -> Progress
+        requires { IsBetween core.old self.old }
+        ensures did { RemovesOld part.now remote.now core.old self.old core.new self.new result }
+        ensures leaves { PutLeaves core.old self.old core.new self.new }
+        ensures ended { PutHasEnded self.new.stage result }
+    {
+        match self.ask(core, part, remote, PutStage::RemovingOld) {
+            Progress::Waits => unreachable!(),
+            Progress::Moved => Progress::Moved,
+            Progress::Ended(_unasked) => Progress::Ended(Ok(self.offset)),
+        }
+    }
+
+    /// Ends the copy after the old file was removed. If it was not, it stays aside, and the copy has its count all the
+    /// same.
+    pub(super) fn remove_old(&mut self, core: &mut Core) -> Progress
+        requires { MayPut core.old self.old × (self.old.stage ≡ stage.RemovingOld) }
+        ensures did { OldRemoved core.old self.old core.new self.new result }
         ensures leaves { PutLeaves core.old self.old core.new self.new }
         ensures ended { PutHasEnded self.new.stage result }
     {
         match self.holding.settle_status(core) {
             StatusAnswer::Missing => Progress::Waits,
             StatusAnswer::Done => {
-                self.ask_rename(core, part, remote, false, PutStage::RenamingAgain)
-            }
-            StatusAnswer::NotDone(e) => {
                 self.stage = PutStage::Ended;
-                Progress::Ended(Err(e))
+                Progress::Ended(Ok(self.offset))
             }
+            StatusAnswer::NotDone(_e) => {
+                self.stage = PutStage::Ended;
+                Progress::Ended(Ok(self.offset))
+            }
+        }
+    }
+
+    /// Ends the copy with the refusal of the second RENAME, after the old file was renamed back. If it was not, it
+    /// stays aside.
+    pub(super) fn restore_old(&mut self, core: &mut Core) -> Progress
+        requires { MayPut core.old self.old × (self.old.stage ≡ stage.RestoringOld) }
+        ensures did { OldRestored core.old self.old core.new self.new result }
+        ensures leaves { PutLeaves core.old self.old core.new self.new }
+        ensures ended { PutHasEnded self.new.stage result }
+    {
+        match self.holding.settle_status(core) {
+            StatusAnswer::Missing => Progress::Waits,
+            StatusAnswer::Done => self.end_refused(),
+            StatusAnswer::NotDone(_e) => self.end_refused(),
         }
     }
 }
