@@ -1,8 +1,7 @@
 -- What calls that are started and run in one leave to others.
-use Rattle.std.proofs.Common.{◌≡◌, ◌⊎◌, ◌<◌, ◌-◌, ◌^◌, ℕ, [], ap, refl, sym, subst, inl, inr}
+use Rattle.std.proofs.Common.{◌≡◌, ◌⊎◌, ◌<◌, ◌-◌, ◌^◌, ◌∙◌, ℕ, [], ap, refl, sym, subst, inl, inr}
 use Rattle.std.specs.Prelude.{None, Result, Ok, Err}
 use Rattle.sftp_model.specs.declared.error.Error.{Error}
-use Rattle.sftp_model.specs.declared.error.Error.TheVariants as error
 use Rattle.sftp_model.specs.declared.slot.Site.{Site}
 use Rattle.plan_model.specs.Moves.{Answers, Plan}
 use Rattle.sftp_core.specs.Core.{Core}
@@ -15,10 +14,11 @@ use Rattle.plan_state.specs.declared.stage.Stage.TheVariants.{Ready}
 use Rattle.plan_state.proofs.Keeping.{keeps_same}
 use Rattle.plan_state.proofs.Sparing.{spares_as, spares_both, submitted_spares}
 use Rattle.sftp_fs.specs.PathStarts.{PathPlan, StartsFrom}
-use Rattle.sftp_client.specs.Calls.{CallsOnPath, HasNoId, IfIdLeft, IsUsable, IsUsableAfter, OnCore, RunsCall, RunsInOne, StartsThenRuns}
+use Rattle.sftp_client.specs.Calls.{CallsOnPath, IfIdLeft, IsCallable, IsUnstarted, IsUsable, IsUsableAfter, MayStartOr, OnCore, RunsCall, RunsInOne, StartsThenRuns}
 use Rattle.sftp_client.specs.Sessions.{SftpValue, with_core}
 use Rattle.sftp_client.specs.Waits.{HasFinished, IsReadyOr, KeepsFaults}
-use Rattle.sftp_client.proofs.Faults.{faults_kept}
+use Rattle.sftp_client.proofs.Faults.{faults_as, faults_kept, still_alive}
+use Rattle.sftp_client.proofs.KeptFaults.{cancelled_fault}
 
 -- ---- what others hold
 
@@ -50,35 +50,68 @@ started_apart s w plan answers old new q (inr ready) keeps =
 
 -- ---- the session afterwards
 
+pub callable_of : {L S : Type 0} (state : L → LinkView S) (s : SftpValue L) → IsUsable state s → IsCallable state s
+callable_of state s usable = record { opened = usable.opened; alive = λ none. usable.count }
+
+-- whatever the result
+pub callable_after : {L S V : Type 0} (state : L → LinkView S) (new : SftpValue L) (result : Result V Error)
+    → IsUsableAfter state new result → IsCallable state new
+callable_after state new (Ok value) usable = callable_of state new usable
+callable_after state new (Err e) callable = callable
+
+-- without a kept fault
+pub usable_of : {L S : Type 0} (state : L → LinkView S) (s : SftpValue L) → IsCallable state s → s.core.fault ≡ None
+    → IsUsable state s
+usable_of state s callable none = record { opened = callable.opened; count = callable.alive none }
+
 pub usable_after : {L S V : Type 0} (state : L → LinkView S) (old new : SftpValue L) (result : Result V Error)
     → IsUsable state old → StaysOpen old.core new.core
-    → KeepsFaults (state old.link).faults (state new.link).faults result → IsUsableAfter state new result
+    → KeepsFaults (state old.link).faults (state new.link).faults new.core.fault result
+    → IsUsableAfter state new result
 usable_after state old new (Ok value) usable stays same =
     record {
       opened = stays usable.opened;
       count = subst (λ (n : ℕ). n < 2 ^ 64 - 1) (sym same) usable.count;
     }
-usable_after state old new (Err error.LinkFault) usable stays same = tt
-usable_after state old new (Err other) usable stays same =
+usable_after {V = V} state old new (Err e) usable stays faults =
     record {
       opened = stays usable.opened;
-      count = subst (λ (n : ℕ). n < 2 ^ 64 - 1) (sym same) usable.count;
+      alive = still_alive V (state old.link).faults (state new.link).faults new.core.fault e faults usable.count;
+    }
+
+-- after an error
+pub callable_since : {L S : Type 0} (V : Type 0) (state : L → LinkView S) (old new : SftpValue L) (e : Error)
+    → IsUsable state old → StaysOpen old.core new.core
+    → KeepsFaults {V = V} (state old.link).faults (state new.link).faults new.core.fault (Err e)
+    → IsCallable state new
+callable_since V state old new e usable stays faults =
+    usable_after {V = V} state old new (Err e) usable stays faults
+
+-- another core with the same fault
+pub callable_with : {L S : Type 0} (state : L → LinkView S) (old new : SftpValue L) → IsCallable state old
+    → StaysOpen old.core new.core → new.core.fault ≡ old.core.fault → new.link ≡ old.link → IsCallable state new
+callable_with state old new callable stays kept same =
+    record {
+      opened = stays callable.opened;
+      alive = λ none. subst (λ l. (state l).faults < 2 ^ 64 - 1) (sym same) (callable.alive (sym kept ∙ none));
     }
 
 -- the count of faults from a start to the end of what was run after it
 pub faults_since : {L S V : Type 0} (state : L → LinkView S) (old started mid new : SftpValue L)
-    (result : Result V Error) → started.link ≡ old.link → new.link ≡ mid.link
-    → KeepsFaults (state started.link).faults (state mid.link).faults result
-    → KeepsFaults (state old.link).faults (state new.link).faults result
-faults_since state old started mid new result same left faults =
-    subst (λ l. KeepsFaults (state old.link).faults (state l).faults result) (sym left)
-    (subst (λ l. KeepsFaults (state l).faults (state mid.link).faults result) same faults)
+    (result : Result V Error) → started.link ≡ old.link → new.link ≡ mid.link → new.core.fault ≡ mid.core.fault
+    → KeepsFaults (state started.link).faults (state mid.link).faults mid.core.fault result
+    → KeepsFaults (state old.link).faults (state new.link).faults new.core.fault result
+faults_since state old started mid new result same left kept faults =
+    faults_as result (state old.link).faults (state new.link).faults mid.core.fault new.core.fault kept
+    (subst (λ l. KeepsFaults (state old.link).faults (state l).faults mid.core.fault result) (sym left)
+    (subst (λ l. KeepsFaults (state l).faults (state mid.link).faults mid.core.fault result) same faults))
 
 pub finish_faults : {W M V L S : Type 0} (s : Meaning W M V) (state : L → LinkView S) (old started new : SftpValue L)
     (p : CallValue M) (result : Result V Error) → started.link ≡ old.link → HasFinished s state started new p result
-    → KeepsFaults (state old.link).faults (state new.link).faults result
+    → KeepsFaults (state old.link).faults (state new.link).faults new.core.fault result
 finish_faults s state old started new p result same h =
-    faults_since state old started h.mid new result same (ap (λ (x : SftpValue _). x.link) h.left) h.waited.faults
+    faults_since state old started h.mid new result same (ap (λ (x : SftpValue _). x.link) h.left)
+    (cancelled_fault h.mid.core new.core h.last.stage h.given_up) h.waited.faults
 
 -- ---- the ways of a call
 
@@ -97,25 +130,34 @@ refused {V = V} Starts Runs state old new e usable h keeps same =
       runs = inl h;
       keeps = keeps;
       usable = usable_after {V = V} state old new (Err e) usable keeps.grants.opened
-          (faults_kept {V = V} (Err e) _ _ (ap (λ l. (state l).faults) same));
+          (faults_kept {V = V} (Err e) _ _ new.core.fault (ap (λ l. (state l).faults) same));
     }
 
-pub without_id : {L : Type 0} (old : SftpValue L) (e : Error) → IsReadyOr old.core (Err e) → HasNoId old old e
-without_id old e h = record { all = h.1; error = h.0; unchanged = refl }
+-- a call may be started, or all ids are in use
+pub may_start : {L S : Type 0} (state : L → LinkView S) (s : SftpValue L) (result : Result (Unit {0}) Error)
+    → IsCallable state s → s.core.fault ≡ None → IsReadyOr s.core result → MayStartOr state s result
+may_start state s (Ok u) callable none ready = record { usable = usable_of state s callable none; ready = ready }
+may_start state s (Err e) callable none h = inl (record { all = h.1; error = h.0; unchanged = refl })
+
+pub unstarted : {L S C V : Type 0} (Starts : SftpValue L → SftpValue L → Result C Error → Type 0)
+    (Runs : SftpValue L → SftpValue L → C → Result V Error → Type 0) (state : L → LinkView S) (old : SftpValue L)
+    (e : Error) → IsCallable state old → Starts old old (Err e) → RunsCall Starts Runs state old old (Err e)
+unstarted Starts Runs state old e callable h =
+    record { runs = inl h; keeps = keeps_same old.core; usable = callable }
 
 pub no_id : {L S C V : Type 0} (Starts : SftpValue L → SftpValue L → Result C Error → Type 0)
     (Runs : SftpValue L → SftpValue L → C → Result V Error → Type 0) (state : L → LinkView S) (old : SftpValue L)
-    (e : Error) → IsUsable state old → IsReadyOr old.core (Err e)
+    (e : Error) → IsCallable state old → IsUnstarted old old e
     → RunsCall (IfIdLeft Starts) Runs state old old (Err e)
-no_id Starts Runs state old e usable h =
-    refused (IfIdLeft Starts) Runs state old old e usable (inl (without_id old e h)) (keeps_same old.core) refl
+no_id Starts Runs state old e callable h = unstarted (IfIdLeft Starts) Runs state old e callable (inl h)
 
 pub ran : {L S C V : Type 0} (Starts : SftpValue L → SftpValue L → Result C Error → Type 0)
     (Runs : SftpValue L → SftpValue L → C → Result V Error → Type 0) (state : L → LinkView S)
     (old started new : SftpValue L) (call : C) (result : Result V Error) → IsUsable state old
     → Starts old started (Ok call) → Runs started new call result
     → SparesOthers old.core new.core (λ id. Unit {0}) (λ id. Unit {0})
-    → KeepsFaults (state old.link).faults (state new.link).faults result → RunsCall Starts Runs state old new result
+    → KeepsFaults (state old.link).faults (state new.link).faults new.core.fault result
+    → RunsCall Starts Runs state old new result
 ran Starts Runs state old started new call result usable starts runs spares faults =
     let keeps = all_kept old.core new.core spares in
     record {
@@ -156,10 +198,11 @@ called Starts s state old started new call result usable starts same apart h =
 abbrev pub nowhere : Site
 nowhere = record { slots = []; directory = [] }
 
-pub path_no_id : {M V L S : Type 0} (s : Meaning Site M V) (plan : PathPlan) (state : L → LinkView S) (old : SftpValue L)
-    (e : Error) → IsReadyOr old.core (Err e) → IsUsable state old → CallsOnPath s plan state old old (Err e)
-path_no_id s plan state old e h usable =
-    no_id (OnCore (StartsFrom s plan [])) (HasFinished s state) state old e usable h
+pub path_no_id : {M V L S : Type 0} (s : Meaning Site M V) (plan : PathPlan) (state : L → LinkView S)
+    (old : SftpValue L)
+    (e : Error) → IsUnstarted old old e → IsCallable state old → CallsOnPath s plan state old old (Err e)
+path_no_id s plan state old e h callable =
+    no_id (OnCore (StartsFrom s plan [])) (HasFinished s state) state old e callable h
 
 path_refused_at : {M V L S : Type 0} (s : Meaning Site M V) (plan : PathPlan) (state : L → LinkView S)
     (old new : SftpValue L) (e : Error) → StartsFrom s plan [] old.core new.core (Err e) → new ≡ with_core old new.core

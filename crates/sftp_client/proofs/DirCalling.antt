@@ -8,7 +8,7 @@ use Rattle.sftp_model.specs.declared.error.Fault.{Fault}
 use Rattle.sftp_model.specs.declared.reply.NameEntry.{NameEntry}
 use Rattle.sftp_model.specs.declared.reply.Reply.{Reply}
 use Rattle.sftp_model.specs.declared.reply.Reply.TheVariants as reply
-use Rattle.sftp_core.specs.Core.{Core, IsGrant, core_after_abandon, record_at, reply_in}
+use Rattle.sftp_core.specs.Core.{Core, IsGrant, core_after_abandon, core_after_release, record_at, reply_in}
 use Rattle.sftp_core.specs.Grant.{GrantValue}
 use Rattle.sftp_link.specs.Views.{LinkView}
 use Rattle.plan_state.specs.Calls.{CallValue, CancelsAwaited, IsNoneOfCall}
@@ -17,16 +17,16 @@ use Rattle.plan_state.specs.declared.poll.Poll.TheVariants.{Pending, Ready}
 use Rattle.plan_state.proofs.Keeping.{keeps_same}
 use Rattle.plan_state.proofs.OthersKept.{cancelled_keeps_grants, grant_kept}
 use Rattle.plan_state.proofs.Sparing.{abandoned_spares, spares_also, spares_as, spares_both, spares_from, spares_kept}
-use Rattle.sftp_file.specs.Settles.{settle_meaning}
 use Rattle.sftp_file.specs.declared.short_calls.Settling.{Settling}
 use Rattle.sftp_fs.specs.Listings.{GivesAt, HearsOf, IsAwaiting, IsListing, IsNoneAsked, ListingAnswer, ListingValue, at_listing_end, fresh_listing, given_up, left_by}
-use Rattle.sftp_client.specs.Calls.{ClosesHandle, IsUsable, ReleasesHandle}
+use Rattle.sftp_client.specs.Calls.{ClosesHandle, FinishesClose, IsCallable, IsUsable, ReleasesHandle}
 use Rattle.sftp_client.specs.DirCalls.{AreEntries, ClosesListing, IsListedToEnd, IsNoneOfListing}
 use Rattle.sftp_client.specs.Listed.{AwaitsEntry, HasListed, ListedIn, ListingStops}
 use Rattle.sftp_client.specs.Sessions.{SftpValue, with_core}
-use Rattle.sftp_client.specs.Waits.{ArePollRounds, HasFinished}
-use Rattle.sftp_client.proofs.Calling.{all_kept}
-use Rattle.sftp_client.proofs.HandleCalling.{close_first, closed, let_off}
+use Rattle.sftp_client.specs.Waits.{ArePollRounds}
+use Rattle.sftp_client.proofs.Calling.{all_kept, callable_with}
+use Rattle.sftp_client.proofs.HandleCalling.{callable_inside, close_first, closed, let_off}
+use Rattle.sftp_client.proofs.KeptFaults.{core_fault, given_up_fault, release_fault}
 
 -- ---- a listing keeps its grant
 
@@ -182,12 +182,18 @@ listing_first listing old core call h closes =
     spares_both old mid core (IsNoneOfListing listing) (λ id. (id ≢ listing.grant.id) × Unit {0})
     (IsNoneOfCall call.stage) first last
 
+listing_fault : (listing : ListingValue) (old core : Core) (call : CallValue Settling)
+    → ClosesListing listing old core call → core.fault ≡ old.fault
+listing_fault listing old core call closes =
+    core_fault (core_after_release (given_up old listing.asked) listing.grant) core closes.core
+    ∙ (release_fault (given_up old listing.asked) listing.grant ∙ given_up_fault old listing.asked)
+
 dir_closed_at : {L S : Type 0} (listing : ListingValue) (state : L → LinkView S) (old new : SftpValue L) (core : Core)
-    (call : CallValue Settling) (result : Result (Unit {0}) Error) → IsUsable state old → IsListing old.core listing
-    → ClosesListing listing old.core core call → HasFinished settle_meaning state (with_core old core) new call result
+    (call : CallValue Settling) (result : Result (Unit {0}) Error) → IsListing old.core listing
+    → ClosesListing listing old.core core call → FinishesClose state (with_core old core) new call result
     → ClosesHandle (ClosesListing listing) (IsNoneOfListing listing) state old new result
-dir_closed_at listing state old new core call result usable held releases h =
-    closed (ClosesListing listing) (IsNoneOfListing listing) state old new core call result usable releases
+dir_closed_at listing state old new core call result held releases h =
+    closed (ClosesListing listing) (IsNoneOfListing listing) state old new core call result releases
     (listing_first listing old.core core call held releases) h
 
 dir_let_off_at : {L : Type 0} (listing : ListingValue) (old new : SftpValue L) (core : Core)
@@ -196,7 +202,8 @@ dir_let_off_at : {L : Type 0} (listing : ListingValue) (old new : SftpValue L) (
     → ReleasesHandle (ClosesListing listing) (IsNoneOfListing listing) old new
 dir_let_off_at listing old new core call held releases cancels left =
     let_off (ClosesListing listing) (IsNoneOfListing listing) old new core call releases
-    (listing_first listing old.core core call held releases) cancels left
+    (listing_first listing old.core core call held releases) (listing_fault listing old.core core call releases)
+    cancels left
 
 -- ---- a directory that is listed in one
 
@@ -220,16 +227,23 @@ listing_inside : {L : Type 0} (old inside : SftpValue L) (listing : ListingValue
     → IsListing old.core listing → IsListing inside.core listing
 listing_inside old inside listing same held = subst (λ (x : SftpValue _). IsListing x.core listing) (sym same) held
 
+-- once the listing was released, the close may be run
+pub dir_callable : {L S : Type 0} (listing : ListingValue) (state : L → LinkView S) (old inside : SftpValue L)
+    (core : Core) (call : CallValue Settling) → IsCallable state old → IsListing old.core listing → inside ≡ old
+    → ClosesListing listing inside.core core call → IsCallable state (with_core inside core)
+dir_callable listing state old inside core call callable held same releases =
+    callable_with state inside (with_core inside core) (callable_inside state old inside same callable)
+    (listing_first listing inside.core core call (listing_inside old inside listing same held) releases).opened
+    (listing_fault listing inside.core core call releases) refl
+
 pub dir_closed : {L S : Type 0} (listing : ListingValue) (state : L → LinkView S) (old inside new : SftpValue L)
-    (core : Core) (call : CallValue Settling) (result : Result (Unit {0}) Error) → IsUsable state old
+    (core : Core) (call : CallValue Settling) (result : Result (Unit {0}) Error)
     → IsListing old.core listing → inside ≡ old → ClosesListing listing inside.core core call
-    → HasFinished settle_meaning state (with_core inside core) new call result
+    → FinishesClose state (with_core inside core) new call result
     → ClosesHandle (ClosesListing listing) (IsNoneOfListing listing) state old new result
-dir_closed listing state old inside new core call result usable held same releases h =
+dir_closed listing state old inside new core call result held same releases h =
     subst (λ (x : SftpValue _). ClosesHandle (ClosesListing listing) (IsNoneOfListing listing) state x new result) same
-    (dir_closed_at listing state inside new core call result
-    (subst (λ (x : SftpValue _). IsUsable state x) (sym same) usable) (listing_inside old inside listing same held)
-    releases h)
+    (dir_closed_at listing state inside new core call result (listing_inside old inside listing same held) releases h)
 
 pub dir_let_off : {L : Type 0} (listing : ListingValue) (old inside new : SftpValue L) (core : Core)
     (call : CallValue Settling) → IsListing old.core listing → inside ≡ old
@@ -238,3 +252,9 @@ pub dir_let_off : {L : Type 0} (listing : ListingValue) (old inside new : SftpVa
 dir_let_off listing old inside new core call held same releases cancels left =
     subst (λ (x : SftpValue _). ReleasesHandle (ClosesListing listing) (IsNoneOfListing listing) x new) same
     (dir_let_off_at listing inside new core call (listing_inside old inside listing same held) releases cancels left)
+
+pub dir_released : {L S : Type 0} (listing : ListingValue) (state : L → LinkView S) (old new : SftpValue L)
+    → IsCallable state old → ReleasesHandle (ClosesListing listing) (IsNoneOfListing listing) old new
+    → IsCallable state new
+dir_released listing state old new callable h =
+    callable_with state old new callable h.spares.opened h.fault (ap (λ (x : SftpValue _). x.link) h.left)

@@ -13,7 +13,6 @@ use Rattle.sftp_core.specs.Grant.{GrantValue}
 use Rattle.sftp_link.specs.Views.{LinkView}
 use Rattle.plan_state.specs.Calls.{CallValue}
 use Rattle.plan_state.specs.Runners.{Meaning}
-use Rattle.plan_state.proofs.Keeping.{keeps_same}
 use Rattle.plan_state.proofs.OthersKept.{grant_kept}
 use Rattle.plan_state.proofs.Sparing.{spares_both}
 use Rattle.sftp_file.specs.Copies.{CopyStarts, CopyValue, copy_meaning}
@@ -24,24 +23,25 @@ use Rattle.sftp_fs.specs.declared.fs_write.Writing.TheVariants as writing
 use Rattle.sftp_fs_read.specs.WholeReads.{FsReadValue, IsNoneOfRead, ReadOpens, ReadsFrom, is_over as read_over}
 use Rattle.sftp_fs_read.specs.declared.fs_read.Whole.{Whole}
 use Rattle.sftp_fs_read.specs.declared.fs_read.Whole.TheVariants as whole
-use Rattle.sftp_client.specs.Calls.{CallsOnFile, CopiesFile, CopyStartsOr, IfIdLeft, IsUsable, OnCore, ReadsPath, StartsOr, WritesPath}
+use Rattle.sftp_client.specs.Calls.{CallsOnFile, CopiesFile, CopyStartsOr, IfIdLeft, IsCallable, IsUnstarted, IsUsable, OnCore, ReadsPath, StartsOr, WritesPath}
 use Rattle.sftp_client.specs.Sessions.{SftpValue, with_core}
-use Rattle.sftp_client.specs.Waits.{HasFinishedOn, IsReadyOr}
+use Rattle.sftp_client.specs.Waits.{HasFinishedOn}
 use Rattle.sftp_client.specs.WholeWaits.{HasCopied, HasFinishedRead}
 use Rattle.sftp_client.specs.WriteWaits.{HasFinishedWrite}
-use Rattle.sftp_client.proofs.Calling.{faults_since, finish_all, finish_faults, no_id, ran, refused, started_apart, without_id}
+use Rattle.sftp_client.proofs.Calling.{faults_since, finish_all, finish_faults, no_id, ran, refused, started_apart, unstarted}
+use Rattle.sftp_client.proofs.KeptFaults.{read_fault, write_fault}
 use Rattle.sftp_client.proofs.HandleCalling.{held_inside, usable_inside}
 
 -- ---- calls on a file
 
 pub file_no_id : {W M V L S : Type 0} (s : Meaning W M V) (w : W) (at : M → FileAt) (plan : FilePlan)
-    (state : L → LinkView S) (file : FileValue) (old : SftpValue L) (e : Error) → IsReadyOr old.core (Err e)
-    → IsGrant old.core file.grant → IsUsable state old → CallsOnFile s w at plan state file file old old (Err e)
-file_no_id s w at plan state file old e h held usable =
+    (state : L → LinkView S) (file : FileValue) (old : SftpValue L) (e : Error) → IsUnstarted old old e
+    → IsGrant old.core file.grant → IsCallable state old → CallsOnFile s w at plan state file file old old (Err e)
+file_no_id s w at plan state file old e h held callable =
     record {
-      calls = refused (StartsOr s w plan file file)
-          (λ started new call result. HasFinishedOn s at state started new call file file result) state old old e
-          usable (inl (without_id old e h), refl) (keeps_same old.core) refl;
+      calls = unstarted (StartsOr s w plan file file)
+          (λ started new call result. HasFinishedOn s at state started new call file file result) state old e
+          callable (inl h, refl);
       held = held;
     }
 
@@ -83,13 +83,13 @@ file_called_at s w at plan state before after old started new call result usable
 -- ---- copies
 
 pub copy_no_id : {L S : Type 0} (n : ℕ) (state : L → LinkView S) (f g : FileValue) (old : SftpValue L) (e : Error)
-    → IsReadyOr old.core (Err e) → IsGrant old.core f.grant → IsGrant old.core g.grant → IsUsable state old
+    → IsUnstarted old old e → IsGrant old.core f.grant → IsGrant old.core g.grant → IsCallable state old
     → CopiesFile n state f f g g old old (Err e)
-copy_no_id n state f g old e h source target usable =
+copy_no_id n state f g old e h source target callable =
     record {
-      calls = refused (CopyStartsOr n f f g g)
-          (λ started last call done. HasCopied state started last call f f g g done) state old old e
-          usable (inl (without_id old e h), (refl, refl)) (keeps_same old.core) refl;
+      calls = unstarted (CopyStartsOr n f f g g)
+          (λ started last call done. HasCopied state started last call f f g g done) state old e
+          callable (inl h, (refl, refl));
       source = source;
       target = target;
     }
@@ -140,9 +140,9 @@ copy_called_at n state f f' g g' old started new call result usable source targe
 -- ---- files of a path, whole
 
 pub read_path_no_id : {L S : Type 0} (path : List ℕ) (state : L → LinkView S) (old : SftpValue L) (e : Error)
-    → IsReadyOr old.core (Err e) → IsUsable state old → ReadsPath path state old old (Err e)
-read_path_no_id path state old e h usable =
-    no_id (OnCore (ReadsFrom path [])) (HasFinishedRead state) state old e usable h
+    → IsUnstarted old old e → IsCallable state old → ReadsPath path state old old (Err e)
+read_path_no_id path state old e h callable =
+    no_id (OnCore (ReadsFrom path [])) (HasFinishedRead state) state old e callable h
 
 read_path_refused_at : {L S : Type 0} (path : List ℕ) (state : L → LinkView S) (old new : SftpValue L) (e : Error)
     → ReadsFrom path [] old.core new.core (Err e) → new ≡ with_core old new.core
@@ -161,12 +161,13 @@ read_path_called_at path state old started new call result usable starts left h 
     (spares_both old.core started.core new.core (λ id. Unit {0}) (IsNoneOfRead call.stage) (λ id. Unit {0})
     starts.spares h.spares)
     (faults_since state old started h.mid new result (ap (λ (x : SftpValue _). x.link) left)
-    (ap (λ (x : SftpValue _). x.link) h.left) h.waited.faults)
+    (ap (λ (x : SftpValue _). x.link) h.left) (read_fault h.mid.core new.core h.last.stage h.given_up)
+    h.waited.faults)
 
 pub write_path_no_id : {L S : Type 0} (path content : List ℕ) (state : L → LinkView S) (old : SftpValue L) (e : Error)
-    → IsReadyOr old.core (Err e) → IsUsable state old → WritesPath path content state old old (Err e)
-write_path_no_id path content state old e h usable =
-    no_id (OnCore (WritesFrom path content [])) (HasFinishedWrite state) state old e usable h
+    → IsUnstarted old old e → IsCallable state old → WritesPath path content state old old (Err e)
+write_path_no_id path content state old e h callable =
+    no_id (OnCore (WritesFrom path content [])) (HasFinishedWrite state) state old e callable h
 
 write_path_refused_at : {L S : Type 0} (path content : List ℕ) (state : L → LinkView S) (old new : SftpValue L)
     (e : Error) → WritesFrom path content [] old.core new.core (Err e) → new ≡ with_core old new.core
@@ -185,7 +186,8 @@ write_path_called_at path content state old started new call result usable start
     (spares_both old.core started.core new.core (λ id. Unit {0}) (IsNoneOfWrite call.stage) (λ id. Unit {0})
     starts.spares h.spares)
     (faults_since state old started h.mid new result (ap (λ (x : SftpValue _). x.link) left)
-    (ap (λ (x : SftpValue _). x.link) h.left) h.waited.faults)
+    (ap (λ (x : SftpValue _). x.link) h.left) (write_fault h.mid.core new.core h.last.stage h.given_up)
+    h.waited.faults)
 
 -- ---- whole reads and writes that were just started have not answered
 

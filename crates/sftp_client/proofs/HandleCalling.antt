@@ -2,6 +2,7 @@
 use Rattle.std.proofs.Common.{◌≡◌, ◌≢◌, ◌-◌, ◌==◌, ◌∙◌, ℕ, zero, suc, List, [], Bool, true, false, ap, refl, sym, subst, arith, inl, inr}
 use Rattle.std.specs.Prelude.{Option, None, Some, Result, Ok, Err, IsSome, IfOk, if◌then◌else◌}
 use Rattle.sftp_model.specs.declared.error.Error.{Error}
+use Rattle.sftp_model.specs.declared.error.Error.TheVariants as error
 use Rattle.sftp_model.specs.declared.error.Fault.{Fault}
 use Rattle.sftp_model.specs.declared.open_options.OpenOptions.{OpenOptions}
 use Rattle.sftp_model.specs.OpenOptions.{flags_of}
@@ -20,7 +21,6 @@ use Rattle.plan_state.specs.Runners.{Meaning}
 use Rattle.plan_state.specs.declared.poll.Poll.{Poll}
 use Rattle.plan_state.specs.declared.poll.Poll.TheVariants as poll
 use Rattle.plan_state.specs.declared.stage.Stage.{Stage}
-use Rattle.plan_state.proofs.Keeping.{keeps_same}
 use Rattle.plan_state.proofs.OthersKept.{grant_at, keeps_unchanged, released_holds}
 use Rattle.plan_state.proofs.Sparing.{cancelled_spares, given_spares, spares_both, spares_kept, spares_same, stepped_spares}
 use Rattle.sftp_file.specs.Closes.{ReleasesFile, stage_of_close}
@@ -31,11 +31,12 @@ use Rattle.sftp_file.specs.declared.opens.Opening.{Opening}
 use Rattle.sftp_file.specs.declared.short_calls.Settling.{Settling}
 use Rattle.sftp_fs.specs.Directories.{OpensFrom, opening_dir}
 use Rattle.sftp_fs.specs.declared.directory.OpeningDir.{OpeningDir}
-use Rattle.sftp_client.specs.Calls.{ClosesHandle, IfIdLeft, IsNoneOfFile, IsUsable, OnCore, OpensDirectory, OpensHandle, OpensPath, ReleasesHandle}
+use Rattle.sftp_client.specs.Calls.{ClosesHandle, EndsClose, FinishesClose, IfIdLeft, IsCallable, IsNoneOfFile, IsUnstarted, IsUsable, OnCore, OpensDirectory, OpensHandle, OpensPath, ReleasesHandle}
 use Rattle.sftp_client.specs.Opening.{OpensFile, OpensUnless}
 use Rattle.sftp_client.specs.Sessions.{SftpValue, with_core}
-use Rattle.sftp_client.specs.Waits.{ArePollRounds, HasFinished, IsReadyOr, PolledIn, WaitStops, WaitsIn}
-use Rattle.sftp_client.proofs.Calling.{called, finish_faults, nowhere, refused, started_apart, usable_after, without_id}
+use Rattle.sftp_client.specs.Waits.{ArePollRounds, HasFinished, PolledIn, WaitStops, WaitsIn}
+use Rattle.sftp_client.proofs.Calling.{callable_with, called, finish_faults, no_id, nowhere, refused, started_apart, usable_after}
+use Rattle.sftp_client.proofs.KeptFaults.{cancelled_fault, core_fault, release_fault}
 use Rattle.sftp_client.proofs.Waiting.{ended_by, nothing_left, round_stays}
 
 -- ---- the grant that a call returns is none that others have
@@ -113,11 +114,10 @@ refused_link None options path old new e h = ap (λ (x : SftpValue _). x.link) h
 
 pub open_no_id : {W M V L S : Type 0} (Starts : SftpValue L → SftpValue L → Result (CallValue M) Error → Type 0)
     (s : Meaning W M V) (grant : V → GrantValue) (state : L → LinkView S) (old : SftpValue L) (e : Error)
-    → IsReadyOr old.core (Err e) → IsUsable state old → OpensHandle Starts s grant state old old (Err e)
-open_no_id Starts s grant state old e h usable =
+    → IsUnstarted old old e → IsCallable state old → OpensHandle Starts s grant state old old (Err e)
+open_no_id Starts s grant state old e h callable =
     record {
-      calls = refused (IfIdLeft Starts) (HasFinished s state) state old old e usable (inl (without_id old e h))
-          (keeps_same old.core) refl;
+      calls = no_id Starts (HasFinished s state) state old e callable h;
       held = tt;
       apart = tt;
     }
@@ -241,28 +241,58 @@ close_first old core grant call held awaits is =
     spares_same old (core_after_release old grant) core (λ id. id ≢ grant.id) (IsNoneOfCall call.stage) is
     (release_spares old grant call.stage held awaits)
 
+-- a close that is run to its end, if no fault is kept
+pub close_finished : {L S : Type 0} (state : L → LinkView S) (old new : SftpValue L) (call : CallValue Settling)
+    (result : Result (Unit {0}) Error) → IsUsable state old → HasFinished settle_meaning state old new call result
+    → FinishesClose state old new call result
+close_finished state old new call result usable h =
+    record {
+      runs = by_result result h;
+      spares = h.spares;
+      usable = usable_after state old new result usable h.spares.opened
+          (finish_faults settle_meaning state old old new call result refl h);
+    }
+  where
+    by_result : (r : Result (Unit {0}) Error) → HasFinished settle_meaning state old new call r
+        → EndsClose state old new call r
+    by_result (Ok u) h = h
+    by_result (Err e) h = inl h
+
+-- or given up otherwise
+pub close_given_up : {L S : Type 0} (state : L → LinkView S) (old inside new : SftpValue L) (call : CallValue Settling)
+    (fault : Fault) → IsCallable state old → inside ≡ old → old.core.fault ≡ Some fault
+    → CancelsAwaited inside.core new.core call.stage → new ≡ with_core inside new.core
+    → FinishesClose state old new call (Err (error.BackgroundTaskFailure fault))
+close_given_up {L = L} state old inside new call fault callable same kept cancels left =
+    let cancelled = subst (λ (x : SftpValue L). CancelsAwaited x.core new.core call.stage) same cancels in
+    let rest = subst (λ (x : SftpValue L). new ≡ with_core x new.core) same left in
+    record {
+      runs = inr (record { fault = fault; kept = kept; is = refl; given_up = cancelled; left = rest });
+      spares = cancelled_spares old.core new.core call.stage cancelled;
+      usable = callable_with state old new callable cancelled.opened
+          (cancelled_fault old.core new.core call.stage cancelled) (ap (λ (x : SftpValue L). x.link) rest);
+    }
+
 pub closed : {L S : Type 0} (Ends : Core → Core → CallValue Settling → Type 0) (P : ℕ → Type 0) (state : L → LinkView S)
     (old new : SftpValue L) (core : Core) (call : CallValue Settling) (result : Result (Unit {0}) Error)
-    → IsUsable state old → Ends old.core core call → SparesOthers old.core core P (IsNoneOfCall call.stage)
-    → HasFinished settle_meaning state (with_core old core) new call result
+    → Ends old.core core call → SparesOthers old.core core P (IsNoneOfCall call.stage)
+    → FinishesClose state (with_core old core) new call result
     → ClosesHandle Ends P state old new result
-closed Ends P state old new core call result usable releases first h =
-    let spares = spares_both old.core core new.core P (IsNoneOfCall call.stage) (λ id. Unit {0}) first h.spares in
+closed Ends P state old new core call result releases first h =
     record {
       core = core;
       call = call;
       releases = releases;
-      runs = h;
-      spares = spares;
-      usable = usable_after state old new result usable spares.opened
-          (finish_faults settle_meaning state old (with_core old core) new call result refl h);
+      runs = h.runs;
+      spares = spares_both old.core core new.core P (IsNoneOfCall call.stage) (λ id. Unit {0}) first h.spares;
+      usable = h.usable;
     }
 
 pub let_off : {L : Type 0} (Ends : Core → Core → CallValue Settling → Type 0) (P : ℕ → Type 0) (old new : SftpValue L)
     (core : Core) (call : CallValue Settling) → Ends old.core core call
-    → SparesOthers old.core core P (IsNoneOfCall call.stage) → CancelsAwaited core new.core call.stage
-    → new ≡ with_core old new.core → ReleasesHandle Ends P old new
-let_off Ends P old new core call releases first cancels left =
+    → SparesOthers old.core core P (IsNoneOfCall call.stage) → core.fault ≡ old.core.fault
+    → CancelsAwaited core new.core call.stage → new ≡ with_core old new.core → ReleasesHandle Ends P old new
+let_off Ends P old new core call releases first kept cancels left =
     record {
       core = core;
       call = call;
@@ -271,14 +301,20 @@ let_off Ends P old new core call releases first cancels left =
       left = left;
       spares = spares_both old.core core new.core P (IsNoneOfCall call.stage) (λ id. Unit {0}) first
           (cancelled_spares core new.core call.stage cancels);
+      fault = cancelled_fault core new.core call.stage cancels ∙ kept;
     }
 
+file_fault : (file : FileValue) (old core : Core) (call : CallValue Settling) → ReleasesFile file old core call
+    → core.fault ≡ old.fault
+file_fault file old core call releases =
+    core_fault (core_after_release old file.grant) core releases.core ∙ release_fault old file.grant
+
 file_closed_at : {L S : Type 0} (file : FileValue) (state : L → LinkView S) (old new : SftpValue L) (core : Core)
-    (call : CallValue Settling) (result : Result (Unit {0}) Error) → IsUsable state old → IsGrant old.core file.grant
-    → ReleasesFile file old.core core call → HasFinished settle_meaning state (with_core old core) new call result
+    (call : CallValue Settling) (result : Result (Unit {0}) Error) → IsGrant old.core file.grant
+    → ReleasesFile file old.core core call → FinishesClose state (with_core old core) new call result
     → ClosesHandle (ReleasesFile file) (IsNoneOfFile file) state old new result
-file_closed_at file state old new core call result usable held releases h =
-    closed (ReleasesFile file) (IsNoneOfFile file) state old new core call result usable releases
+file_closed_at file state old new core call result held releases h =
+    closed (ReleasesFile file) (IsNoneOfFile file) state old new core call result releases
     (close_first old.core core file.grant call held releases.awaits releases.core) h
 
 file_let_off_at : {L : Type 0} (file : FileValue) (old new : SftpValue L) (core : Core) (call : CallValue Settling)
@@ -287,11 +323,13 @@ file_let_off_at : {L : Type 0} (file : FileValue) (old new : SftpValue L) (core 
     → ReleasesHandle (ReleasesFile file) (IsNoneOfFile file) old new
 file_let_off_at file old new core call held releases cancels left =
     let_off (ReleasesFile file) (IsNoneOfFile file) old new core call releases
-    (close_first old.core core file.grant call held releases.awaits releases.core) cancels left
+    (close_first old.core core file.grant call held releases.awaits releases.core)
+    (file_fault file old.core core call releases) cancels left
 
 -- ---- the same for a session whose fields were taken apart before the start
 
-pub usable_inside : {L S : Type 0} (state : L → LinkView S) (old inside : SftpValue L) → inside ≡ old → IsUsable state old
+pub usable_inside : {L S : Type 0} (state : L → LinkView S) (old inside : SftpValue L) → inside ≡ old
+    → IsUsable state old
     → IsUsable state inside
 usable_inside state old inside same usable = subst (λ (x : SftpValue _). IsUsable state x) (sym same) usable
 
@@ -314,15 +352,29 @@ dir_opened path state old inside started new call result usable same starts left
     subst (λ (x : SftpValue _). OpensDirectory path state x new result) same
     (dir_opened_at path state inside started new call result (usable_inside state old inside same usable) starts left h)
 
+pub callable_inside : {L S : Type 0} (state : L → LinkView S) (old inside : SftpValue L) → inside ≡ old
+    → IsCallable state old → IsCallable state inside
+callable_inside state old inside same callable =
+    subst (λ (x : SftpValue _). IsCallable state x) (sym same) callable
+
+-- once the file was released, the close may be run
+pub file_callable : {L S : Type 0} (file : FileValue) (state : L → LinkView S) (old inside : SftpValue L) (core : Core)
+    (call : CallValue Settling) → IsCallable state old → IsGrant old.core file.grant → inside ≡ old
+    → ReleasesFile file inside.core core call → IsCallable state (with_core inside core)
+file_callable file state old inside core call callable held same releases =
+    let granted = held_inside old inside file.grant same held in
+    callable_with state inside (with_core inside core) (callable_inside state old inside same callable)
+    (close_first inside.core core file.grant call granted releases.awaits releases.core).opened
+    (file_fault file inside.core core call releases) refl
+
 pub file_closed : {L S : Type 0} (file : FileValue) (state : L → LinkView S) (old inside new : SftpValue L)
-    (core : Core) (call : CallValue Settling) (result : Result (Unit {0}) Error) → IsUsable state old
+    (core : Core) (call : CallValue Settling) (result : Result (Unit {0}) Error)
     → IsGrant old.core file.grant → inside ≡ old → ReleasesFile file inside.core core call
-    → HasFinished settle_meaning state (with_core inside core) new call result
+    → FinishesClose state (with_core inside core) new call result
     → ClosesHandle (ReleasesFile file) (IsNoneOfFile file) state old new result
-file_closed file state old inside new core call result usable held same releases h =
+file_closed file state old inside new core call result held same releases h =
     subst (λ (x : SftpValue _). ClosesHandle (ReleasesFile file) (IsNoneOfFile file) state x new result) same
-    (file_closed_at file state inside new core call result (usable_inside state old inside same usable)
-    (held_inside old inside file.grant same held) releases h)
+    (file_closed_at file state inside new core call result (held_inside old inside file.grant same held) releases h)
 
 pub file_let_off : {L : Type 0} (file : FileValue) (old inside new : SftpValue L) (core : Core)
     (call : CallValue Settling) → IsGrant old.core file.grant → inside ≡ old → ReleasesFile file inside.core core call

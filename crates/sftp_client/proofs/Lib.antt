@@ -9,11 +9,12 @@ mod Moving
 mod Listing
 mod WholeWaiting
 mod WriteWaiting
-mod Calling
+pub mod Calling
 mod HandleCalling
 mod Faults
+mod KeptFaults
 mod FileCalling
-mod DirCalling
+pub mod DirCalling
 mod Sequences
 mod PathCuts
 mod TreeMaking

@@ -188,7 +188,7 @@ lists_end state count old mid new p m q result w listed =
       held = left.may.listing;
       grants = grants_both old.core mid.core new.core w.grants left.grants;
       spares = entries_spare old.core mid.core new.core p m q w.spares left.spares;
-      faults = faults_kept result _ _ (ap (λ l. (state l).faults) left.link ∙ w.unfaulted);
+      faults = faults_kept result _ _ new.core.fault (ap (λ l. (state l).faults) left.link ∙ w.unfaulted);
     }
 
 -- or no round was left
@@ -226,7 +226,8 @@ lists_stop state count old mid polled new p m q e w waits fails =
           left.grants) stays.grants;
       spares = spares_then old.core polled.core new.core (IsNoneAsked p.asked) (IsNoneAsked q.asked)
           (entries_spare old.core mid.core polled.core p m q w.spares left.spares) stays;
-      faults = stop_faults (Option NameEntry) state (state old.link).faults polled new e (ap (λ l. (state l).faults) left.link
+      faults = stop_faults (Option NameEntry) state (state old.link).faults polled new e
+          (ap (λ l. (state l).faults) left.link
           ∙ w.unfaulted) fails;
     }
 

@@ -4,7 +4,7 @@ use Rattle.std.specs.Prelude.{Result, Ok, Err}
 use Rattle.sftp_model.specs.declared.error.Error.{Error}
 use Rattle.sftp_link.specs.Views.{LinkView}
 use Rattle.plan_state.proofs.Keeping.{keeps_both, keeps_same}
-use Rattle.sftp_client.specs.Calls.{IsUsable}
+use Rattle.sftp_client.specs.Calls.{IsCallable}
 use Rattle.sftp_client.specs.Sequences.{ContinuesIfOk, RunsAll, RunsEach}
 use Rattle.sftp_client.specs.Sessions.{SftpValue}
 
@@ -26,7 +26,8 @@ each_both Step old mid new (x ∷ xs) ys result h later = (
     (
       h.1.1.0,
       both_by new mid h.0 result (RunsEach Step h.0 mid xs (Ok tt))
-          (RunsEach Step h.0 new (xs ++ ys) result) (λ on. each_both Step h.0 mid new xs ys result on later) h.1.0 h.1.1.1,
+          (RunsEach Step h.0 new (xs ++ ys) result) (λ on. each_both Step h.0 mid new xs ys result on later) h.1.0
+          h.1.1.1,
     ),
   ),
 )
@@ -64,8 +65,8 @@ each_one Step old new x result h = (new, (result, (h, one_by new result)))
 -- ---- the same in a session
 
 pub all_none : {L S A : Type 0} (Step : A → SftpValue L → SftpValue L → Result (Unit {0}) Error → Type 0)
-    (state : L → LinkView S) (old : SftpValue L) → IsUsable state old → RunsAll Step state [] old old (Ok tt)
-all_none Step state old usable = record { each = (refl, refl); keeps = keeps_same old.core; usable = usable }
+    (state : L → LinkView S) (old : SftpValue L) → IsCallable state old → RunsAll Step state [] old old (Ok tt)
+all_none Step state old callable = record { each = (refl, refl); keeps = keeps_same old.core; callable = callable }
 
 pub all_both : {L S A : Type 0} (Step : A → SftpValue L → SftpValue L → Result (Unit {0}) Error → Type 0)
     (state : L → LinkView S) (xs ys : List A) (old mid new : SftpValue L) (result : Result (Unit {0}) Error)
@@ -75,11 +76,11 @@ all_both Step state xs ys old mid new result h later =
     record {
       each = each_both Step old mid new xs ys result h.each later.each;
       keeps = keeps_both old.core mid.core new.core h.keeps later.keeps;
-      usable = later.usable;
+      callable = later.callable;
     }
 
 pub all_stopped : {L S A : Type 0} (Step : A → SftpValue L → SftpValue L → Result (Unit {0}) Error → Type 0)
     (state : L → LinkView S) (xs ys : List A) (old new : SftpValue L) (e : Error)
     → RunsAll Step state xs old new (Err e) → RunsAll Step state (xs ++ ys) old new (Err e)
 all_stopped Step state xs ys old new e h =
-    record { each = each_stopped Step old new xs ys e h.each; keeps = h.keeps; usable = h.usable }
+    record { each = each_stopped Step old new xs ys e h.each; keeps = h.keeps; callable = h.callable }

@@ -2,16 +2,15 @@
 use Rattle.std.proofs.Common.{◌≡◌, ◌≤◌, ◌<◌, ◌+◌, List, ℕ, [], ◌∷◌, Bool, true, false, arith, refl, subst, sym, inl, inr}
 use Rattle.std.specs.Prelude.{Result, Ok, Err, length, if◌then◌else◌}
 use Rattle.sftp_model.specs.declared.error.Error.{Error}
-use Rattle.sftp_model.specs.declared.error.Error.TheVariants as error
-use Rattle.sftp_model.specs.declared.file_attrs.FileAttrs.{FileAttrs}
 use Rattle.plan_model.specs.PathPlans.{mkdir_next}
 use Rattle.plan_state.proofs.Keeping.{keeps_both}
 use Rattle.sftp_link.specs.Views.{LinkView}
 use Rattle.sftp_file.specs.Settles.{settle_meaning}
-use Rattle.sftp_client.specs.Calls.{CallsOnPath, IsUsable, IsUsableAfter}
-use Rattle.sftp_client.specs.CreatedDirs.{FindsDir, MakesDir, MakesDirs, MakesPath, found_or, is_refusal}
+use Rattle.sftp_client.specs.Calls.{CallsOnPath, IsCallable}
+use Rattle.sftp_client.specs.CreatedDirs.{FindsDir, MakesDir, MakesDirs, MakesPath, is_refusal}
 use Rattle.sftp_client.specs.DirPaths.{dir_at, dirs_before}
 use Rattle.sftp_client.specs.Sessions.{SftpValue}
+use Rattle.sftp_client.proofs.Calling.{callable_after, callable_of}
 use Rattle.sftp_client.proofs.PathCuts.{dirs_cut, dirs_next}
 use Rattle.sftp_client.proofs.Sequences.{all_both, all_none, all_stopped, each_one}
 
@@ -28,7 +27,7 @@ made_here state path old new h =
         ends = (refl, refl);
       });
       keeps = h.keeps;
-      usable = h.usable;
+      callable = callable_of state new h.usable;
     }
 
 pub made_stops : {L S : Type 0} (state : L → LinkView S) (path : List ℕ) (old new : SftpValue L) (e : Error)
@@ -43,40 +42,8 @@ made_stops state path old new e h is =
         ends = inl (is, (refl, refl));
       });
       keeps = h.keeps;
-      usable = h.usable;
+      callable = h.usable;
     }
-
-pub always_usable : {L S V : Type 0} (state : L → LinkView S) (new : SftpValue L) (result : Result V Error)
-    → IsUsable state new → IsUsableAfter state new result
-always_usable state new (Ok value) h = h
-always_usable state new (Err error.LinkFault) h = tt
-always_usable state new (Err other) h = h
-
--- after a refusal by the server the session may be used
-pub refusal_usable : {L S : Type 0} (V : Type 0) (state : L → LinkView S) (new : SftpValue L) (e : Error) → is_refusal e ≡ true
-    → IsUsableAfter {V = V} state new (Err e) → IsUsable state new
-refusal_usable V state new error.LinkFault is h = absurd cc
-refusal_usable V state new other is h = h
-
-pub same_error : {L S : Type 0} (V W : Type 0) (state : L → LinkView S) (new : SftpValue L) (e : Error)
-    → IsUsableAfter {V = V} state new (Err e) → IsUsableAfter {V = W} state new (Err e)
-same_error V W state new error.LinkFault h = tt
-same_error V W state new other h = h
-
-by_test : {L S : Type 0} (state : L → LinkView S) (refusal e : Error) (new : SftpValue L)
-    (result : Result (Unit {0}) Error) → IsUsableAfter {V = FileAttrs} state new (Err e) → (b : Bool) → is_refusal e ≡ b
-    → result ≡ (if b then Err refusal else Err e) → IsUsableAfter state new result
-by_test state refusal e new result h true test is =
-    always_usable state new result (refusal_usable FileAttrs state new e test h)
-by_test state refusal e new result h false test is =
-    subst (λ (r : Result (Unit {0}) Error). IsUsableAfter state new r) (sym is)
-    (same_error FileAttrs (Unit {0}) state new e h)
-
-by_told : {L S : Type 0} (state : L → LinkView S) (refusal : Error) (new : SftpValue L)
-    (result : Result (Unit {0}) Error) (told : Result FileAttrs Error) → IsUsableAfter state new told
-    → result ≡ found_or told refusal → IsUsableAfter state new result
-by_told state refusal new result (Ok attrs) usable is = always_usable state new result usable
-by_told state refusal new result (Err e) usable is = by_test state refusal e new result usable (is_refusal e) refl is
 
 pub made_found : {L S : Type 0} (state : L → LinkView S) (path : List ℕ) (old mid new : SftpValue L) (e : Error)
     (result : Result (Unit {0}) Error) → CallsOnPath settle_meaning (mkdir_next path) state old mid (Err e)
@@ -90,7 +57,7 @@ made_found state path old mid new e result h is finds =
         ends = inr (is, finds);
       });
       keeps = keeps_both old.core mid.core new.core h.keeps finds.asks.keeps;
-      usable = by_told state e new result finds.told finds.asks.usable finds.is;
+      callable = callable_after state new finds.told finds.asks.usable;
     }
 
 -- ---- those of a path
@@ -128,6 +95,6 @@ at_dir state dir old new result true is h = h
 at_dir state dir old new result false is h = absurd cc
 
 pub at_none : {L S : Type 0} (state : L → LinkView S) (dir : List ℕ) (old : SftpValue L) (b : Bool) → b ≡ false
-    → IsUsable state old → MakesDirs state (if b then dir ∷ [] else []) old old (Ok tt)
-at_none state dir old true is usable = absurd cc
-at_none state dir old false is usable = all_none (MakesDir state) state old usable
+    → IsCallable state old → MakesDirs state (if b then dir ∷ [] else []) old old (Ok tt)
+at_none state dir old true is callable = absurd cc
+at_none state dir old false is callable = all_none (MakesDir state) state old callable

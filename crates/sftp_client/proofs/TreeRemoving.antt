@@ -1,5 +1,5 @@
 -- Trees that are removed, entry after entry.
-use Rattle.std.proofs.Common.{◌≡◌, ◌∙◌, ◌++◌, List, ℕ, [], ◌∷◌, Bool, true, false, ap, refl, subst, sym, inl, inr}
+use Rattle.std.proofs.Common.{◌≡◌, ◌∙◌, ◌++◌, List, ℕ, [], ◌∷◌, true, false, ap, refl, subst, sym, inl, inr}
 use Rattle.std.specs.Prelude.{Result, Ok, Err, map, reverse}
 use Rattle.std.proofs.lemmas.List.{append-nil, append_assoc, reverse-append}
 use Rattle.sftp_model.specs.declared.error.Error.{Error}
@@ -10,13 +10,13 @@ use Rattle.plan_state.specs.Keeping.{KeepsHeld}
 use Rattle.plan_state.proofs.Keeping.{keeps_both}
 use Rattle.sftp_file.specs.Settles.{settle_meaning}
 use Rattle.sftp_file.specs.Tells.{attrs_meaning}
-use Rattle.sftp_client.specs.Calls.{CallsOnPath, IsUsable, IsUsableAfter}
+use Rattle.sftp_client.specs.Calls.{CallsOnPath, IsCallable}
 use Rattle.sftp_client.specs.RemovedTrees.{Removal, RemovesEach, RemovesOne, RemovesPath, RemovesTree, is_link, removal_of, removals_of}
 use Rattle.sftp_client.specs.Sessions.{SftpValue}
 use Rattle.sftp_client.specs.Walks.{StopsWalk, WalksWhole}
 use Rattle.sftp_client.specs.declared.walk_entry.WalkEntry.{WalkEntry}
 use Rattle.sftp_client.proofs.Sequences.{all_both, all_none, all_stopped, each_one}
-use Rattle.sftp_client.proofs.TreeMaking.{same_error}
+use Rattle.sftp_client.proofs.Calling.{callable_after}
 
 -- ---- one after another
 
@@ -27,7 +27,7 @@ one_removed state removal old new result h =
     record {
       each = each_one (RemovesOne state) old new removal result h;
       keeps = h.keeps;
-      usable = h.usable;
+      callable = callable_after state new result h.usable;
     }
 
 -- what holds between two removals: the entries that are left come next
@@ -38,9 +38,9 @@ pub record RemovingOn {L S : Type 0} (state : L → LinkView S) (all left : List
   pub removes : RemovesEach state gone old new (Ok tt)
 
 pub removing_first : {L S : Type 0} (state : L → LinkView S) (all : List WalkEntry) (old : SftpValue L)
-    → IsUsable state old → RemovingOn state all all old old
-removing_first state all old usable =
-    record { gone = []; order = refl; removes = all_none (RemovesOne state) state old usable }
+    → IsCallable state old → RemovingOn state all all old old
+removing_first state all old callable =
+    record { gone = []; order = refl; removes = all_none (RemovesOne state) state old callable }
 
 last_first : (left rest : List WalkEntry) (entry : WalkEntry) → left ≡ rest ++ entry ∷ []
     → map removal_of (reverse left) ≡ removal_of entry ∷ map removal_of (reverse rest)
@@ -103,17 +103,17 @@ tree_removed state path old mid new found result walks keeps removes =
     record {
       removes = inl (record { walked = mid; found = found; walks = walks; removes = removes });
       keeps = keeps_both old.core mid.core new.core keeps removes.keeps;
-      usable = removes.usable;
+      callable = removes.callable;
     }
 
-pub tree_unwalked : {L S : Type 0} (V : Type 0) (state : L → LinkView S) (path : List ℕ) (old new : SftpValue L)
+pub tree_unwalked : {L S : Type 0} (state : L → LinkView S) (path : List ℕ) (old new : SftpValue L)
     (e : Error) → StopsWalk path state old new e → KeepsHeld old.core new.core
-    → IsUsableAfter {V = V} state new (Err e) → RemovesTree path state old new (Err e)
-tree_unwalked V state path old new e stops keeps usable =
+    → IsCallable state new → RemovesTree path state old new (Err e)
+tree_unwalked state path old new e stops keeps callable =
     record {
       removes = inr (record { error = e; stops = stops; is = refl });
       keeps = keeps;
-      usable = same_error V (Unit {0}) state new e usable;
+      callable = callable;
     }
 
 pub path_unknown : {L S : Type 0} (state : L → LinkView S) (path : List ℕ) (old new : SftpValue L) (e : Error)
@@ -125,7 +125,7 @@ path_unknown state path old new e asks =
       asks = asks;
       ends = (refl, refl);
       keeps = asks.keeps;
-      usable = same_error FileAttrs (Unit {0}) state new e asks.usable;
+      callable = asks.usable;
     }
 
 pub link_removed : {L S : Type 0} (state : L → LinkView S) (path : List ℕ) (old mid new : SftpValue L)
@@ -139,7 +139,7 @@ link_removed state path old mid new attrs result asks is removes =
       asks = asks;
       ends = rw is removes;
       keeps = keeps_both old.core mid.core new.core asks.keeps removes.keeps;
-      usable = removes.usable;
+      callable = callable_after state new result removes.usable;
     }
 
 pub path_removed : {L S : Type 0} (state : L → LinkView S) (path : List ℕ) (old mid new : SftpValue L)
@@ -153,5 +153,5 @@ path_removed state path old mid new attrs result asks is removes =
       asks = asks;
       ends = rw is removes;
       keeps = keeps_both old.core mid.core new.core asks.keeps removes.keeps;
-      usable = removes.usable;
+      callable = removes.callable;
     }

@@ -339,7 +339,7 @@ waits_end s state count old mid new p m q result w polled =
       others = others_both old.core mid.core new.core p.stage m.stage q.stage w.others left.others;
       spares = spares_both old.core mid.core new.core (IsNoneOfCall p.stage) (IsNoneOfCall m.stage)
           (IsNoneOfCall q.stage) w.spares left.spares;
-      faults = faults_kept result _ _ (ap (λ l. (state l).faults) left.link ∙ w.unfaulted);
+      faults = faults_kept result _ _ new.core.fault (ap (λ l. (state l).faults) left.link ∙ w.unfaulted);
     }
 
 -- or no round was left

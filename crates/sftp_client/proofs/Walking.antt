@@ -9,14 +9,14 @@ use Rattle.sftp_model.specs.declared.reply.NameEntry.{NameEntry}
 use Rattle.sftp_link.specs.Views.{LinkView}
 use Rattle.plan_state.specs.Keeping.{KeepsHeld}
 use Rattle.plan_state.proofs.Keeping.{keeps_both}
-use Rattle.sftp_client.specs.Calls.{IsUsable, IsUsableAfter}
+use Rattle.sftp_client.specs.Calls.{IsCallable, IsUsable}
 use Rattle.sftp_client.specs.DirCalls.{ListsWhole}
 use Rattle.sftp_client.specs.Sequences.{ContinuesIfOk, RunsEach}
 use Rattle.sftp_client.specs.Sessions.{SftpValue}
 use Rattle.sftp_client.specs.Walks.{ListsDir, ListsInto, StopsNext, StopsWalk, Walking, WalksWhole, dir_in, dirs_at, found_in}
 use Rattle.sftp_client.specs.declared.walk_entry.WalkEntry.{WalkEntry}
 use Rattle.sftp_client.proofs.Sequences.{each_both}
-use Rattle.sftp_client.proofs.TreeMaking.{always_usable}
+use Rattle.sftp_client.proofs.Calling.{callable_of}
 
 -- ---- the directories among entries
 
@@ -170,7 +170,7 @@ walk_end state path at old new found w all less =
 
 pub dir_stops : {L S : Type 0} (state : L → LinkView S) (path : List ℕ) (old new : Walking L) (e : Error)
     → ListsInto state path old new (Err e) → KeepsHeld old.session.core new.session.core
-    → IsUsableAfter {V = Unit {0}} state new.session (Err e) → ListsDir state (path ∷ []) old new (Err e)
+    → IsCallable state new.session → ListsDir state (path ∷ []) old new (Err e)
 dir_stops state path old new e h keeps usable =
     record { lists = inl (path, ([], (refl, h))); keeps = keeps; usable = usable }
 
@@ -197,4 +197,4 @@ dir_appended state path old new found after entries items (Ok u) lists same push
     ) keeps usable
 dir_appended state path old new found after entries items (Err e) lists same pushes memory keeps usable =
     dir_stops state path (walking old found) (walking new after) e (inr (memory, (entries, lists))) keeps
-    (always_usable {V = Unit {0}} state new (Err e) usable)
+    (callable_of state new usable)

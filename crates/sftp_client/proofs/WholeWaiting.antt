@@ -140,7 +140,7 @@ reads_end state count old mid new p m q result w polled =
       stops = inl polled;
       held = left.held;
       spares = reads_spare old.core mid.core new.core p m q w.spares left.spares;
-      faults = faults_kept result _ _ (ap (λ l. (state l).faults) left.link ∙ w.unfaulted);
+      faults = faults_kept result _ _ new.core.fault (ap (λ l. (state l).faults) left.link ∙ w.unfaulted);
     }
 
 -- or no round was left

@@ -1,8 +1,9 @@
 -- Calls that a session starts and runs to their end in one.
-use Rattle.std.specs.Prelude.{◌≡◌, ◌≢◌, ◌⊎◌, ◌<◌, ◌≤◌, ◌-◌, ◌^◌, ℕ, List, [], Option, Result, Ok, Err, IsSome, IfOk, OnErr}
+use Rattle.std.specs.Prelude.{◌≡◌, ◌≢◌, ◌⊎◌, ◌<◌, ◌≤◌, ◌-◌, ◌^◌, ℕ, List, [], Option, None, Some, Result, Ok, Err, IsSome, IfOk, OnErr}
 use Rattle.bytes.specs.Filled.{Filled}
 use Rattle.sftp_model.specs.declared.error.Error.{Error}
 use Rattle.sftp_model.specs.declared.error.Error.TheVariants as error
+use Rattle.sftp_model.specs.declared.error.Fault.{Fault}
 use Rattle.sftp_model.specs.declared.open_options.OpenOptions.{OpenOptions}
 use Rattle.sftp_model.specs.declared.slot.FileAt.{FileAt}
 use Rattle.sftp_model.specs.declared.slot.Site.{Site}
@@ -11,7 +12,8 @@ use Rattle.sftp_core.specs.Grant.{GrantValue}
 use Rattle.sftp_core.specs.Info.{MAX_IDS, info_of}
 use Rattle.sftp_link.specs.Views.{LinkView}
 use Rattle.plan_model.specs.TransferPlans.{read_next, write_all_next}
-use Rattle.plan_state.specs.Calls.{CallValue, CancelsAwaited}
+use Rattle.plan_state.specs.Asked.{IsReady}
+use Rattle.plan_state.specs.Calls.{CallValue, CancelsAwaited, IsNoneOfCall}
 use Rattle.plan_state.specs.Keeping.{KeepsHeld, SparesOthers}
 use Rattle.plan_state.specs.Runners.{Meaning}
 use Rattle.sftp_file.specs.Copies.{CopyStarts, CopyValue}
@@ -26,7 +28,7 @@ use Rattle.sftp_fs.specs.PathStarts.{PathPlan, StartsFrom}
 use Rattle.sftp_fs.specs.WholeWrites.{WritesFrom}
 use Rattle.sftp_fs_read.specs.WholeReads.{ReadsFrom}
 use Rattle.sftp_client.specs.Opening.{OpensFile}
-use Rattle.sftp_client.specs.Sessions.{SftpValue, with_core}
+use Rattle.sftp_client.specs.Sessions.{IsKept, SftpValue, with_core}
 use Rattle.sftp_client.specs.Waits.{HasFinished, HasFinishedOn}
 use Rattle.sftp_client.specs.WholeWaits.{HasCopied, HasFinishedRead}
 use Rattle.sftp_client.specs.WriteWaits.{HasFinishedWrite}
@@ -35,6 +37,11 @@ use Rattle.sftp_client.specs.WriteWaits.{HasFinishedWrite}
 pub record IsUsable {L S : Type 0} (state : L → LinkView S) (s : SftpValue L) : Type 0 where
   pub opened : IsSome (info_of s.core.phase)
   pub count : (state s.link).faults < 2 ^ 64 - 1
+
+-- A session whose calls in one may be made: it is open, and if it keeps no fault its link may count another one.
+pub record IsCallable {L S : Type 0} (state : L → LinkView S) (s : SftpValue L) : Type 0 where
+  pub opened : IsSome (info_of s.core.phase)
+  pub alive : s.core.fault ≡ None → (state s.link).faults < 2 ^ 64 - 1
 
 -- ---- Starts
 
@@ -49,11 +56,24 @@ pub record HasNoId {L : Type 0} (old new : SftpValue L) (e : Error) : Type 0 whe
   pub error : e ≡ error.OutOfMemory
   pub unchanged : new ≡ old
 
--- A call was started if an id was left.
+-- A call may be started and run.
+pub record MayStart {L S : Type 0} (state : L → LinkView S) (s : SftpValue L) : Type 0 where
+  pub usable : IsUsable state s
+  pub ready : IsReady s.core
+
+-- No call was started: all ids were in use, or a fault is kept. Nothing changed.
+abbrev pub IsUnstarted : {L : Type 0} → SftpValue L → SftpValue L → Error → Type 0
+IsUnstarted old new e = HasNoId old new e ⊎ IsKept old new e
+
+abbrev pub MayStartOr : {L S : Type 0} → (L → LinkView S) → SftpValue L → Result (Unit {0}) Error → Type 0
+MayStartOr state s (Ok u) = MayStart state s
+MayStartOr state s (Err e) = IsUnstarted s s e
+
+-- A call was started if an id was left and no fault is kept.
 abbrev pub IfIdLeft : {L C : Type 0} → (SftpValue L → SftpValue L → Result C Error → Type 0) → SftpValue L → SftpValue L
     → Result C Error → Type 0
 IfIdLeft Starts old new (Ok call) = Starts old new (Ok call)
-IfIdLeft Starts old new (Err e) = HasNoId old new e ⊎ Starts old new (Err e)
+IfIdLeft Starts old new (Err e) = IsUnstarted old new e ⊎ Starts old new (Err e)
 
 -- ---- Calls in one
 
@@ -72,10 +92,10 @@ abbrev pub RunsInOne : {L C V : Type 0} → (SftpValue L → SftpValue L → Res
 RunsInOne Starts Runs old new (Ok value) = StartsThenRuns Starts Runs old new (Ok value)
 RunsInOne Starts Runs old new (Err e) = Starts old new (Err e) ⊎ StartsThenRuns Starts Runs old new (Err e)
 
--- The session may be used further, unless its link failed.
+-- After a value the session may be used further. After each error its calls in one may still be made.
 abbrev pub IsUsableAfter : {L S V : Type 0} → (L → LinkView S) → SftpValue L → Result V Error → Type 0
-IsUsableAfter state new (Err error.LinkFault) = Unit {0}
-IsUsableAfter state new other = IsUsable state new
+IsUsableAfter state new (Ok value) = IsUsable state new
+IsUsableAfter state new (Err e) = IsCallable state new
 
 -- A call was run in one. Whatever its result, the core still holds each ticket and each grant that it held, and the
 -- session stays open.
@@ -128,13 +148,35 @@ abbrev pub OpensDirectory : {L S : Type 0} → List ℕ → (L → LinkView S) �
 OpensDirectory path state old new result = OpensHandle (OnCore (OpensFrom path [])) opening_dir (λ dir. dir) state old
     new result
 
+-- A fault was kept, and is returned. The call was given up, and nothing was sent or read.
+pub record GivesUpKept {M L : Type 0} (old new : SftpValue L) (call : CallValue M) (e : Error) : Type 0 where
+  pub fault : Fault
+  pub kept : old.core.fault ≡ Some fault
+  pub is : e ≡ error.BackgroundTaskFailure fault
+  pub given_up : CancelsAwaited old.core new.core call.stage
+  pub left : new ≡ with_core old new.core
+
+-- A close was run to its end, or a kept fault was returned first.
+abbrev pub EndsClose : {L S : Type 0} → (L → LinkView S) → SftpValue L → SftpValue L → CallValue Settling
+    → Result (Unit {0}) Error → Type 0
+EndsClose state old new call (Ok u) = HasFinished settle_meaning state old new call (Ok u)
+EndsClose state old new call (Err e) = HasFinished settle_meaning state old new call (Err e)
+    ⊎ GivesUpKept old new call e
+
+-- What others hold stays held.
+pub record FinishesClose {L S : Type 0} (state : L → LinkView S) (old new : SftpValue L) (call : CallValue Settling)
+    (result : Result (Unit {0}) Error) : Type 0 where
+  pub runs : EndsClose state old new call result
+  pub spares : SparesOthers old.core new.core (IsNoneOfCall call.stage) (λ id. Unit {0})
+  pub usable : IsUsableAfter state new result
+
 -- A file or a directory was closed. What others hold stays held; one user of the grant is gone.
 pub record ClosesHandle {L S : Type 0} (Ends : Core → Core → CallValue Settling → Type 0) (IsTheirs : ℕ → Type 0)
     (state : L → LinkView S) (old new : SftpValue L) (result : Result (Unit {0}) Error) : Type 0 where
   pub core : Core
   pub call : CallValue Settling
   pub releases : Ends old.core core call
-  pub runs : HasFinished settle_meaning state (with_core old core) new call result
+  pub runs : EndsClose state (with_core old core) new call result
   pub spares : SparesOthers old.core new.core IsTheirs (λ id. Unit {0})
   pub usable : IsUsableAfter state new result
 
@@ -147,6 +189,7 @@ pub record ReleasesHandle {L : Type 0} (Ends : Core → Core → CallValue Settl
   pub given_up : CancelsAwaited core new.core call.stage
   pub left : new ≡ with_core old new.core
   pub spares : SparesOthers old.core new.core IsTheirs (λ id. Unit {0})
+  pub fault : new.core.fault ≡ old.core.fault
 
 -- The number is not that of the file's grant.
 abbrev pub IsNoneOfFile : FileValue → ℕ → Type 0

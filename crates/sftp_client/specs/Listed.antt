@@ -54,4 +54,4 @@ pub record HasListed {L S : Type 0} (state : L → LinkView S) (old new : SftpVa
   pub held : IsListing new.core q
   pub grants : KeepsGrants old.core new.core
   pub spares : SparesOthers old.core new.core (IsNoneAsked p.asked) (IsNoneAsked q.asked)
-  pub faults : KeepsFaults (state old.link).faults (state new.link).faults result
+  pub faults : KeepsFaults (state old.link).faults (state new.link).faults new.core.fault result

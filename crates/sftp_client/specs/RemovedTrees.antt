@@ -11,7 +11,7 @@ use Rattle.plan_state.specs.Keeping.{KeepsHeld}
 use Rattle.sftp_file.specs.Settles.{settle_meaning}
 use Rattle.sftp_file.specs.Tells.{attrs_meaning}
 use Rattle.sftp_fs.specs.PathStarts.{PathPlan}
-use Rattle.sftp_client.specs.Calls.{CallsOnPath, IsUsableAfter}
+use Rattle.sftp_client.specs.Calls.{CallsOnPath, IsCallable}
 use Rattle.sftp_client.specs.CreatedDirs.{directory_attrs, file_attrs, is_directory}
 use Rattle.sftp_client.specs.Sequences.{RunsAll}
 use Rattle.sftp_client.specs.Sessions.{SftpValue}
@@ -69,7 +69,7 @@ pub record RemovesTree {L S : Type 0} (path : List ℕ) (state : L → LinkView 
     (result : Result (Unit {0}) Error) : Type 0 where
   pub removes : RemovesWalked path state old new result ⊎ IsNotWalked path state old new result
   pub keeps : KeepsHeld old.core new.core
-  pub usable : IsUsableAfter state new result
+  pub callable : IsCallable state new
 
 -- ---- A path
 
@@ -102,7 +102,7 @@ pub record RemovesPath {L S : Type 0} (path : List ℕ) (state : L → LinkView 
   pub asks : CallsOnPath attrs_meaning (lstat_next path) state old mid told
   pub ends : EndsRemoval state path told mid new result
   pub keeps : KeepsHeld old.core new.core
-  pub usable : IsUsableAfter state new result
+  pub callable : IsCallable state new
 
 -- ---- Worked rows
 

@@ -3,7 +3,7 @@ use Rattle.std.specs.Prelude.{◌≡◌, refl, List, [], ◌∷◌, Result, Ok, 
 use Rattle.sftp_model.specs.declared.error.Error.{Error}
 use Rattle.sftp_link.specs.Views.{LinkView}
 use Rattle.plan_state.specs.Keeping.{KeepsHeld}
-use Rattle.sftp_client.specs.Calls.{IsUsableAfter}
+use Rattle.sftp_client.specs.Calls.{IsCallable}
 use Rattle.sftp_client.specs.Sessions.{SftpValue}
 
 -- After a step that ended well the others are made; after an error nothing more is.
@@ -23,7 +23,7 @@ pub record RunsAll {L S A : Type 0} (Step : A → SftpValue L → SftpValue L �
     (state : L → LinkView S) (items : List A) (old new : SftpValue L) (result : Result (Unit {0}) Error) : Type 0 where
   pub each : RunsEach Step old new items result
   pub keeps : KeepsHeld old.core new.core
-  pub usable : IsUsableAfter state new result
+  pub callable : IsCallable state new
 
 -- ---- Worked rows
 

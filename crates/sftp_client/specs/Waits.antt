@@ -1,9 +1,10 @@
 -- believed, except IsReadyOr, MayWait, RoundEnds, MayWaitOn, HasWaitedOn, HasFinishedOn
 -- Calls that are run to their end over a session's link.
-use Rattle.std.specs.Prelude.{◌≡◌, ◌⊎◌, ◌≤◌, ◌-◌, ◌^◌, ℕ, zero, suc, Bool, true, Result, Ok, Err, IsSome, OnOk}
+use Rattle.std.specs.Prelude.{◌≡◌, ◌⊎◌, ◌≤◌, ◌-◌, ◌^◌, ℕ, zero, suc, Bool, true, Option, Result, Ok, Err, IsSome, OnOk}
 use Rattle.sftp_model.specs.declared.answers.Expected.{Expected}
 use Rattle.sftp_model.specs.declared.error.Error.{Error}
 use Rattle.sftp_model.specs.declared.error.Error.TheVariants as error
+use Rattle.sftp_model.specs.declared.error.Fault.{Fault}
 use Rattle.sftp_model.specs.declared.slot.FileAt.{FileAt}
 use Rattle.sftp_core.specs.Core.{Core, kept_of}
 use Rattle.sftp_core.specs.Info.{MAX_IDS, info_of}
@@ -95,10 +96,10 @@ abbrev pub WaitStops : {W M V L S : Type 0} → Meaning W M V → (L → LinkVie
 WaitStops s state count old new p q result = WaitEnds s state old new p q result
     ⊎ ((count ≡ 2 ^ 64 - 1) × ((result ≡ Err error.OutOfMemory) × ((new ≡ old) × (q ≡ p))))
 
--- The link's count of faults is unchanged, unless the error is that of a link that failed.
-abbrev pub KeepsFaults : {V : Type 0} → ℕ → ℕ → Result V Error → Type 0
-KeepsFaults before now (Err error.LinkFault) = Unit {0}
-KeepsFaults before now other = now ≡ before
+-- The link's count of faults is unchanged, unless the error is that of a link that failed: a fault is kept then.
+abbrev pub KeepsFaults : {V : Type 0} → ℕ → ℕ → Option Fault → Result V Error → Type 0
+KeepsFaults before now kept (Err error.LinkFault) = (now ≡ before) ⊎ IsSome kept
+KeepsFaults before now kept other = now ≡ before
 
 -- A call was polled, and round after round the queue was sent and a frame taken, until it returned its result or a
 -- round failed. Then it may be run further or given up. The core holds what belongs to its value, each grant stays,
@@ -115,7 +116,7 @@ pub record HasWaited {W M V L S : Type 0} (s : Meaning W M V) (state : L → Lin
   pub grants : KeepsGrants old.core new.core
   pub others : KeepsOtherTickets old.core new.core p.stage q.stage
   pub spares : SparesOthers old.core new.core (IsNoneOfCall p.stage) (IsNoneOfCall q.stage)
-  pub faults : KeepsFaults (state old.link).faults (state new.link).faults result
+  pub faults : KeepsFaults (state old.link).faults (state new.link).faults new.core.fault result
 
 -- A call was run to its end and given up there, so that nothing is left of it. If it returned a value the core holds
 -- what belongs to that, and each grant stays. What others have stays in any case, and the session is open.

@@ -126,7 +126,7 @@ pub record HasWaitedRead {L S : Type 0} (state : L → LinkView S) (old new : Sf
   pub stops : ReadStops state count mid new call q result
   pub held : IsReadHeld new.core q.stage
   pub spares : SparesOthers old.core new.core (IsNoneOfRead p.stage) (IsNoneOfRead q.stage)
-  pub faults : KeepsFaults (state old.link).faults (state new.link).faults result
+  pub faults : KeepsFaults (state old.link).faults (state new.link).faults new.core.fault result
 
 -- The read was run to its end and given up there, so that nothing is left of it. What others have stays in any case,
 -- and the session is open.

@@ -63,7 +63,7 @@ pub record HasWaitedWrite {L S : Type 0} (state : L → LinkView S) (old new : S
   pub stops : WriteStops state count mid new call q result
   pub held : IsWriteHeld new.core q.stage
   pub spares : SparesOthers old.core new.core (IsNoneOfWrite p.stage) (IsNoneOfWrite q.stage)
-  pub faults : KeepsFaults (state old.link).faults (state new.link).faults result
+  pub faults : KeepsFaults (state old.link).faults (state new.link).faults new.core.fault result
 
 -- The write was run to its end and given up there, so that nothing is left of it. What others have stays in any case,
 -- and the session is open.

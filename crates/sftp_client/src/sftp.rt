@@ -10,6 +10,7 @@ ghost use Rattle.sftp_core.specs.Pieces.{chunk_bytes};
 ghost use Rattle.sftp_file.specs.Files.{facts_of};
 ghost use Rattle.sftp_model.specs.Numbers.{COPY_DATA, EXPAND_PATH, FSYNC, HARDLINK, POSIX_RENAME};
 ghost use Rattle.sftp_model.specs.OpenOptions.{nothing_chosen};
+ghost use Rattle.sftp_client.specs.Calls.{IsCallable, MayStartOr};
 ghost use Rattle.sftp_client.specs.Rounds.{ClosesSession, DrainsReplies, ExchangeEnds, OpenEnds, OpensSftp, fresh_sftp};
 ghost use Rattle.sftp_client.specs.Sessions.{FlushesQueue, FlushesUnfailed, IsWholeFrame, PullsFrame, SendsRest, TakesOrKept, TakesPulled, TakesUnfailed, TakesWhole, fault_by, kept_after, with_core, with_link};
 ghost use Rattle.sftp_client.specs.Waits.{IsReadyOr};
@@ -276,6 +277,17 @@ impl<L: Link> Sftp<L> {
         } else {
             Err(Error::OutOfMemory)
         }
+    }
+
+    /// Checks that a call can be started: no fault is kept, and an id is left.
+    fn check_start(&self) -> Result<(), Error>
+        requires { IsCallable L.LinkState.state self.now }
+        ensures { MayStartOr L.LinkState.state self.now result }
+    {
+        if let Some(fault) = self.core.fault() {
+            return Err(Error::BackgroundTaskFailure(fault));
+        }
+        self.ready()
     }
 
     /// Sends the hello and takes VERSION, and also the limits if the server offers to report them.

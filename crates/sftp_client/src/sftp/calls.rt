@@ -5,6 +5,8 @@ ghost use Rattle.plan_state.specs.Calls.{IsUnderWay};
 ghost use Rattle.plan_state.specs.declared.poll.Poll.TheVariants.{Ready};
 ghost use Rattle.sftp_core.specs.Info.{info_of};
 ghost use Rattle.sftp_file.specs.Gathers.{GivesBytes};
+ghost use Rattle.sftp_file.specs.Settles.{settle_meaning};
+ghost use Rattle.sftp_client.specs.Calls.{FinishesClose, IsCallable};
 ghost use Rattle.sftp_client.specs.Listed.{HasListed, ListedIn, MayWaitFor, given_by};
 ghost use Rattle.sftp_client.specs.Opening.{OpensFile, to_create, to_read};
 ghost use Rattle.sftp_client.specs.Waits.{HasFinished, HasFinishedOn, HasWaited, HasWaitedOn, MayWait, MayWaitOn, PolledIn, RoundEnds};
@@ -16,8 +18,8 @@ use bytes::BytesMut;
 use plan_state::{Alone, PendingCall, PlanRunner, Poll};
 use sftp_core::MAX_IDS;
 use sftp_file::{
-    CopyCall, File, OnFile, OpenCall, ReadAllCall, ReadAllError, StartOpen, cancel_read_all,
-    read_all_answer,
+    CloseCall, CopyCall, File, OnFile, OpenCall, ReadAllCall, ReadAllError, StartOpen,
+    cancel_read_all, read_all_answer,
 };
 use sftp_fs::{DirEntry, FsWriteCall, ReadDir};
 use sftp_fs_read::FsReadCall;
@@ -316,6 +318,19 @@ impl<L: Link> Sftp<L> {
         let answer = self.wait_write(&mut call);
         call.cancel(&mut self.core);
         answer
+    }
+
+    /// Runs a close to its end, as `finish` does. If a fault is kept, it is returned, and the close is given up.
+    pub(super) fn finish_close(&mut self, call: CloseCall) -> Result<(), Error>
+        requires may { MayWait settle_meaning self.old.core call }
+        requires callable { IsCallable L.LinkState.state self.old }
+        ensures { FinishesClose L.LinkState.state self.old self.new call result }
+    {
+        if let Some(fault) = self.core.fault() {
+            call.cancel(&mut self.core);
+            return Err(Error::BackgroundTaskFailure(fault));
+        }
+        self.finish(call)
     }
 
     /// Opens a file, if the core has recorded no fault.

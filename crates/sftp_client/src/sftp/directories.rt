@@ -3,7 +3,7 @@ ghost use Rattle.std.specs.Prelude.{◌≡◌, ◌++◌, ◌∷◌, [], IfErr, I
 ghost use Rattle.sftp_model.specs.declared.error.Error.TheVariants as error;
 ghost use Rattle.plan_state.specs.Keeping.{KeepsHeld, SparesOthers};
 ghost use Rattle.sftp_fs.specs.Listings.{IsListing};
-ghost use Rattle.sftp_client.specs.Calls.{ClosesHandle, IsUsable, IsUsableAfter, OpensDirectory, ReleasesHandle};
+ghost use Rattle.sftp_client.specs.Calls.{ClosesHandle, IsCallable, IsUsable, IsUsableAfter, OpensDirectory, ReleasesHandle};
 ghost use Rattle.sftp_client.specs.DirCalls.{ClosesListing, IsNoneOfListing, ListsDirectory, ListsEntries};
 
 use super::Sftp;
@@ -19,14 +19,14 @@ impl<L: Link> Sftp<L> {
     ///
     /// # Errors
     ///
-    /// `OutOfMemory` if 2147483648 ids are in use or an allocation fails; `IOError(PathTooLong)` if the request would
-    /// pass 1048575 bytes; `SftpError` with the server's status and message if it refuses; otherwise the errors of
-    /// `flush` and `take`.
+    /// A recorded fault is reported first. `OutOfMemory` if 2147483648 ids are in use or an allocation fails;
+    /// `IOError(PathTooLong)` if the request would pass 1048575 bytes; `SftpError` with the server's status and message if
+    /// it refuses; otherwise the errors of `flush` and `take`.
     pub fn open_dir(&mut self, path: &[u8]) -> Result<Dir, Error>
-        requires { IsUsable L.LinkState.state self.old }
+        requires { IsCallable L.LinkState.state self.old }
         ensures { OpensDirectory path.now L.LinkState.state self.old self.new result }
     {
-        self.ready()?;
+        self.check_start()?;
         let call = self.fs().start_open_dir(self.alloc, &mut self.core, path)?;
         self.finish(call)
     }
@@ -37,12 +37,12 @@ impl<L: Link> Sftp<L> {
     ///
     /// `SftpError` if the server refuses, or the errors of `flush` and `take`. The listing is given up in any case.
     pub fn close_dir(&mut self, listing: ReadDir) -> Result<(), Error>
-        requires usable { IsUsable L.LinkState.state self.old }
+        requires usable { IsCallable L.LinkState.state self.old }
         requires listing { IsListing self.old.core listing }
         ensures { ClosesHandle (ClosesListing listing) (IsNoneOfListing listing) L.LinkState.state self.old self.new result }
     {
         let call = listing.start_close(&mut self.core);
-        self.finish(call)
+        self.finish_close(call)
     }
 
     /// Closes a listing and its directory without waiting: the CLOSE is queued, and its reply is dropped.
@@ -61,7 +61,7 @@ impl<L: Link> Sftp<L> {
     /// Those of `open_dir`, of `next_entry` and of `close_dir`; `OutOfMemory` if the entries find no memory. The
     /// directory is closed then, and the entries that came are dropped.
     pub fn read_dir(&mut self, path: &[u8]) -> Result<Vec<DirEntry>, Error>
-        requires { IsUsable L.LinkState.state self.old }
+        requires { IsCallable L.LinkState.state self.old }
         ensures lists { ListsDirectory path.now L.LinkState.state self.old self.new result }
         ensures keeps { KeepsHeld self.old.core self.new.core }
         ensures usable { IsUsableAfter L.LinkState.state self.new result }
@@ -71,7 +71,7 @@ impl<L: Link> Sftp<L> {
 
     /// Does the same for a directory of at most this many entries: the next one finds no memory.
     pub(crate) fn list_dir(&mut self, path: &[u8], most: usize) -> Result<Vec<DirEntry>, Error>
-        requires { IsUsable L.LinkState.state self.old }
+        requires { IsCallable L.LinkState.state self.old }
         ensures lists { ListsDirectory path.now L.LinkState.state self.old self.new result }
         ensures keeps { KeepsHeld self.old.core self.new.core }
         ensures usable { IsUsableAfter L.LinkState.state self.new result }

@@ -1,7 +1,7 @@
 //! Calls on files, each of which runs to its end.
 ghost use Rattle.std.specs.Prelude.{◌<◌};
 ghost use Rattle.sftp_core.specs.Core.{IsGrant};
-ghost use Rattle.sftp_client.specs.Calls.{ClosesHandle, CopiesFile, IsNoneOfFile, IsUsable, OpensPath, ReadsFile, ReadsPath, ReleasesHandle, WritesFile, WritesPath};
+ghost use Rattle.sftp_client.specs.Calls.{ClosesHandle, CopiesFile, IsCallable, IsNoneOfFile, OpensPath, ReadsFile, ReadsPath, ReleasesHandle, WritesFile, WritesPath};
 ghost use Rattle.sftp_client.specs.Opening.{to_create, to_read};
 ghost use Rattle.sftp_file.specs.Closes.{ReleasesFile};
 
@@ -19,14 +19,14 @@ impl<L: Link> Sftp<L> {
     ///
     /// # Errors
     ///
-    /// `OutOfMemory` if 2147483648 ids are in use or an allocation fails; `IOError(PathTooLong)` if the path has more
-    /// than 1048558 bytes; `SftpError` with the server's status and message if it refuses; otherwise the errors of
-    /// `flush` and `take`.
+    /// A recorded fault is reported first. `OutOfMemory` if 2147483648 ids are in use or an allocation fails;
+    /// `IOError(PathTooLong)` if the path has more than 1048558 bytes; `SftpError` with the server's status and message
+    /// if it refuses; otherwise the errors of `flush` and `take`.
     pub fn open(&mut self, path: &[u8]) -> Result<File, Error>
-        requires { IsUsable L.LinkState.state self.old }
+        requires { IsCallable L.LinkState.state self.old }
         ensures { OpensPath to_read path.now L.LinkState.state self.old self.new result }
     {
-        self.ready()?;
+        self.check_start()?;
         let call = self.start_open(path)?;
         self.finish(call)
     }
@@ -38,10 +38,10 @@ impl<L: Link> Sftp<L> {
     ///
     /// Those of `open`.
     pub fn create(&mut self, path: &[u8]) -> Result<File, Error>
-        requires { IsUsable L.LinkState.state self.old }
+        requires { IsCallable L.LinkState.state self.old }
         ensures { OpensPath to_create path.now L.LinkState.state self.old self.new result }
     {
-        self.ready()?;
+        self.check_start()?;
         let call = self.start_create(path)?;
         self.finish(call)
     }
@@ -54,11 +54,11 @@ impl<L: Link> Sftp<L> {
     ///
     /// `IOError(NotReadable)` if the file was not opened for reading; otherwise those of `open`.
     pub fn read(&mut self, file: &mut File, len: u32) -> Result<Option<Bytes>, Error>
-        requires usable { IsUsable L.LinkState.state self.old }
+        requires usable { IsCallable L.LinkState.state self.old }
         requires held { IsGrant self.old.core file.old.grant }
         ensures { ReadsFile len L.LinkState.state file.old file.new self.old self.new result }
     {
-        self.ready()?;
+        self.check_start()?;
         let call = file.start_read(&mut self.core, len)?;
         self.finish_on(call, file)
     }
@@ -70,11 +70,11 @@ impl<L: Link> Sftp<L> {
     ///
     /// `IOError(NotWritable)` if the file was not opened for writing; otherwise those of `open`.
     pub fn write_all(&mut self, file: &mut File, bytes: &[u8]) -> Result<(), Error>
-        requires usable { IsUsable L.LinkState.state self.old }
+        requires usable { IsCallable L.LinkState.state self.old }
         requires held { IsGrant self.old.core file.old.grant }
         ensures { WritesFile bytes.now L.LinkState.state file.old file.new self.old self.new result }
     {
-        self.ready()?;
+        self.check_start()?;
         let call = file.start_write_all(&mut self.core, bytes)?;
         self.finish_on(call, file)
     }
@@ -86,12 +86,12 @@ impl<L: Link> Sftp<L> {
     ///
     /// `SftpError` if the server refuses, or the errors of `flush` and `take`. The file is given up in any case.
     pub fn close_file(&mut self, file: File) -> Result<(), Error>
-        requires usable { IsUsable L.LinkState.state self.old }
+        requires usable { IsCallable L.LinkState.state self.old }
         requires held { IsGrant self.old.core file.grant }
         ensures { ClosesHandle (ReleasesFile file) (IsNoneOfFile file) L.LinkState.state self.old self.new result }
     {
         let call = file.start_close(&mut self.core);
-        self.finish(call)
+        self.finish_close(call)
     }
 
     /// Closes a file without waiting: the CLOSE is queued, and its reply is dropped. This is the way out of a function
@@ -109,10 +109,10 @@ impl<L: Link> Sftp<L> {
     ///
     /// Those of `open`. The file is closed then, and the bytes that came are dropped.
     pub fn read_file(&mut self, path: &[u8]) -> Result<BytesMut, Error>
-        requires { IsUsable L.LinkState.state self.old }
+        requires { IsCallable L.LinkState.state self.old }
         ensures { ReadsPath path.now L.LinkState.state self.old self.new result }
     {
-        self.ready()?;
+        self.check_start()?;
         let call = self.fs().start_read(self.alloc, &mut self.core, path)?;
         self.finish_read(call)
     }
@@ -124,10 +124,10 @@ impl<L: Link> Sftp<L> {
     ///
     /// Those of `open`. The file is closed then, and has the bytes that were written before.
     pub fn write_file(&mut self, path: &[u8], content: &[u8]) -> Result<(), Error>
-        requires { IsUsable L.LinkState.state self.old }
+        requires { IsCallable L.LinkState.state self.old }
         ensures { WritesPath path.now content.now L.LinkState.state self.old self.new result }
     {
-        self.ready()?;
+        self.check_start()?;
         let call = self
             .fs()
             .start_write(self.alloc, &mut self.core, path, content)?;
@@ -143,13 +143,13 @@ impl<L: Link> Sftp<L> {
     /// `UnsupportedExtension` if the server doesn't offer it; `IOError` if a file was not opened for it or an offset
     /// would pass 18446744073709551615; otherwise those of `open`.
     pub fn copy(&mut self, from: &mut File, to: &mut File, n: u64) -> Result<(), Error>
-        requires usable { IsUsable L.LinkState.state self.old }
+        requires usable { IsCallable L.LinkState.state self.old }
         requires source { IsGrant self.old.core from.old.grant }
         requires target { IsGrant self.old.core to.old.grant }
         requires some { 0 < n }
         ensures { CopiesFile n L.LinkState.state from.old from.new to.old to.new self.old self.new result }
     {
-        self.ready()?;
+        self.check_start()?;
         let call = from.start_copy_to(&mut self.core, to, n)?;
         self.finish_copy(call, from, to)
     }
@@ -161,12 +161,12 @@ impl<L: Link> Sftp<L> {
     ///
     /// Those of `copy`.
     pub fn copy_all(&mut self, from: &mut File, to: &mut File) -> Result<(), Error>
-        requires usable { IsUsable L.LinkState.state self.old }
+        requires usable { IsCallable L.LinkState.state self.old }
         requires source { IsGrant self.old.core from.old.grant }
         requires target { IsGrant self.old.core to.old.grant }
         ensures { CopiesFile 0 L.LinkState.state from.old from.new to.old to.new self.old self.new result }
     {
-        self.ready()?;
+        self.check_start()?;
         let call = from.start_copy_all_to(&mut self.core, to)?;
         self.finish_copy(call, from, to)
     }

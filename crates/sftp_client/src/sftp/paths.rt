@@ -1,17 +1,45 @@
 //! Calls on paths, each of which runs to its end.
 ghost use Rattle.std.specs.Prelude.{Some};
+ghost use Rattle.plan_state.specs.Asked.{IsReady};
 ghost use Rattle.sftp_model.specs.Frames.{no_attributes};
 ghost use Rattle.plan_model.specs.PathPlans.{canonicalize_next, hard_link_next, lstat_next, mkdir_next, read_link_next, remove_next, rename_next, rmdir_next, stat_next, symlink_next};
-ghost use Rattle.sftp_client.specs.Calls.{CallsOnPath, IsUsable};
+ghost use Rattle.sftp_client.specs.Calls.{CallsOnPath, IsCallable};
 ghost use Rattle.sftp_file.specs.Settles.{settle_meaning};
 ghost use Rattle.sftp_file.specs.Tells.{attrs_meaning};
 ghost use Rattle.sftp_fs.specs.Names.{name_meaning};
-ghost use Rattle.sftp_fs.specs.SettingPlans.{set_attrs_next};
+ghost use Rattle.sftp_fs.specs.PathStarts.{StartsFrom};
+ghost use Rattle.sftp_fs.specs.SettingPlans.{make_dir_next, set_attrs_next};
 
 use super::Sftp;
+use sftp_core::Core;
+use sftp_file::StatusCall;
+use sftp_fs::Fs;
 use sftp_link::Link;
 use sftp_meta::{MetaData, Permissions};
 use sftp_model::{Error, RemotePath};
+use std::alloc::Global;
+
+/// Starts to create a directory with these permissions, or with none that are sent.
+fn start_dir(
+    fs: &Fs,
+    alloc: Global,
+    core: &mut Core,
+    path: &[u8],
+    perm: Option<Permissions>,
+) -> Result<StatusCall, Error>
+    requires { IsReady core.old }
+    ensures { StartsFrom settle_meaning (make_dir_next path.now (record no_attributes { permissions = perm })) fs.now
+        core.old core.new result }
+{
+    let mut builder = fs.dir_builder();
+    match perm {
+        Some(perm) => {
+            let _ = builder.permissions(perm);
+            builder.start_create(alloc, core, path)
+        }
+        None => builder.start_create(alloc, core, path),
+    }
+}
 
 /// The calls on paths. A relative path begins in the directory in which the session began. Each of them sends what is
 /// queued and takes frames until its reply comes; the replies to other calls are kept for them. Whatever the result,
@@ -22,14 +50,15 @@ impl<L: Link> Sftp<L> {
     ///
     /// # Errors
     ///
-    /// `OutOfMemory` if 2147483648 ids are in use or an allocation fails; `IOError(PathTooLong)` if the request would
-    /// pass 1048575 bytes; `SftpError` with the server's status and message if it refuses; otherwise the errors of
-    /// `flush` and `take`.
+    /// A recorded fault is reported first. `OutOfMemory` if 2147483648 ids are in use or an allocation fails;
+    /// `IOError(PathTooLong)` if the request would pass 1048575 bytes; `SftpError` with the server's status and message if
+    /// it refuses; otherwise the errors of `flush` and `take`. After each of them the calls of `Sftp` that run in one may
+    /// be made.
     pub fn metadata(&mut self, path: &[u8]) -> Result<MetaData, Error>
-        requires { IsUsable L.LinkState.state self.old }
+        requires { IsCallable L.LinkState.state self.old }
         ensures { CallsOnPath attrs_meaning (stat_next path.now) L.LinkState.state self.old self.new result }
     {
-        self.ready()?;
+        self.check_start()?;
         let call = self.fs().start_metadata(self.alloc, &mut self.core, path)?;
         self.finish(call)
     }
@@ -40,10 +69,10 @@ impl<L: Link> Sftp<L> {
     ///
     /// Those of `metadata`.
     pub fn symlink_metadata(&mut self, path: &[u8]) -> Result<MetaData, Error>
-        requires { IsUsable L.LinkState.state self.old }
+        requires { IsCallable L.LinkState.state self.old }
         ensures { CallsOnPath attrs_meaning (lstat_next path.now) L.LinkState.state self.old self.new result }
     {
-        self.ready()?;
+        self.check_start()?;
         let call = self
             .fs()
             .start_symlink_metadata(self.alloc, &mut self.core, path)?;
@@ -56,11 +85,11 @@ impl<L: Link> Sftp<L> {
     ///
     /// Those of `metadata`.
     pub fn set_metadata(&mut self, path: &[u8], metadata: MetaData) -> Result<(), Error>
-        requires { IsUsable L.LinkState.state self.old }
+        requires { IsCallable L.LinkState.state self.old }
         ensures { CallsOnPath settle_meaning (set_attrs_next path.now metadata)
             L.LinkState.state self.old self.new result }
     {
-        self.ready()?;
+        self.check_start()?;
         let call = self
             .fs()
             .start_set_metadata(self.alloc, &mut self.core, path, metadata)?;
@@ -73,11 +102,11 @@ impl<L: Link> Sftp<L> {
     ///
     /// Those of `metadata`.
     pub fn set_permissions(&mut self, path: &[u8], perm: Permissions) -> Result<(), Error>
-        requires { IsUsable L.LinkState.state self.old }
+        requires { IsCallable L.LinkState.state self.old }
         ensures { CallsOnPath settle_meaning (set_attrs_next path.now (record no_attributes { permissions = Some perm }))
             L.LinkState.state self.old self.new result }
     {
-        self.ready()?;
+        self.check_start()?;
         let call = self
             .fs()
             .start_set_permissions(self.alloc, &mut self.core, path, perm)?;
@@ -90,13 +119,29 @@ impl<L: Link> Sftp<L> {
     ///
     /// Those of `metadata`.
     pub fn create_dir(&mut self, path: &[u8]) -> Result<(), Error>
-        requires { IsUsable L.LinkState.state self.old }
+        requires { IsCallable L.LinkState.state self.old }
         ensures { CallsOnPath settle_meaning (mkdir_next path.now) L.LinkState.state self.old self.new result }
     {
-        self.ready()?;
+        self.check_start()?;
         let call = self
             .fs()
             .start_create_dir(self.alloc, &mut self.core, path)?;
+        self.finish(call)
+    }
+
+    /// Creates a directory with these permissions, or with those that the server chooses (draft-ietf-secsh-filexfer-02,
+    /// section 6.6). The server may leave some of them out.
+    ///
+    /// # Errors
+    ///
+    /// Those of `metadata`.
+    pub fn create_dir_with(&mut self, path: &[u8], perm: Option<Permissions>) -> Result<(), Error>
+        requires { IsCallable L.LinkState.state self.old }
+        ensures { CallsOnPath settle_meaning (make_dir_next path.now (record no_attributes { permissions = perm }))
+            L.LinkState.state self.old self.new result }
+    {
+        self.check_start()?;
+        let call = start_dir(&self.fs(), self.alloc, &mut self.core, path, perm)?;
         self.finish(call)
     }
 
@@ -106,10 +151,10 @@ impl<L: Link> Sftp<L> {
     ///
     /// Those of `metadata`.
     pub fn remove_dir(&mut self, path: &[u8]) -> Result<(), Error>
-        requires { IsUsable L.LinkState.state self.old }
+        requires { IsCallable L.LinkState.state self.old }
         ensures { CallsOnPath settle_meaning (rmdir_next path.now) L.LinkState.state self.old self.new result }
     {
-        self.ready()?;
+        self.check_start()?;
         let call = self
             .fs()
             .start_remove_dir(self.alloc, &mut self.core, path)?;
@@ -122,10 +167,10 @@ impl<L: Link> Sftp<L> {
     ///
     /// Those of `metadata`.
     pub fn remove_file(&mut self, path: &[u8]) -> Result<(), Error>
-        requires { IsUsable L.LinkState.state self.old }
+        requires { IsCallable L.LinkState.state self.old }
         ensures { CallsOnPath settle_meaning (remove_next path.now) L.LinkState.state self.old self.new result }
     {
-        self.ready()?;
+        self.check_start()?;
         let call = self
             .fs()
             .start_remove_file(self.alloc, &mut self.core, path)?;
@@ -139,10 +184,10 @@ impl<L: Link> Sftp<L> {
     ///
     /// Those of `metadata`.
     pub fn rename(&mut self, old: &[u8], to: &[u8]) -> Result<(), Error>
-        requires { IsUsable L.LinkState.state self.old }
+        requires { IsCallable L.LinkState.state self.old }
         ensures { CallsOnPath settle_meaning (rename_next old.now to.now) L.LinkState.state self.old self.new result }
     {
-        self.ready()?;
+        self.check_start()?;
         let call = self.fs().start_rename(self.alloc, &mut self.core, old, to)?;
         self.finish(call)
     }
@@ -153,10 +198,10 @@ impl<L: Link> Sftp<L> {
     ///
     /// Those of `metadata`.
     pub fn symlink(&mut self, src: &[u8], dst: &[u8]) -> Result<(), Error>
-        requires { IsUsable L.LinkState.state self.old }
+        requires { IsCallable L.LinkState.state self.old }
         ensures { CallsOnPath settle_meaning (symlink_next src.now dst.now) L.LinkState.state self.old self.new result }
     {
-        self.ready()?;
+        self.check_start()?;
         let call = self
             .fs()
             .start_symlink(self.alloc, &mut self.core, src, dst)?;
@@ -167,13 +212,13 @@ impl<L: Link> Sftp<L> {
     ///
     /// # Errors
     ///
-    /// `UnsupportedExtension` if the server doesn't offer it; otherwise those of `metadata`.
+    /// Those of `metadata`; `UnsupportedExtension` if the server doesn't offer it.
     pub fn hard_link(&mut self, old: &[u8], to: &[u8]) -> Result<(), Error>
-        requires { IsUsable L.LinkState.state self.old }
+        requires { IsCallable L.LinkState.state self.old }
         ensures { CallsOnPath settle_meaning (hard_link_next old.now to.now)
             L.LinkState.state self.old self.new result }
     {
-        self.ready()?;
+        self.check_start()?;
         let call = self
             .fs()
             .start_hard_link(self.alloc, &mut self.core, old, to)?;
@@ -186,10 +231,10 @@ impl<L: Link> Sftp<L> {
     ///
     /// Those of `metadata`.
     pub fn read_link(&mut self, path: &[u8]) -> Result<RemotePath, Error>
-        requires { IsUsable L.LinkState.state self.old }
+        requires { IsCallable L.LinkState.state self.old }
         ensures { CallsOnPath name_meaning (read_link_next path.now) L.LinkState.state self.old self.new result }
     {
-        self.ready()?;
+        self.check_start()?;
         let call = self.fs().start_read_link(self.alloc, &mut self.core, path)?;
         self.finish(call)
     }
@@ -201,10 +246,10 @@ impl<L: Link> Sftp<L> {
     ///
     /// Those of `metadata`.
     pub fn canonicalize(&mut self, path: &[u8]) -> Result<RemotePath, Error>
-        requires { IsUsable L.LinkState.state self.old }
+        requires { IsCallable L.LinkState.state self.old }
         ensures { CallsOnPath name_meaning (canonicalize_next path.now) L.LinkState.state self.old self.new result }
     {
-        self.ready()?;
+        self.check_start()?;
         let call = self
             .fs()
             .start_canonicalize(self.alloc, &mut self.core, path)?;

@@ -2,7 +2,7 @@
 ghost use Rattle.std.specs.Prelude.{◌≡◌, ◌≤◌, ◌<◌, ◌∷◌, [], IfErr, IfOk, length};
 ghost use Rattle.plan_state.specs.Keeping.{KeepsHeld};
 ghost use Rattle.sftp_model.specs.declared.error.Error.TheVariants as error;
-ghost use Rattle.sftp_client.specs.Calls.{IsUsable, IsUsableAfter};
+ghost use Rattle.sftp_client.specs.Calls.{IsCallable, IsUsable, IsUsableAfter};
 ghost use Rattle.sftp_client.specs.CreatedDirs.{FindsDir, MakesDirs, MakesPath, found_or, is_directory, is_refusal};
 ghost use Rattle.sftp_client.specs.DirPaths.{dir_at};
 ghost use Rattle.sftp_client.specs.RemovedTrees.{RemovesEach, RemovesOne, RemovesPath, RemovesTree, is_link, removal_of, removals_of};
@@ -32,7 +32,7 @@ impl<L: Link> Sftp<L> {
     /// The first error of `create_dir`, unless the path is a directory; that of `metadata` if it isn't a refusal by the
     /// server. The directories that were created before it stay.
     pub fn create_dir_all(&mut self, path: &[u8]) -> Result<(), Error>
-        requires { IsUsable L.LinkState.state self.old }
+        requires { IsCallable L.LinkState.state self.old }
         ensures { MakesPath path.now L.LinkState.state self.old self.new result }
     {
         for end in 0..path.len() {
@@ -43,7 +43,7 @@ impl<L: Link> Sftp<L> {
 
     /// Creates the directory whose path ends at a place of another path, if one does.
     fn ensure_dir_at(&mut self, path: &[u8], end: usize) -> Result<(), Error>
-        requires usable { IsUsable L.LinkState.state self.old }
+        requires usable { IsCallable L.LinkState.state self.old }
         requires within { end ≤ length path.now }
         ensures { MakesDirs L.LinkState.state (dir_at path.now end) self.old self.new result }
     {
@@ -56,7 +56,7 @@ impl<L: Link> Sftp<L> {
 
     /// Creates a directory, if it doesn't exist.
     fn ensure_dir(&mut self, path: &[u8]) -> Result<(), Error>
-        requires { IsUsable L.LinkState.state self.old }
+        requires { IsCallable L.LinkState.state self.old }
         ensures { MakesDirs L.LinkState.state (path.now ∷ []) self.old self.new result }
     {
         match self.create_dir(path) {
@@ -72,7 +72,7 @@ impl<L: Link> Sftp<L> {
 
     /// Returns the refusal of a directory that wasn't created, unless it exists.
     fn find_dir(&mut self, path: &[u8], refusal: Error) -> Result<(), Error>
-        requires { IsUsable L.LinkState.state self.old }
+        requires { IsCallable L.LinkState.state self.old }
         ensures { FindsDir L.LinkState.state path.now refusal self.old self.new result }
     {
         let told = self.metadata(path);
@@ -90,7 +90,7 @@ impl<L: Link> Sftp<L> {
     ///
     /// Those of `read_dir`; `OutOfMemory` also if there are 1000000 entries or more. The entries that came are dropped.
     pub fn walk(&mut self, path: &[u8]) -> Result<Vec<WalkEntry>, Error>
-        requires { IsUsable L.LinkState.state self.old }
+        requires { IsCallable L.LinkState.state self.old }
         ensures walks { IfOk result (λ found. WalksWhole path.now L.LinkState.state self.old self.new found.items) }
         ensures stops { IfErr result (λ e. StopsWalk path.now L.LinkState.state self.old self.new e) }
         ensures keeps { KeepsHeld self.old.core self.new.core }
@@ -118,7 +118,7 @@ impl<L: Link> Sftp<L> {
     /// `remove_dir`, nothing more is removed. An entry that `walk` leaves out is not removed, so its directory is not
     /// empty.
     pub fn remove_dir_all(&mut self, path: &[u8]) -> Result<(), Error>
-        requires { IsUsable L.LinkState.state self.old }
+        requires { IsCallable L.LinkState.state self.old }
         ensures { RemovesPath path.now L.LinkState.state self.old self.new result }
     {
         let told = self.symlink_metadata(path)?;
@@ -130,7 +130,7 @@ impl<L: Link> Sftp<L> {
 
     /// Removes a directory with all entries below it.
     fn remove_tree(&mut self, path: &[u8]) -> Result<(), Error>
-        requires { IsUsable L.LinkState.state self.old }
+        requires { IsCallable L.LinkState.state self.old }
         ensures { RemovesTree path.now L.LinkState.state self.old self.new result }
     {
         let found = self.walk(path)?;
@@ -139,7 +139,7 @@ impl<L: Link> Sftp<L> {
 
     /// Removes the entries of a walk, the last one first, and then its directory.
     fn remove_walked(&mut self, path: &[u8], found: Vec<WalkEntry>) -> Result<(), Error>
-        requires { IsUsable L.LinkState.state self.old }
+        requires { IsCallable L.LinkState.state self.old }
         ensures { RemovesEach L.LinkState.state (removals_of path.now found.items) self.old self.new result }
     {
         let mut found = found;
@@ -151,7 +151,7 @@ impl<L: Link> Sftp<L> {
 
     /// Removes an entry.
     fn remove_entry(&mut self, entry: &WalkEntry) -> Result<(), Error>
-        requires { IsUsable L.LinkState.state self.old }
+        requires { IsCallable L.LinkState.state self.old }
         ensures { RemovesOne L.LinkState.state (removal_of entry.now) self.old self.new result }
     {
         let path = entry.path.as_bytes();
@@ -180,7 +180,7 @@ impl<L: Link> Sftp<L> {
 
     /// Appends the entries of a directory.
     fn walk_dir(&mut self, path: &[u8], found: &mut Vec<WalkEntry>) -> Result<(), Error>
-        requires { IsUsable L.LinkState.state self.old }
+        requires { IsCallable L.LinkState.state self.old }
         ensures { ListsDir L.LinkState.state (path.now ∷ [])
             (record { session = self.old; found = found.old.items })
             (record { session = self.new; found = found.new.items }) result }

@@ -3,7 +3,7 @@ use Rattle.link_frames.proofs.Joining.{escaped}
 use Rattle.sftp_fs.specs.Listings.{ListingValue}
 use Rattle.plan_state.specs.Keeping.{SparesOthers}
 use Rattle.sftp_client.specs.DirCalls.{IsListedToEnd, IsNoneOfListing, StopsListing}
-use Rattle.sftp_client.proofs.DirCalling.{list_keeps}
+use Rattle.sftp_client.proofs.DirCalling.{dir_released, list_keeps}
 use Rattle.sftp_client.proofs.sftp.Sftp.list_dir.Goals as goal
 
 pub returns-in_err-open_dir-clause-lists : goal.returns-in_err-open_dir-clause-lists
@@ -83,3 +83,8 @@ returns-in-Err-clause-keeps g c =
     (subst (λ (l : ListingValue). SparesOthers c.open_dir.new.self.core c.entries_of.new.self.core (IsNoneOfListing l)
     (IsNoneOfListing c.entries_of.new.listing)) c.read_dir-listing.ensures c.in-Err.ensures.spares)
     c.release_dir.ensures.spares
+
+pub returns-in-Err-clause-usable : goal.returns-in-Err-clause-usable
+returns-in-Err-clause-usable g c =
+    dir_released c.entries_of.new.listing g.L.LinkState.state c.entries_of.new.self c.release_dir.new.self
+    c.in-Err.ensures.usable c.release_dir.ensures

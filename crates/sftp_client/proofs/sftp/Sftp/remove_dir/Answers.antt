@@ -5,19 +5,20 @@ use Rattle.link_frames.proofs.Joining.{escaped}
 use Rattle.sftp_client.proofs.Calling.{path_called, path_no_id, path_refused}
 use Rattle.sftp_client.proofs.sftp.Sftp.remove_dir.Goals as goal
 
-pub returns-in_err-ready : goal.returns-in_err-ready
-returns-in_err-ready g c =
-    rw (escaped c.from_residual.result c.in_err-ready.field-0.0 c.from_residual.ensures.1)
+pub returns-in_err-check_start : goal.returns-in_err-check_start
+returns-in_err-check_start g c =
+    rw (escaped c.from_residual.result c.in_err-check_start.field-0.0 c.from_residual.ensures.1)
     (path_no_id settle_meaning (rmdir_next c.args.path.now) g.L.LinkState.state
-    c.args.self.now c.in_err-ready.field-0.0 c.in_err-ready.ensures c.requires)
+    c.args.self.now c.in_err-check_start.field-0.0 c.in_err-check_start.ensures c.requires)
 
 pub returns-in_err-call : goal.returns-in_err-call
 returns-in_err-call g c =
     rw (escaped c.from_residual-in_err-call.result c.in_err-call.field-0.0 c.from_residual-in_err-call.ensures.1)
     (path_refused _ _ g.L.LinkState.state c.args.self.now _ _ c.in_err-call.field-0.0 c.self.view_is
-    (rw (c.fs.ensures) at c.in_err-call.ensures) refl c.requires)
+    (rw (c.fs.ensures) at c.in_err-call.ensures) refl c.in_ok-check_start.ensures.usable)
 
 pub returns : goal.returns
 returns g c =
-    path_called _ _ g.L.LinkState.state c.args.self.now _ _ _ c.in_ok-call.call c.finish.result c.requires
+    path_called _ _ g.L.LinkState.state c.args.self.now _ _ _ c.in_ok-call.call c.finish.result
+    c.in_ok-check_start.ensures.usable
     c.self.view_is (rw (c.fs.ensures) at c.in_ok-call.ensures) refl c.finish.ensures

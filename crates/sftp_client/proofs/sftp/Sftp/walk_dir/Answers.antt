@@ -1,5 +1,14 @@
-use Rattle.sftp_client.proofs.Walking.{dir_appended}
+use Rattle.std.proofs.Common.{inl}
+use Rattle.link_frames.proofs.Joining.{escaped}
+use Rattle.sftp_client.proofs.Walking.{dir_appended, dir_stops, walking}
 use Rattle.sftp_client.proofs.sftp.Sftp.walk_dir.Goals as goal
+
+pub returns-in_err-entries : goal.returns-in_err-entries
+returns-in_err-entries g c =
+    rw (escaped c.from_residual.result c.in_err-entries.field-0.0 c.from_residual.ensures.1)
+    (dir_stops g.L.LinkState.state c.args.path.now (walking c.args.self.now c.args.found.now.items)
+    (walking c.list_dir.new.self c.args.found.now.items) c.in_err-entries.field-0.0
+    (inl c.in_err-entries.ensures.lists) c.in_err-entries.ensures.keeps c.in_err-entries.ensures.usable)
 
 pub returns : goal.returns
 returns g c =
