@@ -1,3 +1,5 @@
-mod AwaitLaws
-mod RunLaws
+mod GoingLaws
 mod ListLaws
+mod ListingLeaves
+mod ListingTogether
+mod ListingRuns

@@ -1,49 +1,27 @@
 -- What listings add to a walk, one after another.
-use Rattle.std.proofs.Common.{◌≡◌, ◌≤◌, ◌+◌, ℕ, zero, suc, Bool, true, false, List, [], ◌∷◌, ◌++◌, Option, Some, None, if◌then◌else◌, refl, sym, ap, ◌∙◌, subst, inl, inr, arith}
-use Rattle.std.specs.Prelude.{Result, Ok, Err}
+use Rattle.std.proofs.Common.{◌≡◌, ◌≤◌, ◌+◌, ℕ, zero, suc, Bool, true, false, List, [], ◌∷◌, ◌++◌, Some, if◌then◌else◌, refl, sym, ap, ◌∙◌, subst, arith}
+use Rattle.std.specs.Prelude.{Result, Ok, Err, take}
 use Rattle.std.specs.List.{flat_map, slice_get}
 use Rattle.std.specs.Option.{option_and_then}
 use Rattle.std.proofs.lemmas.List.{append_assoc, append-nil}
 use Rattle.std.proofs.lemmas.Grind.{flat_map-append}
-use Rattle.sftp_core.specs.Core.{Core}
-use Rattle.sftp_core.specs.Grant.{GrantValue}
-use Rattle.plan_state.specs.Calls.{CallValue}
-use Rattle.sftp_file.specs.Settles.{settle_meaning}
-use Rattle.sftp_file.specs.declared.short_calls.Settling.{Settling}
-use Rattle.sftp_fs.specs.Directories.{ClosesDir, OpensFrom, opening_dir}
-use Rattle.transfer_remote.specs.Awaits.{AwaitsCall}
 use Rattle.sftp_link.specs.Views.{LinkView}
-use Rattle.sftp_model.specs.declared.error.Error.{Error}
-use Rattle.plan_state.specs.declared.poll.Poll.TheVariants.{Pending, Ready}
-use Rattle.sftp_client.specs.Sessions.{SftpValue, with_core}
-use Rattle.sftp_fs.proofs.CallSteps.{listing_still}
-use Rattle.sftp_fs.specs.Listings.{ListingAnswer, IsListing, ListingValue, PollsEntries, fresh_listing, given_up}
-use Rattle.transfer_pool.specs.Sessions.{IsGoing, TookTurn}
-use Rattle.transfer_remote.specs.Runs.{IsFree, RunsCall}
-use Rattle.transfer_remote.proofs.RunLaws.{live_going}
+use Rattle.sftp_client.specs.DirCalls.{ListsWhole}
+use Rattle.sftp_client.specs.Sessions.{SftpValue}
 use Rattle.sftp_model.specs.declared.reply.NameEntry.{NameEntry}
 use Rattle.sftp_meta.specs.FileType.{type_of_mode}
 use Rattle.transfer_plan.specs.Entries.{entry_found}
 use Rattle.transfer_plan.specs.Walks.{MAX_ENTRIES, WalkValue, with_entry}
 use Rattle.transfer_plan.specs.declared.found.Found.{Found}
 use Rattle.transfer_remote.specs.Listed.{
+  AddsEntries,
   CountsSelf,
   Gathered,
   Gathers,
   GrowsBy,
-  GrowsByGiven,
   HasGrown,
   HasListedInto,
-  ListingAt,
-  ListsToEnd,
-  MayGoOn,
-  PollsListing,
-  StepTold,
-  ListingTold,
-  ClosedTold,
-  FolderTold,
-  TakesStep,
-  TakesSteps,
+  ListsInto,
   is_self,
   kind_of,
   listed_as,
@@ -187,161 +165,42 @@ grown_by entries w u h =
     let counted : u.selves ≡ 0 + selves_in entries = h.counted in
     (h.listed, omega (arith, few, counted))
 
--- ---- a step
+-- ---- entries of a slice
 
--- a poll leaves a session that may go on
-pub polled_on : {L S : Type 0} (state : L → LinkView S) (old : SftpValue L) (core : Core) (p q : ListingValue)
-    (given : ListingAnswer)
-    → IsFree state old → PollsEntries old.core core p q given →
-    MayGoOn state (record { session = with_core old core; listing = q })
-polled_on state old core p q given free lists = record {
-  going = live_going state (with_core old core)
-      (record { opened = lists.grants.opened free.live.opened; few = free.live.few });
-  listing = lists.listing;
-}
+pub adds_first : (entries : List NameEntry) (w : WalkValue)
+    → Gathers (take 0 entries) (record { walk = w; selves = 0 }) (record { walk = w; selves = 0 })
+adds_first entries w = none_gathered (record { walk = w; selves = 0 })
 
-pub turned_on : {L S E : Type 0} (state : L → LinkView S) (old : SftpValue L) (core : Core) (new : SftpValue L)
-    (p q : ListingValue) (given : ListingAnswer) (result : Result (Unit {0}) E)
-    → PollsEntries old.core core p q given → TookTurn state (with_core old core) new result
-    → MayGoOn state (record { session = new; listing = q })
-turned_on state old core new p q given result lists turned =
-    record { going = turned.going; listing = listing_still core new.core q turned.keeps lists.listing }
+pub adds_next : (entries : List NameEntry) (index : ℕ) (entry : NameEntry) (a b c : Gathered)
+    → take (index + 1) entries ≡ take index entries ++ entry ∷ [] → Gathers (take index entries) a b
+    → Gathers (entry ∷ []) b c → Gathers (take (index + 1) entries) a c
+adds_next entries index entry a b c more first later =
+    subst (λ (l : List NameEntry). Gathers l a c) (sym more)
+    (gathered_then (take index entries) (entry ∷ []) a b c first later)
 
-pub told_given : {L S E : Type 0} (state : L → LinkView S) (old : SftpValue L) (core : Core) (p q : ListingValue)
-    (given : Option (Result NameEntry Error)) (w v : Gathered) (result : Result Bool E)
-    → PollsEntries old.core core p q (Ready given) → GrowsByGiven given w v result
-    → StepTold state (record { session = old; listing = p }) (record { session = with_core old core; listing = q }) w v
-    result
-told_given state old core p q None w v (Ok true) lists h = (record { lists = lists; rest = refl }, h.1)
-told_given state old core p q None w v (Ok false) lists h = absurd (let never : false ≡ true = h.0 in cc)
-told_given state old core p q (Some (Ok entry)) w v (Ok true) lists h = absurd (let never : true ≡ false = h.0 in cc)
-told_given state old core p q (Some (Ok entry)) w v (Ok false) lists h =
-    (entry ∷ [], inl (entry, record { lists = lists; rest = refl }, refl), h.1)
-told_given state old core p q (Some (Err x)) w v (Ok true) lists h = absurd h
-told_given state old core p q (Some (Err x)) w v (Ok false) lists h = absurd h
-told_given state old core p q None w v (Err e) lists h = h
-told_given state old core p q (Some (Ok entry)) w v (Err e) lists h = h
-told_given state old core p q (Some (Err x)) w v (Err e) lists h = h
+pub adds_all : (entries : List NameEntry) (w : WalkValue) (u : Gathered)
+    → Gathers entries (record { walk = w; selves = 0 }) u → AddsEntries {E = Unit {0}} entries w u.walk (Ok tt)
+adds_all entries w u h = grown_by entries w u h
 
-pub told_turns : {L S D : Type 0} (E : Type 0) (state : L → LinkView S) (old : SftpValue L) (core : Core)
-    (new : SftpValue L) (p q : ListingValue) (w : Gathered)
-    → PollsEntries old.core core p q Pending → TookTurn {E = D} state (with_core old core) new (Ok tt)
-    → (let result : Result Bool E = Ok false in
-    StepTold state (record { session = old; listing = p }) (record { session = new; listing = q }) w w result)
-told_turns E state old core new p q w lists turned = (
-  [],
-  inr (
-    record { session = with_core old core; listing = q },
-    record { lists = lists; rest = refl },
-    turned.turns,
-    refl,
-    refl,
-  ),
-  none_gathered w,
-)
+pub adds_stopped : (entries : List NameEntry) (w v : WalkValue) (u : Gathered)
+    → Gathers entries (record { walk = w; selves = 0 }) u → v ≡ u.walk → HasGrown w v
+adds_stopped entries w v u h same =
+    let all = grown_by entries w u h in
+    (entries, subst (λ (x : WalkValue). HasListedInto entries w x) (sym same) all.0, all.1)
 
--- ---- one step after another
+-- ---- entries of a directory
 
--- so far these entries were given, and added or counted
-pub record IsListingOn {L S : Type 0} (state : L → LinkView S) (first now : ListingAt L) (before after : Gathered) :
-    Type 0 where
-  pub goes : MayGoOn state now
-  pub steps : ℕ
-  pub entries : List NameEntry
-  pub taken : TakesSteps state steps first entries now
-  pub grown : Gathers entries before after
-
-pub begins_on : {L S : Type 0} (state : L → LinkView S) (first : ListingAt L) (w : Gathered)
-    → IsGoing state first.session
-    → IsListing first.session.core first.listing → IsListingOn state first first w w
-begins_on state first w going listing = record {
-  goes = record { going = going; listing = listing };
-  steps = 0;
-  entries = [];
-  taken = (refl, refl);
-  grown = none_gathered w;
-}
-
-pub goes_on : {L S : Type 0} (state : L → LinkView S) (first mid new : ListingAt L) (w u v : Gathered)
-    → IsListingOn state first mid w u → MayGoOn state new
-    → ((entries : List NameEntry) × TakesStep state mid new entries × Gathers entries u v)
-    → IsListingOn state first new w v
-goes_on state first mid new w u v h goes told = record {
-  goes = goes;
-  steps = suc h.steps;
-  entries = h.entries ++ told.0;
-  taken = (mid, h.entries, told.0, h.taken, told.1, refl);
-  grown = gathered_then h.entries (told.0) w u v h.grown (told.2);
-}
-
-pub ends_on : {L S : Type 0} (state : L → LinkView S) (first mid new : ListingAt L) (w : WalkValue) (u v : Gathered)
-    → IsListingOn state first mid (record { walk = w; selves = 0 }) u → PollsListing mid new (Ready None) × (v ≡ u)
-    → ListsToEnd state first new w v.walk
-ends_on state first mid new w u v h told =
-    let all = grown_by h.entries w u h.grown in record {
-      steps = h.steps;
-      entries = h.entries;
-      last = mid;
-      taken = h.taken;
-      end = told.0;
-      grown = subst (λ (x : Gathered). HasListedInto h.entries w x.walk) (sym told.1) (all.0);
-      few = all.1;
+pub folder_listed : {L S E : Type 0} (state : L → LinkView S) (old new : SftpValue L) (folder : Found)
+    (entries items : List NameEntry) (w v : WalkValue) (result : Result (Unit {0}) E)
+    → slice_get w.found w.at ≡ Some folder → ListsWhole folder.source state old new entries → items ≡ entries
+    → AddsEntries items w v result → ListsInto state old new w v result
+folder_listed state old new folder entries items w v (Ok u) stands lists same adds =
+    record {
+      folder = folder;
+      entries = items;
+      stands = stands;
+      lists = subst (λ (l : List NameEntry). ListsWhole folder.source state old new l) (sym same) lists;
+      grown = adds.0;
+      few = adds.1;
     }
-
-pub fails_on : {L S : Type 0} (state : L → LinkView S) (first mid : ListingAt L) (w : WalkValue) (u v : Gathered)
-    → IsListingOn state first mid (record { walk = w; selves = 0 }) u → v.walk ≡ u.walk → HasGrown w v.walk
-fails_on state first mid w u v h same =
-    let all = grown_by h.entries w u h.grown in
-    (h.entries, subst (λ (x : WalkValue). HasListedInto h.entries w x) (sym same) (all.0), all.1)
-
-pub grown_on : {L S : Type 0} (state : L → LinkView S) (first mid : ListingAt L) (w v : WalkValue) (n : ℕ)
-    → IsListingOn state first mid (record { walk = w; selves = 0 }) (record { walk = v; selves = n }) → HasGrown w v
-grown_on state first mid w v n h =
-    let u : Gathered = record { walk = v; selves = n } in
-    let all = grown_by h.entries w u h.grown in
-    (h.entries, all.0, all.1)
-
--- whatever was told, the walk has grown by entries
-pub grown_told : {L S E : Type 0} (state : L → LinkView S) (old new : ListingAt L) (w v : WalkValue)
-    (result : Result (Unit {0}) E) → ListingTold state old new w v result → HasGrown w v
-grown_told state old new w v (Ok u) told = (told.entries, told.grown, told.few)
-grown_told state old new w v (Err e) told = told
-
-pub is_end : {L S E : Type 0} (state : L → LinkView S) (mid new : ListingAt L) (u v : Gathered)
-    (result : Result Bool E)
-    → result ≡ Ok true → StepTold state mid new u v result → PollsListing mid new (Ready None) × (v ≡ u)
-is_end state mid new u v result is told = subst (λ (r : Result Bool _). StepTold state mid new u v r) is told
-
-pub is_step : {L S E : Type 0} (state : L → LinkView S) (mid new : ListingAt L) (u v : Gathered)
-    (result : Result Bool E)
-    → result ≡ Ok false → StepTold state mid new u v result
-    → ((entries : List NameEntry) × TakesStep state mid new entries × Gathers entries u v)
-is_step state mid new u v result is told = subst (λ (r : Result Bool _). StepTold state mid new u v r) is told
-
--- ---- a folder
-
-pub closed_told : {L S E : Type 0} (state : L → LinkView S) (dir : GrantValue) (old : SftpValue L)
-    (listed : ListingAt L)
-    (core : Core) (call : CallValue Settling) (new : SftpValue L) (w v : WalkValue) (result : Result (Unit {0}) E)
-    → ListsToEnd state (record { session = old; listing = fresh_listing dir }) listed w v
-    → ClosesDir listed.listing.grant (given_up listed.session.core listed.listing.asked) core call
-    → AwaitsCall state settle_meaning (record { session = with_core listed.session core; call = call }) new result
-    → ClosedTold state dir old new w v result
-closed_told state dir old listed core call new w v (Ok u) lists closes awaited = record {
-  listed = listed;
-  core = core;
-  call = call;
-  lists = lists;
-  closes = closes;
-  answers = awaited.answers;
-}
-closed_told state dir old listed core call new w v (Err e) lists closes awaited =
-    (lists.entries, lists.grown, lists.few)
-
-pub folder_told : {L S E : Type 0} (state : L → LinkView S) (old opened new : SftpValue L) (folder : Found)
-    (dir : GrantValue) (w v : WalkValue) (result : Result (Unit {0}) E) → slice_get w.found w.at ≡ Some folder
-    → RunsCall {E = E} state opening_dir (OpensFrom folder.source []) old opened (Ok dir)
-    → ClosedTold state dir opened new w v result → FolderTold state old new w v result
-folder_told state old opened new folder dir w v (Ok u) stands opens closed =
-    record { folder = folder; opened = opened; dir = dir; stands = stands; opens = opens; closed = closed }
-folder_told state old opened new folder dir w v (Err e) stands opens closed = closed
+folder_listed state old new folder entries items w v (Err e) stands lists same adds = adds

@@ -1,3 +1,5 @@
-pub mod Awaits
-pub mod Runs
+pub mod Failures
+pub mod RemoteCalls
 pub mod Listed
+pub mod ListingSteps
+pub mod ManyListings

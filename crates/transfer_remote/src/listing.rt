@@ -1,23 +1,18 @@
 //! Lists a directory of the server into a walk.
 ghost use Rattle.std.specs.Prelude.{◌≡◌, ◌∷◌, [], IfOk};
-ghost use Rattle.sftp_core.specs.Core.{IsGrant};
-ghost use Rattle.sftp_fs.specs.Directories.{OpensFrom, opening_dir};
 ghost use Rattle.sftp_fs.specs.Listings.{IsListing};
+ghost use Rattle.sftp_client.specs.Calls.{IsUsable};
+ghost use Rattle.sftp_client.specs.DirCalls.{IsListedToEnd, ListsWhole};
 ghost use Rattle.transfer_pool.specs.Sessions.{IsGoing};
-ghost use Rattle.transfer_remote.specs.Listed.{ListingTold, ClosedTold, CountsSelf, FolderTold, GrowsBy, GrowsByGiven, MayGoOn, StepTold, is_self, kind_of};
-ghost use Rattle.transfer_remote.specs.Runs.{RunsCall};
+ghost use Rattle.transfer_remote.specs.Listed.{AddsEntries, CountsSelf, GrowsBy, ListsInto, is_self, kind_of};
 
-use crate::asks::{finish, plain_paths, ready};
+use crate::listing_stage::push_entry;
 use crate::remote_error::RemoteError;
-use crate::wait::await_call;
-use sftp_client::{Dir, DirEntry, ReadDir, Sftp};
-use sftp_file::Poll;
+use sftp_client::{DirEntry, ReadDir, Sftp};
 use sftp_link::Link;
 use sftp_meta::FileType;
-use sftp_model::Error;
 use std::alloc::Global;
 use transfer_plan::{EntryKind, MAX_ENTRIES, Walk, WalkError};
-use transfer_pool::turn;
 
 /// The name under which a directory lists itself.
 const SELF: &[u8] = b".";
@@ -85,118 +80,83 @@ fn add_entry(
     }
 }
 
-/// Adds the entry that a poll of a listing returned. Returns true at the end.
-fn take_given(
-    alloc: Global,
-    walk: &mut Walk,
-    selves: &mut usize,
-    given: Option<Result<DirEntry, Error>>,
-) -> Result<bool, RemoteError>
-    ensures { GrowsByGiven given (record { walk = walk.old; selves = selves.old })
-        (record { walk = walk.new; selves = selves.new }) result }
-{
-    // No `?`: it converts the error, and the clause is by cases on the result.
-    match given {
-        None => Ok(true),
-        Some(Ok(entry)) => match add_entry(alloc, walk, selves, &entry) {
-            Ok(()) => Ok(false),
-            Err(e) => Err(e),
-        },
-        Some(Err(e)) => Err(e.into()),
-    }
-}
-
-/// Polls a listing once: its entry is added, and if none has come the session takes a turn. Returns true at the end.
-fn list_step<L: Link>(
-    alloc: Global,
-    sftp: &mut Sftp<L>,
-    listing: &mut ReadDir,
-    walk: &mut Walk,
-    selves: &mut usize,
-) -> Result<bool, RemoteError>
-    requires going { IsGoing L.LinkState.state sftp.old }
-    requires listing { IsListing sftp.old.core listing.old }
-    ensures goes { MayGoOn L.LinkState.state (record { session = sftp.new; listing = listing.new }) }
-    ensures told { StepTold L.LinkState.state (record { session = sftp.old; listing = listing.old })
-        (record { session = sftp.new; listing = listing.new }) (record { walk = walk.old; selves = selves.old })
-        (record { walk = walk.new; selves = selves.new }) result }
-{
-    // No `?`: it converts the error, and `told` is by cases on the result.
-    match ready(sftp) {
-        Ok(()) => {}
-        Err(e) => return Err(e),
-    }
-    match listing.poll_next(sftp.core()) {
-        Poll::Ready(given) => take_given(alloc, walk, selves, given),
-        Poll::Pending => match turn(sftp) {
-            Ok(()) => Ok(false),
-            Err(e) => Err(e.into()),
-        },
-    }
-}
-
-/// Adds the entries of a listing to a walk, up to its end.
-fn list_entries<L: Link>(
-    alloc: Global,
-    sftp: &mut Sftp<L>,
-    listing: &mut ReadDir,
-    walk: &mut Walk,
-) -> Result<(), RemoteError>
-    requires going { IsGoing L.LinkState.state sftp.old }
-    requires listing { IsListing sftp.old.core listing.old }
-    ensures goes { MayGoOn L.LinkState.state (record { session = sftp.new; listing = listing.new }) }
-    ensures told { ListingTold L.LinkState.state (record { session = sftp.old; listing = listing.old })
-        (record { session = sftp.new; listing = listing.new }) walk.old walk.new result }
+/// Adds the entries of a listing to a walk, as entries of its current directory and in their order. The directory
+/// itself and its parent are left out. Each other entry is added, whatever its name is.
+///
+/// # Errors
+///
+/// `TooManyEntries` if the walk has too many entries or more than 1000000 are the directory itself or its parent;
+/// `OutOfMemory` if an allocation fails. The entries before are added.
+pub fn add_entries(alloc: Global, walk: &mut Walk, entries: &[DirEntry]) -> Result<(), RemoteError>
+    ensures { AddsEntries entries.now walk.old walk.new result }
 {
     let mut selves = 0;
-    for _ in 0..u64::MAX {
-        // No `?`: it converts the error, and `told` is by cases on the result.
-        match list_step(alloc, sftp, listing, walk, &mut selves) {
-            Ok(true) => return Ok(()),
-            Ok(false) => {}
+    for entry in entries {
+        // No `?`: it converts the error, and the clause is by cases on the result.
+        match add_entry(alloc, walk, &mut selves, entry) {
+            Ok(()) => {}
             Err(e) => return Err(e),
+        }
+    }
+    Ok(())
+}
+
+/// Returns the entries of an open directory, up to their end.
+fn entries_of<L: Link>(
+    alloc: Global,
+    sftp: &mut Sftp<L>,
+    dir: &mut ReadDir,
+) -> Result<Vec<DirEntry>, RemoteError>
+    requires usable { IsUsable L.LinkState.state sftp.old }
+    requires listing { IsListing sftp.old.core dir.old }
+    ensures listed { IfOk result
+        (λ entries. IsListedToEnd L.LinkState.state sftp.old sftp.new dir.old dir.new entries.items) }
+    ensures listing { IsListing sftp.new.core dir.new }
+    ensures going { IsGoing L.LinkState.state sftp.new }
+{
+    let mut entries = Vec::new(alloc);
+    for _ in 0..u64::MAX {
+        // No `?`: it converts the error, and `listed` is by cases on the result.
+        let given = match sftp.next_entry(dir) {
+            Ok(given) => given,
+            Err(e) => return Err(e.into()),
+        };
+        match given {
+            Some(entry) => match push_entry(&mut entries, entry) {
+                Ok(()) => {}
+                Err(e) => return Err(e),
+            },
+            None => return Ok(entries),
         }
     }
     Err(RemoteError::TooLong)
 }
 
-/// Opens a directory of the server.
-fn open_folder<L: Link>(alloc: Global, sftp: &mut Sftp<L>, path: &[u8]) -> Result<Dir, RemoteError>
-    requires { IsGoing L.LinkState.state sftp.old }
-    ensures runs { RunsCall L.LinkState.state opening_dir (OpensFrom path.now []) sftp.old sftp.new result }
-    ensures held { IfOk result (λ dir. IsGrant sftp.new.core dir) }
-{
-    // No `?`: it converts the error, and `runs` is by cases on the result.
-    match ready(sftp) {
-        Ok(()) => {
-            let started = plain_paths(alloc).start_open_dir(alloc, sftp.core(), path);
-            finish(sftp, started)
-        }
-        Err(e) => Err(e),
-    }
-}
-
-/// Adds the entries of an open directory to a walk, up to their end, and closes the directory whether or not that
-/// succeeded.
-fn list_closed<L: Link>(
+/// Returns the entries of a directory. It is closed, and if it was listed to its end, the server's reply is awaited.
+fn list_dir<L: Link>(
     alloc: Global,
     sftp: &mut Sftp<L>,
-    dir: Dir,
-    walk: &mut Walk,
-) -> Result<(), RemoteError>
-    requires going { IsGoing L.LinkState.state sftp.old }
-    requires granted { IsGrant sftp.old.core dir }
+    path: &[u8],
+) -> Result<Vec<DirEntry>, RemoteError>
+    requires { IsGoing L.LinkState.state sftp.old }
+    ensures lists { IfOk result (λ entries. ListsWhole path.now L.LinkState.state sftp.old sftp.new entries.items) }
     ensures going { IsGoing L.LinkState.state sftp.new }
-    ensures told { ClosedTold L.LinkState.state dir sftp.old sftp.new walk.old walk.new result }
 {
-    let mut listing = dir.read_dir(alloc);
-    let listed = list_entries(alloc, sftp, &mut listing, walk);
-    let closing = listing.start_close(sftp.core());
-    let closed = await_call(sftp, closing);
-    // No `?`: it converts the error, and `told` is by cases on the result.
-    match listed {
-        Ok(()) => closed,
-        Err(e) => Err(e),
+    // No `?`: it converts the error, and `lists` is by cases on the result.
+    let dir = match sftp.open_dir(path) {
+        Ok(dir) => dir,
+        Err(e) => return Err(e.into()),
+    };
+    let mut dir = dir.read_dir(alloc);
+    match entries_of(alloc, sftp, &mut dir) {
+        Ok(entries) => match sftp.close_dir(dir) {
+            Ok(()) => Ok(entries),
+            Err(e) => Err(e.into()),
+        },
+        Err(e) => {
+            sftp.release_dir(dir);
+            Err(e)
+        }
     }
 }
 
@@ -206,8 +166,8 @@ fn list_closed<L: Link>(
 /// # Errors
 ///
 /// A `RemoteError` if the server refuses, the session fails, an allocation fails, the walk has too many entries, the
-/// directory lists itself or its parent more than 1000000 times, or 18446744073709551615 steps were not enough. The
-/// entries that came before it are added.
+/// directory has more than 1000002, or 18446744073709551615 of them were not enough. If it could not be listed to its
+/// end, nothing is added.
 pub fn list_remote<L: Link>(
     alloc: Global,
     sftp: &mut Sftp<L>,
@@ -215,12 +175,12 @@ pub fn list_remote<L: Link>(
 ) -> Result<(), RemoteError>
     requires { IsGoing L.LinkState.state sftp.old }
     ensures going { IsGoing L.LinkState.state sftp.new }
-    ensures told { FolderTold L.LinkState.state sftp.old sftp.new walk.old walk.new result }
+    ensures told { ListsInto L.LinkState.state sftp.old sftp.new walk.old walk.new result }
 {
     let path = walk.folder().source.as_slice();
     // No `?`: it converts the error, and `told` is by cases on the result.
-    match open_folder(alloc, sftp, path) {
-        Ok(dir) => list_closed(alloc, sftp, dir, walk),
+    match list_dir(alloc, sftp, path) {
+        Ok(entries) => add_entries(alloc, walk, &entries),
         Err(e) => Err(e),
     }
 }

@@ -1,53 +1,45 @@
 //! Calls on paths.
-ghost use Rattle.std.specs.Prelude.{[], option_map};
+ghost use Rattle.std.specs.Prelude.{◌≡◌, option_map};
 ghost use Rattle.plan_model.specs.PathPlans.{lstat_next, read_link_next, remove_next, rename_next, rmdir_next, stat_next, symlink_next};
-ghost use Rattle.plan_state.specs.Asked.{IsReady};
 ghost use Rattle.sftp_file.specs.Settles.{settle_meaning};
 ghost use Rattle.sftp_file.specs.Tells.{attrs_meaning};
 ghost use Rattle.sftp_fs.specs.Names.{name_meaning};
-ghost use Rattle.sftp_fs.specs.PathStarts.{StartsFrom};
 ghost use Rattle.sftp_fs.specs.SettingPlans.{make_dir_next, set_attrs_next};
 ghost use Rattle.sftp_model.specs.Frames.{no_attributes};
 ghost use Rattle.sftp_model.specs.Readings.{permission_bits};
 ghost use Rattle.transfer_pool.specs.Sessions.{IsGoing};
-ghost use Rattle.transfer_remote.specs.Runs.{RunsCall};
+ghost use Rattle.transfer_remote.specs.Failures.{remote_result};
+ghost use Rattle.transfer_remote.specs.RemoteCalls.{CallsRemote};
 
-use crate::asks::{finish, plain_paths, ready};
 use crate::remote_error::RemoteError;
 use sftp_client::Sftp;
-use sftp_core::Core;
-use sftp_file::StatusCall;
 use sftp_link::Link;
-use sftp_meta::MetaData;
+use sftp_meta::{MetaData, Permissions};
 use sftp_model::{Error, FileAttrs, RemotePath};
 use std::alloc::Global;
 
-/// Starts to create a directory with these permissions, or with none that are given.
-fn start_folder(
-    alloc: Global,
-    core: &mut Core,
-    path: &[u8],
-    mode: Option<u32>,
-) -> Result<StatusCall, Error>
-    requires { IsReady core.old }
-    ensures { StartsFrom settle_meaning (make_dir_next path.now
-        (record no_attributes { permissions = option_map permission_bits mode })) [] core.old core.new result }
+/// Returns the result of a call of a session, with its error as a failure.
+pub(crate) fn settled<V>(answer: Result<V, Error>) -> Result<V, RemoteError>
+    ensures { result ≡ remote_result answer }
 {
-    let fs = plain_paths(alloc);
-    let mut builder = fs.dir_builder();
+    // No `?`: it converts the error, and the clause is an equation.
+    match answer {
+        Ok(value) => Ok(value),
+        Err(e) => Err(e.into()),
+    }
+}
+
+/// Returns the low twelve bits of a mode as permissions.
+fn permissions_of(mode: Option<u32>) -> Option<Permissions>
+    ensures { result ≡ option_map permission_bits mode }
+{
     let attrs = FileAttrs {
         size: None,
         id: None,
         permissions: mode,
         time: None,
     };
-    match MetaData::new(attrs).permissions() {
-        Some(permissions) => {
-            let _ = builder.permissions(permissions);
-            builder.start_create(alloc, core, path)
-        }
-        None => builder.start_create(alloc, core, path),
-    }
+    MetaData::new(attrs).permissions()
 }
 
 /// Creates a directory (draft-ietf-secsh-filexfer-02, section 6.6). Of a mode the low twelve bits are sent as the
@@ -55,26 +47,19 @@ fn start_folder(
 ///
 /// # Errors
 ///
-/// A `RemoteError` if the server refuses, the session fails, an allocation fails or 18446744073709551615 steps were not
-/// enough; the session stays open.
+/// A `RemoteError` if the server refuses, the session fails or an allocation fails; the session stays open.
 pub fn make_remote_folder<L: Link>(
-    alloc: Global,
+    _alloc: Global,
     sftp: &mut Sftp<L>,
     path: &[u8],
     mode: Option<u32>,
 ) -> Result<(), RemoteError>
     requires { IsGoing L.LinkState.state sftp.old }
-    ensures { RunsCall L.LinkState.state settle_meaning (StartsFrom settle_meaning (make_dir_next path.now
-        (record no_attributes { permissions = option_map permission_bits mode })) []) sftp.old sftp.new result }
+    ensures { CallsRemote settle_meaning (make_dir_next path.now
+        (record no_attributes { permissions = option_map permission_bits mode })) L.LinkState.state sftp.old sftp.new
+        result }
 {
-    // No `?`: it converts the error, and the clause is by cases on the result.
-    match ready(sftp) {
-        Ok(()) => {
-            let started = start_folder(alloc, sftp.core(), path, mode);
-            finish(sftp, started)
-        }
-        Err(e) => Err(e),
-    }
+    settled(sftp.create_dir_with(path, permissions_of(mode)))
 }
 
 /// Renames a file, a directory or a symbolic link (draft-ietf-secsh-filexfer-02, section 6.5). If the server offers
@@ -83,76 +68,50 @@ pub fn make_remote_folder<L: Link>(
 ///
 /// # Errors
 ///
-/// A `RemoteError` if the server refuses, the session fails, an allocation fails or 18446744073709551615 steps were not
-/// enough; the session stays open.
+/// A `RemoteError` if the server refuses, the session fails or an allocation fails; the session stays open.
 pub fn rename_remote<L: Link>(
-    alloc: Global,
+    _alloc: Global,
     sftp: &mut Sftp<L>,
     from: &[u8],
     to: &[u8],
 ) -> Result<(), RemoteError>
     requires { IsGoing L.LinkState.state sftp.old }
-    ensures { RunsCall L.LinkState.state settle_meaning (StartsFrom settle_meaning (rename_next from.now to.now) [])
-        sftp.old sftp.new result }
+    ensures { CallsRemote settle_meaning (rename_next from.now to.now) L.LinkState.state sftp.old sftp.new result }
 {
-    // No `?`: it converts the error, and the clause is by cases on the result.
-    match ready(sftp) {
-        Ok(()) => {
-            let started = plain_paths(alloc).start_rename(alloc, sftp.core(), from, to);
-            finish(sftp, started)
-        }
-        Err(e) => Err(e),
-    }
+    settled(sftp.rename(from, to))
 }
 
 /// Removes a file or a symbolic link (draft-ietf-secsh-filexfer-02, section 6.5).
 ///
 /// # Errors
 ///
-/// A `RemoteError` if the server refuses, the session fails, an allocation fails or 18446744073709551615 steps were not
-/// enough; the session stays open.
+/// A `RemoteError` if the server refuses, the session fails or an allocation fails; the session stays open.
 pub fn remove_remote<L: Link>(
-    alloc: Global,
+    _alloc: Global,
     sftp: &mut Sftp<L>,
     path: &[u8],
 ) -> Result<(), RemoteError>
     requires { IsGoing L.LinkState.state sftp.old }
-    ensures { RunsCall L.LinkState.state settle_meaning (StartsFrom settle_meaning (remove_next path.now) [])
-        sftp.old sftp.new result }
+    ensures { CallsRemote settle_meaning (remove_next path.now) L.LinkState.state sftp.old sftp.new result }
 {
-    // No `?`: it converts the error, and the clause is by cases on the result.
-    match ready(sftp) {
-        Ok(()) => {
-            let started = plain_paths(alloc).start_remove_file(alloc, sftp.core(), path);
-            finish(sftp, started)
-        }
-        Err(e) => Err(e),
-    }
+    settled(sftp.remove_file(path))
 }
 
 /// Removes an empty directory (draft-ietf-secsh-filexfer-02, section 6.6).
 ///
 /// # Errors
 ///
-/// A `RemoteError` if the server refuses, for example because the directory is not empty, the session fails, an
-/// allocation fails or 18446744073709551615 steps were not enough; the session stays open.
+/// A `RemoteError` if the server refuses, for example because the directory is not empty, the session fails or an
+/// allocation fails; the session stays open.
 pub fn remove_remote_folder<L: Link>(
-    alloc: Global,
+    _alloc: Global,
     sftp: &mut Sftp<L>,
     path: &[u8],
 ) -> Result<(), RemoteError>
     requires { IsGoing L.LinkState.state sftp.old }
-    ensures { RunsCall L.LinkState.state settle_meaning (StartsFrom settle_meaning (rmdir_next path.now) [])
-        sftp.old sftp.new result }
+    ensures { CallsRemote settle_meaning (rmdir_next path.now) L.LinkState.state sftp.old sftp.new result }
 {
-    // No `?`: it converts the error, and the clause is by cases on the result.
-    match ready(sftp) {
-        Ok(()) => {
-            let started = plain_paths(alloc).start_remove_dir(alloc, sftp.core(), path);
-            finish(sftp, started)
-        }
-        Err(e) => Err(e),
-    }
+    settled(sftp.remove_dir(path))
 }
 
 /// Creates a symbolic link at a path (draft-ietf-secsh-filexfer-02, section 6.10, in the order that OpenSSH's server
@@ -160,49 +119,33 @@ pub fn remove_remote_folder<L: Link>(
 ///
 /// # Errors
 ///
-/// A `RemoteError` if the server refuses, the session fails, an allocation fails or 18446744073709551615 steps were not
-/// enough; the session stays open.
+/// A `RemoteError` if the server refuses, the session fails or an allocation fails; the session stays open.
 pub fn make_remote_link<L: Link>(
-    alloc: Global,
+    _alloc: Global,
     sftp: &mut Sftp<L>,
     names: &[u8],
     path: &[u8],
 ) -> Result<(), RemoteError>
     requires { IsGoing L.LinkState.state sftp.old }
-    ensures { RunsCall L.LinkState.state settle_meaning (StartsFrom settle_meaning (symlink_next names.now path.now) []) sftp.old sftp.new result }
+    ensures { CallsRemote settle_meaning (symlink_next names.now path.now) L.LinkState.state sftp.old sftp.new result }
 {
-    // No `?`: it converts the error, and the clause is by cases on the result.
-    match ready(sftp) {
-        Ok(()) => {
-            let started = plain_paths(alloc).start_symlink(alloc, sftp.core(), names, path);
-            finish(sftp, started)
-        }
-        Err(e) => Err(e),
-    }
+    settled(sftp.symlink(names, path))
 }
 
 /// Returns the target of the symbolic link at a path (draft-ietf-secsh-filexfer-02, section 6.10).
 ///
 /// # Errors
 ///
-/// A `RemoteError` if the server refuses, the session fails, an allocation fails or 18446744073709551615 steps were not
-/// enough; the session stays open.
+/// A `RemoteError` if the server refuses, the session fails or an allocation fails; the session stays open.
 pub fn read_remote_link<L: Link>(
-    alloc: Global,
+    _alloc: Global,
     sftp: &mut Sftp<L>,
     path: &[u8],
 ) -> Result<RemotePath, RemoteError>
     requires { IsGoing L.LinkState.state sftp.old }
-    ensures { RunsCall L.LinkState.state name_meaning (StartsFrom name_meaning (read_link_next path.now) []) sftp.old sftp.new result }
+    ensures { CallsRemote name_meaning (read_link_next path.now) L.LinkState.state sftp.old sftp.new result }
 {
-    // No `?`: it converts the error, and the clause is by cases on the result.
-    match ready(sftp) {
-        Ok(()) => {
-            let started = plain_paths(alloc).start_read_link(alloc, sftp.core(), path);
-            finish(sftp, started)
-        }
-        Err(e) => Err(e),
-    }
+    settled(sftp.read_link(path))
 }
 
 /// Returns the metadata that the server reports for a path; a symbolic link is followed (draft-ietf-secsh-filexfer-02,
@@ -210,24 +153,16 @@ pub fn read_remote_link<L: Link>(
 ///
 /// # Errors
 ///
-/// A `RemoteError` if the server refuses, the session fails, an allocation fails or 18446744073709551615 steps were not
-/// enough; the session stays open.
+/// A `RemoteError` if the server refuses, the session fails or an allocation fails; the session stays open.
 pub fn remote_metadata<L: Link>(
-    alloc: Global,
+    _alloc: Global,
     sftp: &mut Sftp<L>,
     path: &[u8],
 ) -> Result<MetaData, RemoteError>
     requires { IsGoing L.LinkState.state sftp.old }
-    ensures { RunsCall L.LinkState.state attrs_meaning (StartsFrom attrs_meaning (stat_next path.now) []) sftp.old sftp.new result }
+    ensures { CallsRemote attrs_meaning (stat_next path.now) L.LinkState.state sftp.old sftp.new result }
 {
-    // No `?`: it converts the error, and the clause is by cases on the result.
-    match ready(sftp) {
-        Ok(()) => {
-            let started = plain_paths(alloc).start_metadata(alloc, sftp.core(), path);
-            finish(sftp, started)
-        }
-        Err(e) => Err(e),
-    }
+    settled(sftp.metadata(path))
 }
 
 /// Returns the metadata that the server reports for a path; a symbolic link is not followed, and its own metadata is
@@ -235,49 +170,31 @@ pub fn remote_metadata<L: Link>(
 ///
 /// # Errors
 ///
-/// A `RemoteError` if the server refuses, the session fails, an allocation fails or 18446744073709551615 steps were not
-/// enough; the session stays open.
+/// A `RemoteError` if the server refuses, the session fails or an allocation fails; the session stays open.
 pub fn remote_link_metadata<L: Link>(
-    alloc: Global,
+    _alloc: Global,
     sftp: &mut Sftp<L>,
     path: &[u8],
 ) -> Result<MetaData, RemoteError>
     requires { IsGoing L.LinkState.state sftp.old }
-    ensures { RunsCall L.LinkState.state attrs_meaning (StartsFrom attrs_meaning (lstat_next path.now) [])
-        sftp.old sftp.new result }
+    ensures { CallsRemote attrs_meaning (lstat_next path.now) L.LinkState.state sftp.old sftp.new result }
 {
-    // No `?`: it converts the error, and the clause is by cases on the result.
-    match ready(sftp) {
-        Ok(()) => {
-            let started = plain_paths(alloc).start_symlink_metadata(alloc, sftp.core(), path);
-            finish(sftp, started)
-        }
-        Err(e) => Err(e),
-    }
+    settled(sftp.symlink_metadata(path))
 }
 
 /// Sets the attributes that are given (draft-ietf-secsh-filexfer-02, section 6.9).
 ///
 /// # Errors
 ///
-/// A `RemoteError` if the server refuses, the session fails, an allocation fails or 18446744073709551615 steps were not
-/// enough; the session stays open.
+/// A `RemoteError` if the server refuses, the session fails or an allocation fails; the session stays open.
 pub fn set_remote_attrs<L: Link>(
-    alloc: Global,
+    _alloc: Global,
     sftp: &mut Sftp<L>,
     path: &[u8],
     attrs: FileAttrs,
 ) -> Result<(), RemoteError>
     requires { IsGoing L.LinkState.state sftp.old }
-    ensures { RunsCall L.LinkState.state settle_meaning (StartsFrom settle_meaning (set_attrs_next path.now attrs) []) sftp.old sftp.new result }
+    ensures { CallsRemote settle_meaning (set_attrs_next path.now attrs) L.LinkState.state sftp.old sftp.new result }
 {
-    // No `?`: it converts the error, and the clause is by cases on the result.
-    match ready(sftp) {
-        Ok(()) => {
-            let metadata = MetaData::new(attrs);
-            let started = plain_paths(alloc).start_set_metadata(alloc, sftp.core(), path, metadata);
-            finish(sftp, started)
-        }
-        Err(e) => Err(e),
-    }
+    settled(sftp.set_metadata(path, MetaData::new(attrs)))
 }

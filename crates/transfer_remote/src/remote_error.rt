@@ -1,9 +1,11 @@
 //! The failure of a call.
+ghost use Rattle.std.specs.Prelude.{◌≡◌};
+
 use sftp_model::Error;
 
 /// The reason why a call failed.
 ///
-/// Used in `crates/transfer_remote/src/asks.rt`.
+/// Used in `crates/transfer_remote/src/paths.rt`.
 #[derive(Drop)]
 pub enum RemoteError {
     /// The server refused a request, or the session failed.
@@ -17,6 +19,10 @@ pub enum RemoteError {
 }
 
 impl From<Error> for RemoteError {
+    ghost use Rattle.transfer_remote.specs.Failures.{remote_of};
+
+    ghost from_gives = { λ e given. given ≡ remote_of e };
+
     fn from(e: Error) -> RemoteError {
         match e {
             Error::OutOfMemory => RemoteError::OutOfMemory,
