@@ -120,6 +120,8 @@ HEADLINES = [
     ("`sftp_serve`", "sftp_serve", "Logs", "ServesStream"),
     ("`sftp_transfer`, its exit status", "sftp_transfer", "Ended", "ProgramEnds"),
     ("`copy_all`, which copies the files of `sftp_transfer`", "transfer_pool", "Told", "CopiesAll"),
+    ("`make_plan`, the plan of `push` and `pull`", "transfer_sync", "Theorems", "IsSync"),
+    ("`run_plan`, the run of such a plan", "transfer_sync", "Runs", "RunsPlan"),
     ("`run_lanes`", "sftp_lanes", "Reported", "IsReport"),
     ("`run_shared`", "session_threads", "Reports", "RunsShared"),
     ("`Sftp::finish`", "sftp_client", "Waits", "HasFinished"),

@@ -4,7 +4,7 @@ mod TextLaws
 mod WalkLaws
 mod ActLaws
 mod ApartLaws
-mod DoneLaws
+pub mod DoneLaws
 mod JobPathLaws
 mod LinkLaws
 mod StemLaws

@@ -1,3 +1,4 @@
+-- believed, except has_path, task_among, has_twins, has_part, FilesAreApart
 -- The files that are copied to paths of their own.
 use Rattle.std.specs.Prelude.{◌≡◌, ◌&&◌, ◌||◌, ℕ, Bool, false, not, List, [], ◌∷◌, ◌++◌, if◌then◌else◌}
 use Rattle.std.specs.List.{list_any}

@@ -1,3 +1,4 @@
+-- believed: MAX_STEM_LEN, continues_character, from_character, stem_of, dotted, part_of
 -- The places at which a path is cut, and the names of part files.
 use Rattle.std.specs.Prelude.{
   ◌≡◌,

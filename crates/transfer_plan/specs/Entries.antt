@@ -1,3 +1,4 @@
+-- believed: root_found
 -- The task for an entry of a directory.
 use Rattle.std.specs.Prelude.{◌+◌, ◌&&◌, ℕ, Bool, not, List, nat_lt, if◌then◌else◌}
 use Rattle.std.specs.Str.{is_utf8}

@@ -1,3 +1,4 @@
+-- believed, except WorksOne, MayWorkOne, all_work, AreAllDone
 -- The jobs of a transfer, one after another.
 use Rattle.std.specs.Prelude.{
   ◌≡◌,

@@ -12,7 +12,8 @@ use std::alloc::Global;
 /// A group of jobs that are done together.
 #[derive(Clone, Copy, Debug, PartialEq, Eq)]
 pub(crate) enum TaskKind {
-    /// Creates directories. Skipped and refused entries are reported here too.
+    /// Creates directories, removes entries and sets permissions and times. Skipped and refused entries are reported
+    /// here too.
     Folders,
     /// Reports the result of each file.
     Files,
@@ -165,7 +166,7 @@ fn keep_where<H: Hand>(
 
 /// Does all jobs in this order:
 ///
-/// 1. Directories are created in their order.
+/// 1. Directories are created, entries are removed, and permissions and times are set, in their order.
 /// 2. Files are copied, many at once, and the result of each is reported in their order.
 /// 3. Symbolic links are created, after the files, so none of them is followed.
 /// 4. With `keeps`, directories are given their permissions and times, the last one first.

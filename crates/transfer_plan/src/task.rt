@@ -35,6 +35,12 @@ pub enum Task {
     MakeFolder,
     /// Creates a symbolic link with the same target as the one that was found.
     CopyLink,
+    /// Removes a file, a symbolic link or anything else that is no directory. No walk finds this task.
+    RemoveFile,
+    /// Removes a directory, which is empty by then. No walk finds this task.
+    RemoveFolder,
+    /// Gives an entry that exists permissions and times. No walk finds this task.
+    SetAttributes,
     /// Skips the entry, since it is no file, no directory and no symbolic link.
     PassOver,
     /// Refuses the entry: its name is no component, and could lead out of the target, or it has more than 255 bytes,

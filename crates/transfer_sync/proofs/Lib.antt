@@ -15,3 +15,5 @@ pub mod MirrorLaws
 pub mod UpToDateLaws
 pub mod InsideLaws
 pub mod SyncLaws
+pub mod JobLaws
+pub mod RunLaws

@@ -1,3 +1,4 @@
+-- believed
 -- The entries that a walk found.
 use Rattle.std.specs.Prelude.{
   ◌&&◌,

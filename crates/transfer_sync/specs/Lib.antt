@@ -9,4 +9,6 @@ pub mod Sweeps
 pub mod Plans
 pub mod Trees
 pub mod Theorems
+pub mod Jobs
+pub mod Runs
 pub mod PlanRows

@@ -1,3 +1,4 @@
+-- believed
 -- Paths below a root, and sets of them. The empty path is the root.
 use Rattle.std.specs.Prelude.{◌||◌, ◌==◌, ℕ, Bool, false, List, [], ◌∷◌, if◌then◌else◌}
 use Rattle.std.specs.List.{list_any}

@@ -1,5 +1,6 @@
 -- Worked plans.
 use Rattle.std.specs.Prelude.{◌≡◌, ℕ, Bool, true, false, List, [], ◌∷◌, Some, None, codes, refl}
+use Rattle.sftp_model.specs.Frames.{no_attributes}
 use Rattle.transfer_plan.specs.Names.{is_component}
 use Rattle.transfer_sync.specs.Actions.{actions_of}
 use Rattle.transfer_sync.specs.Listings.{is_listing, name_in_directory}
@@ -18,31 +19,32 @@ use Rattle.transfer_sync.specs.declared.action.Step.TheVariants.{
   SetAttributes,
 }
 use Rattle.transfer_sync.specs.declared.entry.Entry.{Entry}
+use Rattle.transfer_sync.specs.declared.entry.Kind.{Kind}
 use Rattle.transfer_sync.specs.declared.entry.Kind.TheVariants.{File, Directory, Link}
 use Rattle.transfer_sync.specs.declared.rules.Changed.{Changed}
 use Rattle.transfer_sync.specs.declared.rules.Changed.TheVariants.{SizeOrTime, Size, Always}
 use Rattle.transfer_sync.specs.declared.rules.Rules.{Rules}
 
+-- An entry that is not excluded.
+abbrev entry_at : List ℕ → Kind → Entry
+entry_at path kind =
+    record { path = path; kind = kind; excluded = false; depth = 1; attrs = no_attributes }
+
 -- A file of a length and a time.
 abbrev file : List ℕ → ℕ → ℕ → Entry
-file path len time =
-    record {
-      path = path;
-      kind = File (record { len = len; modified = Some time; mode = None });
-      excluded = false;
-    }
+file path len time = entry_at path (File (record { len = len; modified = Some time; mode = None }))
 
 -- A directory.
 abbrev directory : List ℕ → Entry
-directory path = record { path = path; kind = Directory None; excluded = false }
+directory path = entry_at path (Directory None)
 
 -- A directory with permissions.
 abbrev directory_with : List ℕ → ℕ → Entry
-directory_with path mode = record { path = path; kind = Directory (Some mode); excluded = false }
+directory_with path mode = entry_at path (Directory (Some mode))
 
 -- A symbolic link.
 abbrev link : List ℕ → List ℕ → Entry
-link path text = record { path = path; kind = Link text; excluded = false }
+link path text = entry_at path (Link text)
 
 -- The entry, excluded.
 abbrev excluded_entry : Entry → Entry

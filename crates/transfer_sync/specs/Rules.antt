@@ -1,3 +1,4 @@
+-- believed
 -- The options of a synchronization.
 use Rattle.std.specs.Prelude.{◌==◌, ◌&&◌, ◌||◌, ℕ, Bool, true, false, not, nat_lt, Option, Some, None}
 use Rattle.transfer_sync.specs.declared.entry.FileFacts.{FileFacts}

@@ -1,3 +1,4 @@
+-- believed
 -- What is promised of a plan.
 use Rattle.std.specs.Prelude.{
   ◌≡◌,

@@ -1,3 +1,4 @@
+-- believed
 -- Trees of files, and how actions change them.
 use Rattle.std.specs.Prelude.{
   ◌≡◌,

@@ -1,3 +1,4 @@
+-- believed
 -- Which entries of the target are removed, and for which entries of the source nothing is done.
 use Rattle.std.specs.Prelude.{◌&&◌, ◌||◌, ℕ, Bool, false, not, List, [], ◌∷◌, ◌++◌, Option, Some, None, if◌then◌else◌}
 use Rattle.std.specs.Str.{bytes_eq}

@@ -1,4 +1,5 @@
 //! An entry that a walk found.
+use sftp_model::FileAttrs;
 use sftp_values::ByteText;
 
 /// The length, time and permissions of a file.
@@ -40,4 +41,8 @@ pub struct Entry {
     pub kind: Kind,
     /// True if the filters exclude the entry. The entries of an excluded directory are not listed.
     pub excluded: bool,
+    /// The number of components of the path.
+    pub depth: u32,
+    /// The file attributes that the walk found. No plan depends on them: a copy of the entry is given them.
+    pub attrs: FileAttrs,
 }
