@@ -123,6 +123,12 @@ refuse "unknown option '--delete'" sftp_transfer unix:s put --delete a b
 refuse "'push' needs a source and a target" sftp_transfer unix:s push a
 refuse "'pull' takes no argument 'c' after its target" sftp_transfer unix:s pull a b c
 refuse "the number of '--delete-at-most' is from 0 to 1000000, not '-1'" sftp_transfer unix:s push --delete-at-most=-1 a b
+refuse "the number of '--again' is from 0 to 1000, not '1001'" sftp_transfer unix:s push --again 1001 a b
+refuse "the number of '--rate' is from 0 to 1073741824, not '2T'" sftp_transfer unix:s get --rate=2T a b
+refuse "the value of '--shard' is I/N, from 1/1 to 65536/65536, not '3/2'" sftp_transfer unix:s pull --shard 3/2 a b
+refuse "'--delete' can't be used with '--shard', since each run copies a share of the files alone" sftp_transfer unix:s \
+    push --delete --shard 1/2 a b
+refuse "unknown option '--again'" sftp_transfer unix:s get --again 3 a b
 pattern="it needs a name, and '[', '\\' and '***' have no meaning here"
 refuse "the pattern of '--exclude' can't be used: '[a]' ($pattern)" sftp_transfer unix:s push --exclude '[a]' a b
 refuse "the pattern of '--include' can't be used: '/' ($pattern)" sftp_transfer unix:s pull --include=/ a b

@@ -122,6 +122,37 @@ for way in push pull; do
     [ $status -eq 0 ] && equal "$from/s" "$to/t"
     tell "$way: another kind of entry is replaced" $?
 
+    # shares of the files: each file is in one of them, and a run of a share leaves the others as they are
+    rm -rf "$to/shares"
+    for share in 1 2 3; do
+        run socket $way --shard $share/3 "$from/s" "$to/shares"
+        [ $status -eq 0 ] || break
+        (cd "$to/shares" && find . -type f -o -type l) >"$room/share.$share"
+    done
+    [ $status -eq 0 ] && equal "$from/s" "$to/shares" && [ "$(wc -l <"$room/share.1")" -lt "$(wc -l <"$room/share.3")" ]
+    tell "$way: three shares are the whole" $?
+    rm -rf "$to/shares"
+    run socket $way --shard 2/3 "$from/s" "$to/shares"
+    (cd "$from/s" && find . -type f -o -type l) | python3 -c "
+import hashlib, sys
+for line in sys.stdin:
+    path = line.strip()[2:]
+    if int.from_bytes(hashlib.sha256(path.encode()).digest()[:4], 'big') % 3 == 1:
+        print('./' + path)" | sort >"$room/want"
+    (cd "$to/shares" && find . -type f -o -type l) | sort | cmp -s - "$room/want"
+    tell "$way: the files of a share" $?
+    run socket $way --delete --shard 2/3 "$from/s" "$to/shares"
+    [ $status -eq 2 ] && grep -q "'--delete' can't be used with '--shard'" "$room/err"
+    tell "$way: a share removes nothing" $?
+
+    # a rate: 300,000 bytes at 200,000 a second
+    rm -rf "$to/slow"
+    began=$(date +%s%N)
+    run socket $way --rate 200000 "$from/s" "$to/slow"
+    took=$((($(date +%s%N) - began) / 1000000))
+    [ $status -eq 0 ] && equal "$from/s" "$to/slow" && [ $took -ge 1300 ]
+    tell "$way: a rate ($took ms)" $?
+
     # patterns
     mkdir -p "$from/s/.git/objects" "$from/s/docs/.git"
     echo x >"$from/s/.git/objects/x"
@@ -225,6 +256,23 @@ tell 'push: a server that ends' $?
 run silent push -n "$room/near/s" "$room/far/t" --timeout 1
 [ $status -eq 7 ] && [ -s "$room/err" ]
 tell 'push: a silent server' $?
+
+# ---- a connection that is lost again and again: what was done is left out, and what was begun continues
+
+mkdir -p "$room/near/again"
+for each in 1 2 3 4 5 6; do
+    head -c 10000 /dev/urandom >"$room/near/again/$each"
+done
+run ends push --again 5 --files 1 "$room/near/again" "$room/far/again"
+[ $status -eq 0 ] && equal "$room/near/again" "$room/far/again" && grep -q 'trying again in 1 s' "$room/err" &&
+    ! find "$room/far/again" -name '.*.part' | grep -q .
+tell 'push: another try' $?
+run silent push --again 1 --timeout 1 "$room/near/again" "$room/far/again"
+[ $status -eq 7 ] && [ "$(grep -c 'trying again in' "$room/err")" -eq 1 ]
+tell 'push: no further try' $?
+run missing pull --again 2 "$room/far/again" "$room/near/twice"
+[ $status -eq 6 ] && [ "$(grep -c 'trying again in' "$room/err")" -eq 2 ]
+tell 'pull: nothing answers' $?
 
 # ---- trees that change at random
 

@@ -240,6 +240,24 @@ tell 'the front, permissions' $?
 front pull "t:$room/far/www/releases/1" "$room/pulled"
 [ $status -eq 0 ] && diff -r "$room/near/sub" "$room/pulled"
 tell 'the front, a local directory that is made like another' $?
+mkdir "$room/near/slow"
+for each in 1 2 3 4; do
+    head -c 100000 /dev/urandom >"$room/near/slow/$each"
+done
+(
+    waits=0
+    while ! find "$room/far/www/slow" -name '.*.part' 2>/dev/null | grep -q . && [ $waits -lt 200 ]; do
+        sleep 0.05
+        waits=$((waits + 1))
+    done
+    pkill -f "^ssh.*-fNM -S .*tilfrjon.*-- t$"
+) &
+front push --again 5 --rate 100000 --files 1 "$room/near/slow" "t:$room/far/www/slow"
+[ $status -eq 0 ] && diff -r "$room/near/slow" "$room/far/www/slow" && grep -q 'trying again in 1 s' "$room/err"
+tell 'the front, a connection that is lost' $?
+front push --again x "$room/near/slow" "t:$room/far/www/slow"
+[ $status -eq 2 ] && grep -q "the number of '--again' is from 0 to 1000" "$room/err"
+tell 'the front, a number of tries that is none' $?
 front remove -r "t:$room/far/www"
 [ $status -eq 0 ] && ! [ -e "$room/far/www" ]
 tell 'the front, a tree that is removed' $?

@@ -2,14 +2,14 @@
 
 _tilfrjon() {
     local word=$2 before=$3 verb='' each
-    local copy='-p -q --resume --verify --sync --progress --links --files --window --in-flight --timeout'
-    local mirror='-n --dry-run --delete --delete-at-most --exclude --include --exclude-from --size-only --always --update'
+    local copy='-p -q --resume --verify --sync --progress --links --files --window --in-flight --rate --timeout'
+    local mirror='-n --dry-run --delete --delete-at-most --exclude --include --exclude-from --size-only --always --update --again --shard'
     for each in "${COMP_WORDS[@]:1:COMP_CWORD-1}"; do
         case $each in get | put | pull | push | list | remove | mkdir | chmod | move | link) verb=$each && break ;; esac
     done
     case $before in
     --links) COMPREPLY=($(compgen -W as-is -- "$word")) && return ;;
-    --files | --window | --in-flight | --limit | --timeout | --delete-at-most | --exclude | --include) return ;;
+    --files | --window | --in-flight | --limit | --rate | --timeout | --delete-at-most | --exclude | --include | --again | --shard) return ;;
     esac
     case $verb:$word in
     :-*) COMPREPLY=($(compgen -W '--help --version' -- "$word")) ;;

@@ -1,1 +1,2 @@
 mod WindowLaws
+pub mod GoLaws

@@ -21,7 +21,7 @@ use transfer_plan::{Found, Hand, JobVerdict, Tally, Task, leads_out, part_path};
 use transfer_pool::{CopyError, copy_all};
 use transfer_remote::{
     RemoteError, make_remote_folder, make_remote_link, read_remote_link, remote_link_metadata,
-    remote_metadata, remove_remote, rename_remote, set_remote_attrs,
+    remote_metadata, remove_remote, remove_remote_folder, rename_remote, set_remote_attrs,
 };
 
 /// The status of a request that failed for a reason that no other status says (draft-ietf-secsh-filexfer-02, section
@@ -56,6 +56,14 @@ fn is_failure(done: &Result<(), RemoteError>) -> bool {
     match done {
         Err(RemoteError::Remote(Error::SftpError { code, .. })) => *code == FAILURE,
         _ => false,
+    }
+}
+
+/// Returns the path that a message on a job names: that of the entry which is changed, or that of the source.
+fn at_fault(found: &Found) -> &[u8] {
+    match found.task {
+        Task::RemoveFile | Task::RemoveFolder | Task::SetAttributes => found.target.as_slice(),
+        _ => found.source.as_slice(),
     }
 }
 
@@ -352,11 +360,7 @@ impl<'a, L: Link> Courier<'a, L> {
     }
 
     /// Gives an entry of the target the permissions and times of the one that it was copied from.
-    pub(crate) fn keep_attrs(
-        &mut self,
-        target: &[u8],
-        attrs: &FileAttrs,
-    ) -> Result<(), TransferError>
+    fn keep_attrs(&mut self, target: &[u8], attrs: &FileAttrs) -> Result<(), TransferError>
         requires { IsGoing L.LinkState.state self.old.sftp }
         ensures { IsGoing L.LinkState.state self.new.sftp }
     {
@@ -376,20 +380,40 @@ impl<'a, L: Link> Courier<'a, L> {
         }
     }
 
+    /// Removes an entry of the target, an empty directory or anything else, and counts it.
+    fn remove_entry(&mut self, path: &[u8], is_directory: bool) -> Result<(), TransferError>
+        requires { IsGoing L.LinkState.state self.old.sftp }
+        ensures { IsGoing L.LinkState.state self.new.sftp }
+    {
+        let alloc = self.rt.alloc();
+        match (self.manner.way, is_directory) {
+            (Direction::Get, false) => fs::remove_file(self.rt, text_of(path)?)?,
+            (Direction::Get, true) => fs::remove_dir(self.rt, text_of(path)?)?,
+            (Direction::Put, false) => remove_remote(alloc, &mut self.sftp, path)?,
+            (Direction::Put, true) => remove_remote_folder(alloc, &mut self.sftp, path)?,
+        }
+        self.totals.removed = self.totals.removed.saturating_add(1);
+        Ok(())
+    }
+
     /// Does a job by its task, except the copy of a file.
     fn do_task(&mut self, found: &Found) -> Result<(), TransferError>
         requires { IsGoing L.LinkState.state self.old.sftp }
         ensures { IsGoing L.LinkState.state self.new.sftp }
     {
+        let target = found.target.as_slice();
         match found.task {
             Task::MakeFolder => self.make_folder(found),
             Task::CopyLink => self.copy_link(found),
+            Task::RemoveFile => self.remove_entry(target, false),
+            Task::RemoveFolder => self.remove_entry(target, true),
+            Task::SetAttributes => self.keep_attrs(target, &found.attrs),
             _ => Err(TransferError::Refused(refusal_of(found))),
         }
     }
 
     /// Returns the verdict on a job, and reports the reason if it was not done.
-    pub(crate) fn verdict_of(&mut self, path: &[u8], done: Result<(), TransferError>) -> JobVerdict
+    fn verdict_of(&mut self, path: &[u8], done: Result<(), TransferError>) -> JobVerdict
         ensures { self.new.sftp ≡ self.old.sftp }
     {
         let Err(reason) = done else {
@@ -438,8 +462,10 @@ impl<'a, L: Link> Hand for Courier<'a, L> {
     ghost may = { λ courier. IsGoing L.LinkState.state courier.sftp };
 
     fn copy(&mut self, jobs: &[Found], run: &[u8], tally: &Tally) {
-        self.tell_unsynced();
-        self.copy_files(jobs, run, tally);
+        if jobs.iter().any(|found| found.task == Task::CopyFile) {
+            self.tell_unsynced();
+            self.copy_files(jobs, run, tally);
+        }
     }
 
     fn work(&mut self, job: usize, found: &Found) -> JobVerdict {
@@ -447,12 +473,12 @@ impl<'a, L: Link> Hand for Courier<'a, L> {
             return self.verdicts.of(job);
         }
         let done = self.do_task(found);
-        self.verdict_of(found.source.as_slice(), done)
+        self.verdict_of(at_fault(found), done)
     }
 
     fn keep(&mut self, found: &Found) -> JobVerdict {
         let done = self.keep_attrs(found.target.as_slice(), &found.attrs);
-        self.verdict_of(found.source.as_slice(), done)
+        self.verdict_of(found.target.as_slice(), done)
     }
 
     fn skip(&mut self, found: &Found) {

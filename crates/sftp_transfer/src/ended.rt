@@ -1,6 +1,6 @@
 //! The result of a run, and its exit status.
-ghost use Rattle.std.specs.Prelude.{◌≡◌};
-ghost use Rattle.sftp_transfer.specs.Ended.{ended_by, status_of, text_of};
+ghost use Rattle.std.specs.Prelude.{◌≡◌, ◌≤◌};
+ghost use Rattle.sftp_transfer.specs.Ended.{ended_by, may_try_again, next_pause, status_of, text_of};
 ghost use Rattle.std.specs.Prelude.{map};
 ghost use Rattle.std.specs.String.{string_bytes};
 
@@ -58,6 +58,25 @@ pub(crate) fn status_of(reach: Reach) -> u8
         Reach::NoLink => 6,
         Reach::NoOutput => LOCAL,
     }
+}
+
+/// Returns true if another try may succeed: the connection was lost, or no server could be reached.
+pub(crate) fn may_try_again(reach: Reach) -> bool
+    ensures { result ≡ may_try_again reach }
+{
+    match reach {
+        Reach::Lost | Reach::NoLink => true,
+        Reach::Done | Reach::NotDone | Reach::OutOfMemory | Reach::NoOutput => false,
+    }
+}
+
+/// Returns the seconds of the pause after one of `seconds` seconds, at most 60.
+pub(crate) fn next_pause(seconds: u32) -> u32
+    requires { seconds ≤ 60 }
+    ensures is { result ≡ next_pause seconds }
+    ensures most { result ≤ 60 }
+{
+    if seconds <= 30 { seconds * 2 } else { 60 }
 }
 
 /// Returns the result of the jobs, where `starved` is true if an allocation failed, `lost` if the connection was lost,

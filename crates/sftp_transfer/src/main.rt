@@ -18,6 +18,7 @@ mod printable;
 mod resume;
 mod run;
 mod run_number;
+mod slowed;
 mod sources;
 mod system;
 mod terminal;
@@ -26,6 +27,7 @@ mod transfer_error;
 mod tree;
 mod verdicts;
 mod verify;
+mod walks;
 mod window;
 mod work;
 

@@ -1,10 +1,12 @@
 //! Everything that the program does.
 ghost use Rattle.std.specs.Prelude.{◌≡◌, map};
 ghost use Rattle.std.specs.String.{string_bytes};
-ghost use Rattle.transfer_args.specs.Words.{asked_seen, work_seen};
-ghost use Rattle.sftp_transfer.specs.Ended.{EndsAsked, ProgramEnds, Looked, OutsideAct, Refused, Went, Wrote};
+ghost use Rattle.transfer_args.specs.Words.{asked_seen, tries_again, work_seen};
+ghost use Rattle.sftp_transfer.specs.Ended.{EndsAsked, TriesLink, Looked, OutsideAct, Paused, ProgramEnds, Refused, Went, Wrote};
 
-use crate::ended::{LOCAL, OUT_OF_MEMORY, Reach, Text, WORDS, status_of, text_of};
+use crate::ended::{
+    LOCAL, OUT_OF_MEMORY, Reach, Text, WORDS, may_try_again, next_pause, status_of, text_of,
+};
 use std::alloc::Global;
 use transfer_args::{ArgsError, Asked, Work, read_words};
 
@@ -36,6 +38,29 @@ pub trait Outside {
     /// Does the requested work over the requested link.
     fn go(&mut self, asked: &Asked<'_>) -> Reach
         ensures { Self.history self.new ≡ Self.done (Went (asked_seen asked.now) result) (Self.history self.old) };
+
+    /// Reports that another try follows, and waits for this number of seconds.
+    fn pause(&mut self, seconds: u32)
+        ensures { Self.history self.new ≡ Self.done (Paused seconds) (Self.history self.old) };
+}
+
+/// Does the requested work over the requested link, and does it again after a pause if the connection was lost, as
+/// often as is asked for. The first pause is a second, and each other one is twice as long, up to a minute.
+fn go_on<O: Outside>(outside: &mut O, asked: &Asked<'_>) -> Reach
+    ensures { TriesLink O.done (asked_seen asked.now) (tries_again (work_seen asked.now.work)) 1 result (O.history outside.old) (O.history outside.new) }
+{
+    let mut left = asked.work.tries_again();
+    let mut pause = 1;
+    while left > 0 {
+        let reach = outside.go(asked);
+        if !may_try_again(reach) {
+            return reach;
+        }
+        outside.pause(pause);
+        pause = next_pause(pause);
+        left -= 1;
+    }
+    outside.go(asked)
 }
 
 /// Does the requested work, and returns the exit status.
@@ -45,7 +70,7 @@ fn run_asked<O: Outside>(outside: &mut O, asked: &Asked<'_>) -> u8
     if !outside.look(&asked.work) {
         return LOCAL;
     }
-    status_of(outside.go(asked))
+    status_of(go_on(outside, asked))
 }
 
 /// Runs the program with these arguments, and returns the exit status:

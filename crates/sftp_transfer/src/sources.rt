@@ -3,9 +3,9 @@ ghost use Rattle.std.specs.Prelude.{◌≡◌};
 ghost use Rattle.transfer_pool.specs.Sessions.{IsGoing};
 
 use crate::courier::Courier;
-use crate::local_side::{attrs_of, kind_of, list_local};
+use crate::local_side::{attrs_of, kind_of};
 use crate::transfer_error::{TransferError, is_starved, tell_of};
-use crate::tree::{Side, Untouched, path_below};
+use crate::tree::{Side, Untouched};
 use sftp_link::Link;
 use sftp_meta::FileType;
 use sftp_model::FileAttrs;
@@ -13,9 +13,9 @@ use sftp_values::ByteText;
 use std::alloc::Global;
 use std::fs;
 use transfer_args::Direction;
-use transfer_filter::Filter;
-use transfer_plan::{EntryKind, Found, MAX_ENTRIES, Task, Walk, last_component, path_in};
-use transfer_remote::{list_remote, remote_metadata};
+use transfer_filter::{Filter, Shard};
+use transfer_plan::{EntryKind, Found, Task, Walk, last_component, path_in};
+use transfer_remote::remote_metadata;
 
 /// The jobs of a transfer, and a flag that is true if each source contributed all of its own.
 #[derive(Drop)]
@@ -94,60 +94,6 @@ impl<'a, L: Link> Courier<'a, L> {
         }
     }
 
-    /// Adds the entries of the walk's current directory. An entry that can't be listed is reported, and the walk isn't
-    /// complete then. Fails only if the walk can't continue.
-    fn list_folder(
-        &mut self,
-        side: Side,
-        walk: &mut Walk,
-        complete: &mut bool,
-    ) -> Result<(), TransferError>
-        requires { IsGoing L.LinkState.state self.old.sftp }
-        ensures { IsGoing L.LinkState.state self.new.sftp }
-    {
-        let listed = match side {
-            Side::There => match list_remote(self.rt.alloc(), &mut self.sftp, walk) {
-                Ok(()) => Ok(()),
-                Err(e) => Err(e.into()),
-            },
-            Side::Here => list_local(self.rt, walk, complete),
-        };
-        let Err(reason) = listed else {
-            return Ok(());
-        };
-        if ends_walk(&reason) || self.sftp.core().fault().is_some() {
-            return Err(reason);
-        }
-        *complete = false;
-        tell_of(self.rt, walk.folder().source.as_slice(), &reason);
-        Ok(())
-    }
-
-    /// Finds everything in the root of a walk, each directory before its contents. The directories that are untouched
-    /// are found, and nothing in them.
-    pub(crate) fn walk_tree(
-        &mut self,
-        side: Side,
-        walk: Walk,
-        untouched: &mut Untouched<'_>,
-        complete: &mut bool,
-    ) -> Result<Vec<Found>, TransferError>
-        requires { IsGoing L.LinkState.state self.old.sftp }
-        ensures { IsGoing L.LinkState.state self.new.sftp }
-    {
-        let mut walk = walk;
-        let root_len = path_in(self.rt.alloc(), walk.folder().source.as_slice(), b"")?.len();
-        for _ in 0..MAX_ENTRIES {
-            if !untouched.has(path_below(walk.folder(), root_len), true) {
-                self.list_folder(side, &mut walk, complete)?;
-            }
-            if !walk.go_on() {
-                break;
-            }
-        }
-        Ok(walk.into_found())
-    }
-
     /// Adds the jobs of a source.
     fn gather_source(
         &mut self,
@@ -178,7 +124,8 @@ impl<'a, L: Link> Courier<'a, L> {
                 let walk = Walk::new(alloc, path.as_bytes(), &target, source.attrs, texts)?;
                 let side = Side::source_of(self.manner.way);
                 let mut filter = Filter::new(alloc);
-                let mut all = Untouched::by(&mut filter);
+                let whole = Shard { index: 1, count: 1 };
+                let mut all = Untouched::by(&mut filter, whole);
                 let tree = self.walk_tree(side, walk, &mut all, &mut gathered.complete)?;
                 for found in tree {
                     add_job(&mut gathered.jobs, found)?;

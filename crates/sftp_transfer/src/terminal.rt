@@ -7,9 +7,9 @@ use crate::texts::written;
 use crate::work::{can_begin, over};
 use link_duplex::release_stdio;
 use ssh_channel::OpenError;
-use std::env;
 use std::io::{self, ErrorKind};
 use std::time::Duration;
+use std::{env, thread};
 use transfer_args::{ArgsError, Asked, LinkAt, Misfit, Work, misfit_of};
 
 /// The advice if a server that is reached over TCP does not answer as an SFTP server.
@@ -128,5 +128,10 @@ impl<'a> Outside for Terminal<'a> {
                 reach
             }
         }
+    }
+
+    fn pause(&mut self, seconds: u32) {
+        let _ = eprintln!(self.rt; "sftp_transfer: trying again in {seconds} s");
+        let _ = thread::sleep(self.rt, Duration::from_secs(u64::from(seconds)));
     }
 }

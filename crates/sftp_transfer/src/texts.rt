@@ -43,6 +43,7 @@ Options of get, put, pull and push:
   --window N   keep N requests in flight for each file, 1 to 1024; the default is 64
   --in-flight N  keep at most N bytes in flight for all files together, such as 64M; the
                default is 16M (also called --limit)
+  --rate N     let at most N bytes pass over the connection in a second, such as 2M
   --sync       write files and their directories through to the disk
   --timeout N  give up after N seconds without any progress, 0 to 86400; the default is 60,
                and 0 is no limit
@@ -58,6 +59,8 @@ Options of pull and push:
   --size-only  copy files only if their sizes differ
   --always     copy every file
   --update     copy no file over one that is as new or newer
+  --again N    if the connection is lost, try again up to N times, and continue
+  --shard I/N  copy share I of N of the files; N runs share the work
   -n, --dry-run  write what would be done, and do nothing
 
 remove -r removes directories with everything in them. mkdir -p creates the directories above,

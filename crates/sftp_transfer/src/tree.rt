@@ -11,7 +11,7 @@ use sftp_values::ByteText;
 use std::alloc::Global;
 use std::fs;
 use transfer_args::Direction;
-use transfer_filter::Filter;
+use transfer_filter::{Filter, Shard};
 use transfer_plan::{Found, Task, Walk, last_component, leads_out, path_in};
 use transfer_remote::read_remote_link;
 use transfer_sync::{Entry, FileFacts, Kind, Listing, ListingError};
@@ -51,22 +51,27 @@ pub(crate) struct Untouched<'a> {
     source: Option<&'a Listing>,
     /// True if part files of earlier runs stay, to be continued.
     parts: bool,
+    /// The share of the files that is copied.
+    shard: Shard,
 }
 
 impl<'a> Untouched<'a> {
-    /// Returns the entries that a filter leaves out.
-    pub(crate) fn by(filter: &'a mut Filter) -> Untouched<'a> {
+    /// Returns the entries that a filter leaves out, and the files that are not in a share.
+    pub(crate) fn by(filter: &'a mut Filter, shard: Shard) -> Untouched<'a> {
         Untouched {
             filter,
             source: None,
             parts: false,
+            shard,
         }
     }
 
     /// Returns the entries of a target that stay as they are, whatever is removed: those that the filter leaves out,
-    /// those that are passed over in the source, and with `parts` the part files that the source doesn't have.
+    /// the files that are not in the share, those that are passed over in the source, and with `parts` the part files
+    /// that the source doesn't have.
     pub(crate) fn in_target(
         filter: &'a mut Filter,
+        shard: Shard,
         source: &'a Listing,
         parts: bool,
     ) -> Untouched<'a> {
@@ -74,7 +79,13 @@ impl<'a> Untouched<'a> {
             filter,
             source: Some(source),
             parts,
+            shard,
         }
+    }
+
+    /// Returns true if an entry is no directory and not in the share.
+    fn is_in_other_share(&self, path: &[u8], is_directory: bool) -> bool {
+        !is_directory && self.shard.count > 1 && !self.shard.has(path)
     }
 
     /// Returns true if the entry with this path below the root is one of them. The root is none.
@@ -82,7 +93,9 @@ impl<'a> Untouched<'a> {
         if path.is_empty() {
             return false;
         }
-        if self.filter.leaves_out(path, is_directory) {
+        if self.is_in_other_share(path, is_directory)
+            || self.filter.leaves_out(path, is_directory)
+        {
             return true;
         }
         let Some(source) = self.source else {
@@ -113,15 +126,6 @@ pub(crate) struct Reading {
     pub(crate) whole: bool,
     /// True if an entry of the source was passed over, besides those that the filter leaves out.
     pub(crate) skips: bool,
-}
-
-/// The source: what the walk found, the root first, and the same as a listing.
-#[derive(Drop)]
-pub(crate) struct SourceTree {
-    pub(crate) found: Vec<Found>,
-    /// The number of bytes of each path before the path below the root.
-    pub(crate) root_len: usize,
-    pub(crate) listing: Listing,
 }
 
 /// Returns the path of an entry below the root of its walk, where the root's path has this many bytes in it.
@@ -170,6 +174,8 @@ fn plain_entry(
         path: ByteText::new(copied(alloc, path)?),
         kind,
         excluded,
+        depth: found.depth,
+        attrs: found.attrs,
     })
 }
 
@@ -292,15 +298,16 @@ impl<'a, L: Link> Courier<'a, L> {
         &mut self,
         walk: Walk,
         filter: &mut Filter,
+        shard: Shard,
         reading: &mut Reading,
-    ) -> Result<SourceTree, TransferError>
+    ) -> Result<Listing, TransferError>
         requires { IsGoing L.LinkState.state self.old.sftp }
         ensures { IsGoing L.LinkState.state self.new.sftp }
     {
         let alloc = self.rt.alloc();
         let side = Side::source_of(self.manner.way);
         let root_len = path_in(alloc, walk.folder().source.as_slice(), b"")?.len();
-        let mut untouched = Untouched::by(filter);
+        let mut untouched = Untouched::by(filter, shard);
         let found = self.walk_tree(side, walk, &mut untouched, &mut reading.whole)?;
         let mut entries = Vec::new(alloc);
         for one in found.iter().skip(1) {
@@ -310,12 +317,7 @@ impl<'a, L: Link> Courier<'a, L> {
                 push_entry(&mut entries, entry)?;
             }
         }
-        let listing = listing_of(alloc, entries, reading.whole)?;
-        Ok(SourceTree {
-            found,
-            root_len,
-            listing,
-        })
+        listing_of(alloc, entries, reading.whole)
     }
 
     /// Returns the entry for what the walk of the target found. The target of a symbolic link is read if the source has
@@ -357,6 +359,7 @@ impl<'a, L: Link> Courier<'a, L> {
         &mut self,
         walk: Walk,
         filter: &mut Filter,
+        shard: Shard,
         source: &Listing,
         reading: &mut Reading,
     ) -> Result<Listing, TransferError>
@@ -366,7 +369,8 @@ impl<'a, L: Link> Courier<'a, L> {
         let alloc = self.rt.alloc();
         let side = Side::target_of(self.manner.way);
         let root_len = path_in(alloc, walk.folder().source.as_slice(), b"")?.len();
-        let mut untouched = Untouched::in_target(filter, source, self.manner.options.resume);
+        let parts = self.manner.options.resume;
+        let mut untouched = Untouched::in_target(filter, shard, source, parts);
         let found = self.walk_tree(side, walk, &mut untouched, &mut reading.whole)?;
         let mut entries = Vec::new(alloc);
         for one in found.iter().skip(1) {

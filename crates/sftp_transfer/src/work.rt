@@ -12,13 +12,14 @@ use crate::listing::list;
 use crate::local_side::{folder_of, is_folder, make_local_folder};
 use crate::mirror::mirror_trees;
 use crate::run_number::RunNumber;
+use crate::slowed::Slowed;
 use crate::transfer_error::{TransferError, is_starved, tell, tell_of};
 use crate::verdicts::Verdicts;
 use sftp_client::Sftp;
 use sftp_link::Link;
 use sftp_model::{Error, SftpOptions};
 use std::fs;
-use transfer_args::{Direction, Mirror, Transfer, Work};
+use transfer_args::{Direction, Mirror, Options, Transfer, Work};
 use transfer_plan::{Found, carry_out, keep_apart};
 use transfer_remote::{make_remote_folder, remote_metadata};
 
@@ -133,16 +134,21 @@ fn copy_over<L: Connection + Drop>(
 }
 
 /// Makes one tree like another over a session, and returns the result. Files are given the times of their sources, by
-/// which the next run knows that they did not change.
+/// which the next run knows that they did not change. If a lost connection is to be made again, parts stay, and are
+/// continued.
 fn mirror_over<L: Connection + Drop>(rt: &HostRuntime, sftp: Sftp<L>, mirror: &Mirror<'_>) -> Reach
     requires { IsGoing L.LinkState.state sftp }
 {
     let Some(run) = run_number(rt) else {
         return Reach::NotDone;
     };
+    let resume = mirror.options.resume || mirror.rules.again > 0;
     let manner = Manner {
         way: mirror.way,
-        options: mirror.options,
+        options: Options {
+            resume,
+            ..mirror.options
+        },
         kept: if mirror.options.preserve {
             Kept::All
         } else {
@@ -192,6 +198,7 @@ pub(crate) fn over<L: Connection + Drop>(
     requires { (L.LinkState.state link).faults < 2 ^ 64 - 1 }
 {
     let seconds = work.timeout();
+    let link = Slowed::new(rt, link, work.rate());
     match Sftp::new(rt.alloc(), link, &SftpOptions::new()) {
         Ok(sftp) => match work {
             Work::Copy(transfer) => copy_over(rt, sftp, transfer),

@@ -7,6 +7,7 @@ use Rattle.std.specs.Prelude.{
   ◌==◌,
   ◌&&◌,
   ℕ,
+  Bool,
   List,
   [],
   ◌∷◌,
@@ -18,6 +19,8 @@ use Rattle.std.specs.Prelude.{
   None,
   if◌then◌else◌,
 }
+use Rattle.std.specs.List.{after_first, before_first, position_or_len}
+use Rattle.transfer_filter.specs.declared.shard.Shard.{Shard}
 
 -- The number that continues `number` with these digits of a base, if it is at most `most`.
 abbrev pub digits_in : ℕ → ℕ → ℕ → List ℕ → Option ℕ
@@ -68,3 +71,21 @@ size_behind most number (b ∷ bytes) =
 abbrev pub size_in : ℕ → ℕ → List ℕ → Option ℕ
 size_in least most [] = None
 size_in least most (b ∷ bytes) = from_least least (size_behind most 0 (b ∷ bytes))
+
+-- True for a slash.
+abbrev pub is_slash : ℕ → Bool
+is_slash b = b == 47
+
+-- The share of these numbers, if the first is at most the second.
+abbrev pub shard_at : Option ℕ → Option ℕ → Option Shard
+shard_at None count = None
+shard_at (Some index) None = None
+shard_at (Some index) (Some count) =
+    if nat_le index count then Some (record { index = index; count = count }) else None
+
+-- A share of files, as in `2/8`: its number, a slash, and the number of shares, which is at most 65536.
+abbrev pub shard_in : List ℕ → Option Shard
+shard_in word =
+    if nat_lt (position_or_len is_slash word) (length word) then
+    shard_at (number_in 1 65536 (before_first is_slash word)) (number_in 1 65536 (after_first is_slash word))
+    else None

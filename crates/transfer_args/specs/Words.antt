@@ -1,9 +1,9 @@
--- believed, except link_seen, pattern_seen, choices_seen, operands_seen, read_seen, act_seen, work_seen, asked_seen,
---   Reads
+-- believed, except pattern_seen, choices_seen, operands_seen, read_seen, act_seen, work_seen, asked_seen, Reads
 -- The meaning of a transfer's command line.
 use Rattle.std.specs.Prelude.{
   ◌≡◌,
   ◌==◌,
+  ◌&&◌,
   ◌||◌,
   ℕ,
   Bool,
@@ -44,14 +44,13 @@ use Rattle.transfer_args.specs.Acts.{
   act_verb_of,
   is_filled,
 }
-use Rattle.transfer_args.specs.Numbers.{number_in, size_in}
+use Rattle.transfer_args.specs.Links.{LinkWord, AtStdio, link_at, link_seen}
+use Rattle.transfer_args.specs.Numbers.{number_in, shard_in, size_in}
 use Rattle.transfer_args.specs.declared.args_error.ArgsError.{ArgsError}
 use Rattle.transfer_args.specs.declared.args_error.ArgsError.TheVariants as args_error
 use Rattle.transfer_args.specs.declared.asked.Act.{Act}
 use Rattle.transfer_args.specs.declared.asked.Act.TheVariants as act
 use Rattle.transfer_args.specs.declared.asked.Asked.{Asked}
-use Rattle.transfer_args.specs.declared.asked.LinkAt.{LinkAt}
-use Rattle.transfer_args.specs.declared.asked.LinkAt.TheVariants as link
 use Rattle.transfer_args.specs.declared.asked.Direction.{Direction}
 use Rattle.transfer_args.specs.declared.asked.Direction.TheVariants.{Get, Put}
 use Rattle.transfer_args.specs.declared.asked.Pattern.{Pattern}
@@ -94,6 +93,7 @@ plain_options = record {
   window = 64;
   files = 32;
   limit = 16777216;
+  rate = 0;
   timeout = 60;
 }
 
@@ -104,6 +104,8 @@ plain_rules = record {
   delete = false;
   delete_at_most = 100;
   dry_run = false;
+  shard = record { index = 1; count = 1 };
+  again = 0;
 }
 
 abbrev pub plain_settings : Settings
@@ -198,6 +200,7 @@ copying_valued_by word =
     else if bytes_eq word (codes "--in-flight") || bytes_eq word (codes "--limit") then
     Some (valued.Setting setting.Limit)
     else if bytes_eq word (codes "--links") then Some (valued.Setting setting.Links)
+    else if bytes_eq word (codes "--rate") then Some (valued.Setting setting.Rate)
     else None
 
 -- The option of `push` and `pull` that a value follows, if the word is one.
@@ -207,6 +210,8 @@ mirror_valued_by word =
     else if bytes_eq word (codes "--include") then Some (valued.Pattern pattern_option.Include)
     else if bytes_eq word (codes "--exclude-from") then Some (valued.Pattern pattern_option.ExcludeFrom)
     else if bytes_eq word (codes "--delete-at-most") then Some (valued.Setting setting.DeleteAtMost)
+    else if bytes_eq word (codes "--shard") then Some (valued.Setting setting.Shard)
+    else if bytes_eq word (codes "--again") then Some (valued.Setting setting.Again)
     else copying_valued_by word
 
 -- The option that a value follows, if the word is one. A listing and an operation have only the time limit.
@@ -221,8 +226,9 @@ valued_by (verb.Act act) word =
     if bytes_eq word (codes "--timeout") then Some (valued.Setting setting.Timeout) else None
 
 -- The settings with the value that a word writes: links as they are, a window of at most 1024, at most 256 files at
--- once, at most 1073741824 bytes in flight, a time limit of at most 86400 seconds, where 0 is none, or at most 1000000
--- entries that may be removed.
+-- once, at most 1073741824 bytes in flight, a time limit of at most 86400 seconds, where 0 is none, at most 1000000
+-- entries that may be removed, at most 1073741824 bytes a second, where 0 is no limit, a share of the files, or at most
+-- 1000 further tries.
 abbrev pub with_setting : Settings → Setting → List ℕ → Option Settings
 with_setting s setting.Links word =
     if bytes_eq word (codes "as-is") then Some (record s { options = record s.options { links_as_is = true } }) else
@@ -237,6 +243,12 @@ with_setting s setting.Timeout word =
     option_map (λ n. record s { options = record s.options { timeout = n } }) (number_in 0 86400 word)
 with_setting s setting.DeleteAtMost word =
     option_map (λ n. record s { rules = record s.rules { delete_at_most = n } }) (number_in 0 1000000 word)
+with_setting s setting.Rate word =
+    option_map (λ n. record s { options = record s.options { rate = n } }) (size_in 0 1073741824 word)
+with_setting s setting.Shard word =
+    option_map (λ shard. record s { rules = record s.rules { shard = shard } }) (shard_in word)
+with_setting s setting.Again word =
+    option_map (λ n. record s { rules = record s.rules { again = n } }) (number_in 0 1000 word)
 
 -- A pattern of entries that are left out or taken, or the file of such patterns.
 pub data PatternWord : Type 0 where
@@ -264,49 +276,6 @@ with_value c (valued.Setting setting) word = option_map (λ s. record c { settin
     (with_setting c.settings setting word)
 with_value c (valued.Pattern option) word =
     option_map (λ p. record c { patterns = c.patterns ++ p ∷ [] }) (pattern_of option word)
-
--- ---- The address of the server
-
--- The control socket of an ssh connection, the address at which the server listens, the files that carry replies and
--- requests, or standard input and output.
-pub data LinkWord : Type 0 where
-  AtSsh : List ℕ → LinkWord
-  AtUnix : List ℕ → LinkWord
-  AtTcp : List ℕ → LinkWord
-  AtFiles : List ℕ → List ℕ → LinkWord
-  AtStdio : LinkWord
-
--- True for a colon.
-abbrev pub is_colon : ℕ → Bool
-is_colon b = b == 58
-
--- The names of two files, with the first colon between them.
-abbrev pub files_at : List ℕ → Option LinkWord
-files_at word =
-    if nat_lt (position_or_len is_colon word) (length word) then
-    Some (AtFiles (before_first is_colon word) (after_first is_colon word))
-    else None
-
--- The address of a socket.
-abbrev pub socket_at : List ℕ → Option LinkWord
-socket_at word =
-    if starts_with ◌==◌ word (codes "ssh:") then Some (AtSsh (drop 4 word))
-    else if starts_with ◌==◌ word (codes "unix:") then Some (AtUnix (drop 5 word))
-    else if starts_with ◌==◌ word (codes "tcp:") then Some (AtTcp (drop 4 word))
-    else None
-
-abbrev pub link_at : List ℕ → Option LinkWord
-link_at word =
-    if bytes_eq word (codes "stdio") then Some AtStdio
-    else if starts_with ◌==◌ word (codes "files:") then files_at (drop 6 word)
-    else socket_at word
-
-abbrev pub link_seen : LinkAt → LinkWord
-link_seen (link.Ssh path) = AtSsh path.now
-link_seen (link.Unix path) = AtUnix path.now
-link_seen (link.Tcp address) = AtTcp address.now
-link_seen (link.Files replies requests) = AtFiles replies.now requests.now
-link_seen link.Stdio = AtStdio
 
 -- ---- Options and operands
 
@@ -386,11 +355,21 @@ abbrev pub list_by : List (List ℕ) → Option WorkWords
 list_by words = option_and_then (λ r. list_at r.0.settings.options r.1)
     (options_by verb.List plain_choices None [] words)
 
+-- True if entries are to be removed by a run that copies a share of the files alone.
+abbrev pub removes_by_shares : MirrorRules → Bool
+removes_by_shares rules = rules.delete && nat_lt 1 rules.shard.count
+
+-- A tree that is made like another one. A run that copies a share of the files removes nothing.
+abbrev pub mirror_of : Direction → ChoiceWords → List ℕ → List ℕ → Option WorkWords
+mirror_of way c from to =
+    if removes_by_shares c.settings.rules then None
+    else Some (Mirrors way c.settings.options c.settings.rules c.patterns from to)
+
 -- Two directories: the one that is read, and the one that is changed.
 abbrev pub mirror_at : Direction → ChoiceWords → List (List ℕ) → Option WorkWords
 mirror_at way c [] = None
 mirror_at way c (from ∷ []) = None
-mirror_at way c (from ∷ to ∷ []) = Some (Mirrors way c.settings.options c.settings.rules c.patterns from to)
+mirror_at way c (from ∷ to ∷ []) = mirror_of way c from to
 mirror_at way c (from ∷ to ∷ another ∷ words) = None
 
 abbrev pub mirror_by : Direction → List (List ℕ) → Option WorkWords
@@ -420,6 +399,13 @@ writes_names (Copies way o sources target) = false
 writes_names (Lists o path) = true
 writes_names (Mirrors way o rules patterns from to) = rules.dry_run
 writes_names (Acts act o) = false
+
+-- How often a lost connection is made again.
+abbrev pub tries_again : WorkWords → ℕ
+tries_again (Copies way o sources target) = 0
+tries_again (Lists o path) = 0
+tries_again (Mirrors way o rules patterns from to) = rules.again
+tries_again (Acts act o) = 0
 
 -- False only if names are to be written and standard output is the connection.
 abbrev pub can_do : LinkWord → WorkWords → Bool

@@ -1,4 +1,7 @@
 //! The request that a command line makes.
+ghost use Rattle.std.specs.Prelude.{◌≡◌};
+ghost use Rattle.transfer_args.specs.Words.{tries_again, work_seen};
+
 use crate::options::{MirrorRules, Options};
 
 /// The direction in which files are copied.
@@ -163,6 +166,25 @@ impl<'a> Work<'a> {
             Work::List(listing) => listing.options.timeout,
             Work::Mirror(mirror) => mirror.options.timeout,
             Work::Act(job) => job.options.timeout,
+        }
+    }
+
+    /// Returns how often a lost connection is made again.
+    pub fn tries_again(&self) -> u32
+        ensures { result ≡ tries_again (work_seen self.now) }
+    {
+        match self {
+            Work::Mirror(mirror) => mirror.rules.again,
+            Work::Copy(_) | Work::List(_) | Work::Act(_) => 0,
+        }
+    }
+
+    /// Returns the most bytes that pass over the connection in a second; 0 if there is no limit.
+    pub fn rate(&self) -> u32 {
+        match self {
+            Work::Copy(transfer) => transfer.options.rate,
+            Work::Mirror(mirror) => mirror.options.rate,
+            Work::List(_) | Work::Act(_) => 0,
         }
     }
 }

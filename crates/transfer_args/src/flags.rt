@@ -3,6 +3,7 @@ ghost use Rattle.std.specs.Prelude.{◌≡◌};
 ghost use Rattle.transfer_args.specs.Words.{copying_flag_of_word, flag_of_letter, flag_of_word, mirror_flag_of_word, plain_settings, with_flag, with_flags, with_letters};
 
 use crate::options::{ActVerb, Changed, Flag, MirrorRules, Options, Settings, Verb};
+use transfer_filter::Shard;
 
 /// Returns the settings of a command line without options.
 pub(crate) fn plain_settings() -> Settings
@@ -21,6 +22,7 @@ pub(crate) fn plain_settings() -> Settings
         window: 64,
         files: 32,
         limit: 16777216,
+        rate: 0,
         timeout: 60,
     };
     let rules = MirrorRules {
@@ -29,6 +31,8 @@ pub(crate) fn plain_settings() -> Settings
         delete: false,
         delete_at_most: 100,
         dry_run: false,
+        shard: Shard { index: 1, count: 1 },
+        again: 0,
     };
     Settings {
         options,

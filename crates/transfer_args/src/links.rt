@@ -1,7 +1,7 @@
 //! The address of the server.
 ghost use Rattle.std.specs.Prelude.{◌≡◌};
 ghost use Rattle.std.specs.Option.{option_map};
-ghost use Rattle.transfer_args.specs.Words.{files_at, link_at, link_seen, socket_at};
+ghost use Rattle.transfer_args.specs.Links.{files_at, link_at, link_seen, socket_at};
 
 use crate::asked::LinkAt;
 

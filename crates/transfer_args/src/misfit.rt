@@ -2,9 +2,9 @@
 use crate::acts::{act_verb_of, are_filled};
 use crate::flags::{plain_settings, with_flags};
 use crate::links::link_at;
-use crate::numbers::mode_in;
+use crate::numbers::{MAX_SHARES, mode_in};
 use crate::options::{ActVerb, Setting, Valued, Verb};
-use crate::parser::options_by;
+use crate::parser::{options_by, removes_by_shares};
 use crate::values::{pattern_of, valued_by, with_setting};
 use std::alloc::Global;
 use std::fmt;
@@ -42,6 +42,10 @@ pub enum Misfit<'a> {
     BadNumber(&'a str, (u32, u32), &'a str),
     /// What follows this option is not `as-is`.
     BadLinks(&'a str),
+    /// What follows `--shard` is no share of files.
+    BadShard(&'a str),
+    /// `--delete` is given with `--shard`.
+    SharedDelete,
     /// What follows this option is not a pattern that is understood.
     BadPattern(&'a str, &'a str),
     /// Fewer operands than these follow this verb, besides its options.
@@ -81,6 +85,9 @@ fn bad_value<'a>(option: &'a str, valued: Valued, word: &'a str) -> Misfit<'a> {
         Setting::Limit => (1, 1073741824),
         Setting::Timeout => (0, 86400),
         Setting::DeleteAtMost => (0, 1000000),
+        Setting::Rate => (0, 1073741824),
+        Setting::Again => (0, 1000),
+        Setting::Shard => return Misfit::BadShard(word),
     };
     Misfit::BadNumber(option, range, word)
 }
@@ -156,6 +163,7 @@ fn mirror_misfit<'a>(
     match operands.as_slice() {
         [] | [_] => Some(Misfit::FewOperands(verb, TWO_FILES)),
         [_, _, word, ..] => Some(Misfit::AfterTarget(verb, *word)),
+        _ if removes_by_shares(choices.settings.rules) => Some(Misfit::SharedDelete),
         _ if choices.settings.rules.dry_run && link == "stdio" => Some(Misfit::WritesStdio(
             "a dry run",
         )),
@@ -266,6 +274,14 @@ impl fmt::Display for Misfit<'_> {
                 range.0, range.1
             ),
             Misfit::BadLinks(word) => { write!(f, "the value of '--links' is as-is, not '{word}'") }
+            Misfit::BadShard(word) => write!(
+                f,
+                "the value of '--shard' is I/N, from 1/1 to {MAX_SHARES}/{MAX_SHARES}, not '{word}'"
+            ),
+            Misfit::SharedDelete => write!(
+                f,
+                "'--delete' can't be used with '--shard', since each run copies a share of the files alone"
+            ),
             Misfit::BadPattern(option, word) => {
                 write!(
                     f,

@@ -1,6 +1,8 @@
 //! The numbers that follow options.
 ghost use Rattle.std.specs.Prelude.{◌≡◌, ◌≤◌};
-ghost use Rattle.transfer_args.specs.Numbers.{digits_in, mode_in, number_in, product_at_most, size_behind, size_in, unit_of};
+ghost use Rattle.transfer_args.specs.Numbers.{digits_in, mode_in, number_in, product_at_most, shard_in, size_behind, size_in, unit_of};
+
+use transfer_filter::Shard;
 
 /// Returns the number that digits of this base write, or `None` if it is more than `most`.
 fn number(base: u8, most: u32, digits: &[u8]) -> Option<u32>
@@ -104,4 +106,20 @@ pub(crate) fn size_in(least: u32, most: u32, word: &[u8]) -> Option<u32>
         Some(size) if size >= least => Some(size),
         _ => None,
     }
+}
+
+/// The most shares of the files of a tree.
+pub(crate) const MAX_SHARES: u32 = 65536;
+
+/// Returns the share of files that a word writes: its number, a slash, and the number of shares.
+pub(crate) fn shard_in(word: &str) -> Option<Shard>
+    ensures { result ≡ shard_in word.now }
+{
+    let (index, count) = word.split_once('/')?;
+    let index = number_in(1, MAX_SHARES, index.as_bytes())?;
+    let count = number_in(1, MAX_SHARES, count.as_bytes())?;
+    if index > count {
+        return None;
+    }
+    Some(Shard { index, count })
 }

@@ -1,4 +1,5 @@
 //! The options of a command line.
+use transfer_filter::Shard;
 
 /// The options of a transfer, a listing or an act.
 ///
@@ -29,6 +30,9 @@ pub struct Options {
     pub files: u32,
     /// `--in-flight BYTES`, also `--limit BYTES`: the bytes in flight for all files together, from 1 to 1073741824.
     pub limit: u32,
+    /// `--rate BYTES`: the most bytes that pass over the connection in a second, up to 1073741824; 0 if there is no
+    /// limit.
+    pub rate: u32,
     /// `--timeout SECONDS`: the seconds after which a silent server is given up, up to 86400; 0 if it never is.
     pub timeout: u32,
 }
@@ -61,6 +65,10 @@ pub struct MirrorRules {
     pub delete_at_most: u32,
     /// `-n` or `--dry-run`: reports the changes, and makes none.
     pub dry_run: bool,
+    /// `--shard I/N`: the share of the files that is copied.
+    pub shard: Shard,
+    /// `--again N`: how often a lost connection is made again, from 0 to 1000.
+    pub again: u32,
 }
 
 /// The options and rules of a command line.
@@ -142,7 +150,7 @@ pub(crate) enum Valued {
     Pattern(PatternOption),
 }
 
-/// An option of which the last value counts: a number, except for `--links`.
+/// An option of which the last value counts: a number, except for `--links` and `--shard`.
 #[derive(Clone, Copy, Debug, PartialEq, Eq)]
 pub(crate) enum Setting {
     /// `--links`.
@@ -157,6 +165,12 @@ pub(crate) enum Setting {
     Timeout,
     /// `--delete-at-most`.
     DeleteAtMost,
+    /// `--rate`.
+    Rate,
+    /// `--shard`.
+    Shard,
+    /// `--again`.
+    Again,
 }
 
 /// An option whose values choose entries of a tree.

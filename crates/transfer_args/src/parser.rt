@@ -1,13 +1,14 @@
 //! The parser of a transfer's command line.
 ghost use Rattle.std.specs.Prelude.{◌≡◌, ◌++◌, [], None, Some, map};
 ghost use Rattle.std.specs.String.{string_bytes};
-ghost use Rattle.transfer_args.specs.Words.{Reads, act_by, asked_at, asked_by, asked_seen, choices_seen, copy_by, copy_of, link_seen, list_at, list_by, mirror_at, mirror_by, operands_seen, options_by, plain_choices, read_seen, work_by, work_seen, writes_names};
+ghost use Rattle.transfer_args.specs.Links.{link_seen};
+ghost use Rattle.transfer_args.specs.Words.{Reads, act_by, asked_at, asked_by, asked_seen, choices_seen, copy_by, copy_of, list_at, list_by, mirror_at, mirror_by, mirror_of, operands_seen, options_by, plain_choices, read_seen, removes_by_shares, work_by, work_seen, writes_names};
 
 use crate::acts::{act_at, act_verb_of};
 use crate::args_error::ArgsError;
 use crate::asked::{Asked, Direction, LinkAt, Listing, Mirror, Transfer, Work};
 use crate::links::link_at;
-use crate::options::{ActVerb, Options, Verb};
+use crate::options::{ActVerb, MirrorRules, Options, Verb};
 use crate::values::{Choices, plain_choices, valued_by, with_option, with_value};
 use std::alloc::Global;
 
@@ -131,11 +132,46 @@ fn list_by(alloc: Global, words: &[String]) -> Result<Work<'_>, ArgsError>
     list_at(choices.settings.options, operands.as_slice())
 }
 
+/// Returns true if entries are to be removed by a run that copies a share of the files alone.
+pub(crate) fn removes_by_shares(rules: MirrorRules) -> bool
+    ensures { result ≡ removes_by_shares rules }
+{
+    rules.delete && rules.shard.count > 1
+}
+
+/// Returns the mirroring of a directory by another one.
+///
+/// # Errors
+///
+/// `Refused` if a run that copies a share of the files is to remove entries.
+fn mirror_of<'a>(
+    way: Direction,
+    choices: Choices<'a>,
+    from: &'a str,
+    to: &'a str,
+) -> Result<Work<'a>, ArgsError>
+    ensures { Reads work_seen result (mirror_of way (choices_seen choices.entry) from.now to.now) }
+{
+    let Choices { settings, patterns } = choices;
+    if removes_by_shares(settings.rules) {
+        return Err(ArgsError::Refused);
+    }
+    Ok(Work::Mirror(Mirror {
+        way,
+        options: settings.options,
+        rules: settings.rules,
+        patterns,
+        from,
+        to,
+    }))
+}
+
 /// Returns the mirroring of the first operand by the second one.
 ///
 /// # Errors
 ///
-/// `Refused` if there are fewer or more than two operands.
+/// `Refused` if there are fewer or more than two operands, or a run that copies a share of the files is to remove
+/// entries.
 fn mirror_at<'a>(
     way: Direction,
     choices: Choices<'a>,
@@ -143,16 +179,8 @@ fn mirror_at<'a>(
 ) -> Result<Work<'a>, ArgsError>
     ensures { Reads work_seen result (mirror_at way (choices_seen choices.entry) (map (λ w. w.now) operands.now)) }
 {
-    let Choices { settings, patterns } = choices;
     match operands {
-        [from, to] => Ok(Work::Mirror(Mirror {
-            way,
-            options: settings.options,
-            rules: settings.rules,
-            patterns,
-            from,
-            to,
-        })),
+        [from, to] => mirror_of(way, choices, from, to),
         _ => Err(ArgsError::Refused),
     }
 }

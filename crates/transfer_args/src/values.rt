@@ -6,7 +6,7 @@ ghost use Rattle.transfer_args.specs.Words.{Reads, choices_seen, copying_valued_
 use crate::args_error::ArgsError;
 use crate::asked::Pattern;
 use crate::flags::{plain_settings, with_flags};
-use crate::numbers::{number_in, size_in};
+use crate::numbers::{number_in, shard_in, size_in};
 use crate::options::{PatternOption, Setting, Settings, Valued, Verb};
 use std::alloc::Global;
 use transfer_filter::is_pattern;
@@ -42,6 +42,8 @@ fn copying_valued_by(word: &str) -> Option<Valued>
         Some(Valued::Setting(Setting::Limit))
     } else if word == "--links" {
         Some(Valued::Setting(Setting::Links))
+    } else if word == "--rate" {
+        Some(Valued::Setting(Setting::Rate))
     } else {
         None
     }
@@ -59,6 +61,10 @@ fn mirror_valued_by(word: &str) -> Option<Valued>
         Some(Valued::Pattern(PatternOption::ExcludeFrom))
     } else if word == "--delete-at-most" {
         Some(Valued::Setting(Setting::DeleteAtMost))
+    } else if word == "--shard" {
+        Some(Valued::Setting(Setting::Shard))
+    } else if word == "--again" {
+        Some(Valued::Setting(Setting::Again))
     } else {
         copying_valued_by(word)
     }
@@ -96,6 +102,9 @@ pub(crate) fn with_setting(settings: Settings, setting: Setting, word: &str) -> 
         Setting::Limit => settings.options.limit = size_in(1, 1073741824, bytes)?,
         Setting::Timeout => settings.options.timeout = number_in(0, 86400, bytes)?,
         Setting::DeleteAtMost => settings.rules.delete_at_most = number_in(0, 1000000, bytes)?,
+        Setting::Rate => settings.options.rate = size_in(0, 1073741824, bytes)?,
+        Setting::Shard => settings.rules.shard = shard_in(word)?,
+        Setting::Again => settings.rules.again = number_in(0, 1000, bytes)?,
     }
     Some(settings)
 }

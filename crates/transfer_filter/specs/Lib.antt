@@ -3,4 +3,5 @@ pub mod Matches
 pub mod Filters
 pub mod Rows
 pub mod Rules
+pub mod Shards
 pub mod FilterRows
